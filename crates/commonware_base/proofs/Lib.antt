@@ -1,0 +1,3 @@
+pub mod ListSteps
+pub mod ReadSteps
+pub mod SourceLemmas

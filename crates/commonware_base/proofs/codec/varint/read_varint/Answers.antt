@@ -1,0 +1,13 @@
+use Rattle.std.proofs.Common.{arith, ◌≡◌, ◌≤◌, take, length, sym, ◌∙◌, ap}
+use Rattle.commonware_base.specs.Source.{rest_of}
+use Rattle.commonware_base.specs.Varint.{varint}
+use Rattle.commonware_base.proofs.SourceLemmas.{consumes_front}
+use Rattle.commonware_base.specs.VarintLaws.{varint_only}
+use Rattle.commonware_base.proofs.codec.varint.read_varint.Goals as goal
+
+pub returns-in-Ok-clause-consumed : goal.returns-in-Ok-clause-consumed
+returns-in-Ok-clause-consumed c =
+    let r : c.rest-rest.result.now ≡ rest_of c.args.src.now = c.rest-rest.ensures in
+    let within : c.in-Ok.count ≤ length (rest_of c.args.src.now) = rw r at c.in-Ok.ensures.within in
+    let text : take c.in-Ok.count c.rest-rest.result.now ≡ varint c.groups_value-number.result = varint_only _ _ c.in-Ok.ensures.found ∙ ap varint (sym c.groups_value-number.ensures) in
+    consumes_front c.args.src.now c.advance.new.self c.in-Ok.count (varint c.groups_value-number.result) c.advance.ensures.bytes c.advance.ensures.position within (ap (take c.in-Ok.count) (sym r) ∙ text)

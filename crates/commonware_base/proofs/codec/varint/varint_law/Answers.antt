@@ -1,0 +1,8 @@
+use Rattle.commonware_base.specs.VarintLaws.{varint_is, varint_only}
+use Rattle.commonware_base.proofs.codec.varint.varint_law.Goals as goal
+
+pub returns-clause-spelled : goal.returns-clause-spelled
+returns-clause-spelled c = varint_is
+
+pub returns-clause-only : goal.returns-clause-only
+returns-clause-only c = varint_only

@@ -1,0 +1,15 @@
+pub mod Bytes
+pub mod Fault
+pub mod ListLaws
+pub mod Lists
+pub mod MadeVec
+pub mod Numbers
+pub mod Range
+pub mod RangeLaws
+pub mod Refusal
+pub mod Source
+pub mod Text
+pub mod TextLaws
+pub mod Varint
+pub mod VarintLaws
+pub mod Words

@@ -1,0 +1,50 @@
+-- A list: its length, and then each item.
+use Rattle.std.specs.Prelude.{◌≡◌, ℕ, ◌<◌, ◌^◌, List, ◌++◌, length}
+use Rattle.std.specs.List.{AllByRecursion, flat_map}
+use Rattle.commonware_base.specs.Fault.{Fault, InvalidLength}
+use Rattle.commonware_base.specs.Range.{Bounds, Within}
+use Rattle.commonware_base.specs.Varint.{varint, varint_fault}
+
+abbrev pub list_enc : {T : Type 0} → (T → List ℕ) → List T → List ℕ
+list_enc enc items = varint (length items) ++ flat_map enc items
+
+pub record IsWritableList {T : Type 0} (Writable : T → Type 0) (items : List T) : Type 0 where
+  pub short : length items < 2 ^ 32
+  pub each : AllByRecursion Writable items
+
+pub record IsAllowedList {T : Type 0} (range : Bounds ℕ) (Allowed : T → Type 0) (items : List T) : Type 0 where
+  pub in_range : Within range (length items)
+  pub each : AllByRecursion Allowed items
+
+-- The text begins with a length that is out of the range.
+pub record HasLengthOutside (range : Bounds ℕ) (text : List ℕ) (count : ℕ) : Type 0 where
+  pub rest : List ℕ
+  pub short : count < 2 ^ 32
+  pub begins : text ≡ varint count ++ rest
+  pub outside : ¬ Within range count
+
+-- The text begins with a length, then come fewer items than that, and then a fault of an item.
+pub record HasFaultyItem {T : Type 0} (enc : T → List ℕ) (Writable Allowed : T → Type 0) (item_fault : List ℕ → Fault → Type 0) (range : Bounds ℕ) (text : List ℕ) (fault : Fault) : Type 0 where
+  pub count : ℕ
+  pub items : List T
+  pub rest : List ℕ
+  pub short : count < 2 ^ 32
+  pub in_range : Within range count
+  pub begins : text ≡ varint count ++ (flat_map enc items ++ rest)
+  pub fewer : length items < count
+  pub writable : AllByRecursion Writable items
+  pub allowed : AllByRecursion Allowed items
+  pub faulty : item_fault rest fault
+
+-- What is wrong with a text that should begin with a list: its length's spelling, its length, or an item.
+pub data ListFault {T : Type 0} (enc : T → List ℕ) (Writable Allowed : T → Type 0) (item_fault : List ℕ → Fault → Type 0) (range : Bounds ℕ) (text : List ℕ) (fault : Fault) : Type 0 where
+  bad_spelling : varint_fault text fault → ListFault enc Writable Allowed item_fault range text fault
+  bad_length : (count : ℕ) → fault ≡ InvalidLength count → HasLengthOutside range text count → ListFault enc Writable Allowed item_fault range text fault
+  bad_item : HasFaultyItem enc Writable Allowed item_fault range text fault → ListFault enc Writable Allowed item_fault range text fault
+
+-- A list is read or refused with no memory where its length is wrong or 0, or where its first item is refused so.
+pub data IsListMemoryFree (item_fault : List ℕ → Fault → Type 0) (ItemMemoryFree : List ℕ → Type 0) (range : Bounds ℕ) (text : List ℕ) : Type 0 where
+  spelling : (fault : Fault) → varint_fault text fault → IsListMemoryFree item_fault ItemMemoryFree range text
+  outside : (count : ℕ) → HasLengthOutside range text count → IsListMemoryFree item_fault ItemMemoryFree range text
+  empty : (rest : List ℕ) → text ≡ varint 0 ++ rest → IsListMemoryFree item_fault ItemMemoryFree range text
+  first : (count : ℕ) (rest : List ℕ) (fault : Fault) → count < 2 ^ 32 → text ≡ varint count ++ rest → ItemMemoryFree rest → item_fault rest fault → IsListMemoryFree item_fault ItemMemoryFree range text

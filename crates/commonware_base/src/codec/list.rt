@@ -1,0 +1,136 @@
+//! Lists of items that have a byte form: the length, and then each item.
+ghost use Rattle.std.specs.Prelude.{◌≡◌, ℕ, ◌+◌, ◌<◌, ◌^◌, ◌++◌, List, length, OnOk, OnErr, IfOk, IfErr};
+ghost use Rattle.std.specs.List.{AllByRecursion, flat_map};
+ghost use Rattle.std.specs.Cmp.Lexicographic.{pointwise};
+ghost use Rattle.commonware_base.specs.Refusal.{Refuses};
+ghost use Rattle.commonware_base.specs.Lists.{list_enc, IsWritableList, IsAllowedList, ListFault, IsListMemoryFree};
+ghost use Rattle.commonware_base.specs.ListLaws.{list_prefix_free, list_laws, list_canonical, list_bytes};
+ghost use Rattle.commonware_base.specs.MadeVec.{vec_of};
+ghost use Rattle.commonware_base.specs.Source.{rest_of, Consumes};
+ghost use Rattle.commonware_base.specs.TextLaws.{prefix_free_on, laws_on, canonical_on};
+
+use crate::codec::config::RangeCfg;
+use crate::codec::error::Error;
+use crate::codec::source::Source;
+use crate::codec::traits::{Canonical, EncodeSize, Read, Write};
+use crate::codec::varint::{push_varint, read_varint, varint_size};
+use std::alloc::{AllocError, Allocator};
+
+impl<T: EncodeSize, A: Allocator> EncodeSize for Vec<T, A> {
+    ghost enc = { λ v. list_enc T.enc v.items };
+
+    ghost writable = { λ v. IsWritableList T.writable v.items };
+
+    ghost prefix_free = { prefix_free_on (λ v. v.items) (list_enc T.enc) (IsWritableList T.writable) (list_prefix_free T.enc T.writable T.prefix_free) };
+
+    ghost text_of_bytes = { λ v h. list_bytes T.enc T.writable T.text_of_bytes v.items h };
+
+    fn encode_size(&self) -> usize {
+        let mut size = varint_size(self.len() as u32);
+        for item in self {
+            size += item.encode_size();
+        }
+        size
+    }
+
+    fn is_writable(&self) -> bool {
+        if self.len() > u32::MAX as usize {
+            return false;
+        }
+        for item in self {
+            if !item.is_writable() {
+                return false;
+            }
+        }
+        true
+    }
+}
+
+/// Appends the bytes of the list. Where memory is refused, some of them may stand there.
+fn push_list<T: Write<A>, A: Allocator>(
+    sink: &mut Vec<u8, A>,
+    items: &[T],
+) -> Result<(), AllocError>
+    requires { IsWritableList T.writable items.now }
+    ensures ok { OnOk result (sink.new.items ≡ sink.old.items ++ list_enc T.enc items.now) }
+    ensures err { OnErr result ((more : List ℕ) × (sink.new.items ≡ sink.old.items ++ more)) }
+{
+    push_varint(sink, items.len() as u32)?;
+    for item in items {
+        item.write(sink)?;
+    }
+    Ok(())
+}
+
+impl<T: Write<A>, A: Allocator> Write<A> for Vec<T, A> {
+    fn write(&self, sink: &mut Vec<u8, A>) -> Result<(), AllocError> {
+        let start = sink.len();
+        match push_list(sink, self.as_slice()) {
+            Ok(()) => Ok(()),
+            Err(error) => {
+                sink.truncate(start);
+                Err(error)
+            }
+        }
+    }
+}
+
+/// Reads a list under a range for its length and a configuration for its items: what `Vec` reads.
+///
+/// It answers the first fault: the length's, then a length out of the range, then that of the first item that has
+/// one. It makes room for an item once it is read, and reserves nothing for the length that the text states. After
+/// an error the source stands where it stood.
+pub fn read_list<T: Read<A> + Drop, A: Allocator + Copy>(
+    alloc: A,
+    src: &mut Source<'_>,
+    range: RangeCfg<usize>,
+    item: &T::Cfg,
+) -> Result<Vec<T, A>, Error>
+    ensures consumed { IfOk result (λ v. Consumes src.old src.new (list_enc T.enc v.items)) }
+    ensures writable { IfOk result (λ v. IsWritableList T.writable v.items) }
+    ensures allowed { IfOk result (λ v. IsAllowedList range (T.allowed item.now) v.items) }
+    ensures refused { IfErr result (Refuses (ListFault T.enc T.writable (T.allowed item.now) (T.fault item.now) range (rest_of src.old)) (IsListMemoryFree (T.fault item.now) (T.memory_free item.now) range (rest_of src.old))) }
+    ensures stays { OnErr result (src.new ≡ src.old) }
+{
+    let mut here = *src;
+    let count = match read_varint(&mut here) {
+        Ok(count) => count as usize,
+        Err(error) => return Err(error),
+    };
+    if !range.contains(&count) {
+        return Err(Error::InvalidLength(count));
+    }
+    let mut items = Vec::new(alloc);
+    for _ in 0..count {
+        match T::read_cfg(alloc, &mut here, item) {
+            Ok(value) => {
+                if items.push(value).is_err() {
+                    return Err(Error::Memory);
+                }
+            }
+            Err(error) => return Err(error),
+        }
+    }
+    *src = here;
+    Ok(items)
+}
+
+impl<T: Read<A> + Drop, A: Allocator + Copy> Read<A> for Vec<T, A> {
+    type Cfg = (RangeCfg<usize>, T::Cfg);
+
+    ghost allowed = { λ c v. IsAllowedList c.0 (T.allowed c.1) v.items };
+
+    ghost fault = { λ c. ListFault T.enc T.writable (T.allowed c.1) (T.fault c.1) c.0 };
+
+    ghost memory_free = { λ c. IsListMemoryFree (T.fault c.1) (T.memory_free c.1) c.0 };
+
+    ghost read_laws = { λ alloc c. laws_on (λ v. v.items) (list_enc T.enc) (IsWritableList T.writable) (IsAllowedList c.0 (T.allowed c.1)) (ListFault T.enc T.writable (T.allowed c.1) (T.fault c.1) c.0) (λ items p _. vec_of alloc items p.short) (list_laws T.enc T.writable T.prefix_free (T.allowed c.1) (T.fault c.1) c.0 (T.read_laws alloc c.1)) };
+
+    fn read_cfg(alloc: A, src: &mut Source<'_>, cfg: &Self::Cfg) -> Result<Vec<T, A>, Error> {
+        read_list::<T, A>(alloc, src, cfg.0, &cfg.1)
+    }
+}
+
+impl<T: Canonical, A: Allocator> Canonical for Vec<T, A> {
+    ghost canonical = { canonical_on (λ v. v.items) (list_enc T.enc) (IsWritableList T.writable) (pointwise T.eq) (list_canonical T.enc T.writable T.prefix_free T.eq T.canonical) };
+}

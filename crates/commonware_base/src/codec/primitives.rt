@@ -1,0 +1,191 @@
+//! Bytes, words of four bytes, and numbers in a range.
+ghost use Rattle.std.specs.Prelude.{ℕ, ◌≡◌, ◌<◌, ◌≤◌, ◌^◌};
+ghost use Rattle.commonware_base.specs.Text.{IsByte};
+ghost use Rattle.commonware_base.specs.Bytes.{byte, byte_fault, byte_prefix_free, byte_laws, byte_canonical, byte_length};
+ghost use Rattle.commonware_base.specs.Varint.{varint};
+ghost use Rattle.commonware_base.specs.VarintLaws.{varint_bytes};
+ghost use Rattle.commonware_base.specs.Words.{IsWord, four_bytes, four_fault, four_prefix_free, four_laws, four_canonical, four_text, four_length};
+ghost use Rattle.commonware_base.specs.Numbers.{NumberFault, number_prefix_free, number_laws, number_canonical};
+ghost use Rattle.commonware_base.specs.Range.{Within};
+
+use crate::codec::traits::{Canonical, EncodeSize, MaxEncodeSize, Read, Write};
+use crate::codec::error::Error;
+use crate::codec::config::RangeCfg;
+use crate::codec::source::Source;
+use crate::codec::varint::{UInt, read_varint, varint_size};
+use std::alloc::{AllocError, Allocator};
+
+impl EncodeSize for u8 {
+    ghost enc = { byte };
+
+    ghost writable = { IsByte };
+
+    ghost prefix_free = { byte_prefix_free };
+
+    ghost text_of_bytes = { λ v h. (h, tt) };
+
+    fn encode_size(&self) -> usize {
+        1
+    }
+
+    fn is_writable(&self) -> bool {
+        let _value = *self;
+        true
+    }
+}
+
+impl<A: Allocator> Write<A> for u8 {
+    fn write(&self, sink: &mut Vec<u8, A>) -> Result<(), AllocError> {
+        sink.push(*self)?;
+        Ok(())
+    }
+}
+
+impl<A: Allocator> Read<A> for u8 {
+    type Cfg = ();
+
+    ghost allowed = { λ _ _. Unit {0} };
+
+    ghost fault = { λ _ s f. byte_fault s f };
+
+    ghost memory_free = { λ _ _. Unit {0} };
+
+    ghost read_laws = { λ _ _. byte_laws };
+
+    fn read_cfg(_alloc: A, src: &mut Source<'_>, _cfg: &()) -> Result<u8, Error> {
+        match src.rest() {
+            [] => Err(Error::EndOfBuffer),
+            [byte, ..] => {
+                let byte = *byte;
+                src.advance(1);
+                Ok(byte)
+            }
+        }
+    }
+}
+
+impl Canonical for u8 {
+    ghost canonical = { byte_canonical };
+}
+
+impl MaxEncodeSize for u8 {
+    ghost MAX_ENCODE_SIZE = { 1 };
+
+    const MAX_ENCODE_SIZE: usize = 1;
+
+    ghost bounded = { λ v h. byte_length v };
+}
+
+impl EncodeSize for u32 {
+    ghost enc = { four_bytes };
+
+    ghost writable = { IsWord };
+
+    ghost prefix_free = { four_prefix_free };
+
+    ghost text_of_bytes = { λ v h. four_text v };
+
+    fn encode_size(&self) -> usize {
+        4
+    }
+
+    fn is_writable(&self) -> bool {
+        let _value = *self;
+        true
+    }
+}
+
+impl<A: Allocator> Write<A> for u32 {
+    fn write(&self, sink: &mut Vec<u8, A>) -> Result<(), AllocError> {
+        sink.extend_from_slice(&self.to_be_bytes())
+    }
+}
+
+impl<A: Allocator> Read<A> for u32 {
+    type Cfg = ();
+
+    ghost allowed = { λ _ _. Unit {0} };
+
+    ghost fault = { λ _ s f. four_fault s f };
+
+    ghost memory_free = { λ _ _. Unit {0} };
+
+    ghost read_laws = { λ _ _. four_laws };
+
+    fn read_cfg(_alloc: A, src: &mut Source<'_>, _cfg: &()) -> Result<u32, Error> {
+        let rest = src.rest();
+        if rest.len() < 4 {
+            return Err(Error::EndOfBuffer);
+        }
+        let number = u32::from_be_bytes([rest[0], rest[1], rest[2], rest[3]]);
+        src.advance(4);
+        Ok(number)
+    }
+}
+
+impl MaxEncodeSize for u32 {
+    ghost MAX_ENCODE_SIZE = { 4 };
+
+    const MAX_ENCODE_SIZE: usize = 4;
+
+    ghost bounded = { λ v h. four_length v };
+}
+
+impl Canonical for u32 {
+    ghost canonical = { four_canonical };
+}
+
+impl EncodeSize for usize {
+    ghost enc = { varint };
+
+    ghost writable = { IsWord };
+
+    ghost prefix_free = { number_prefix_free };
+
+    ghost text_of_bytes = { varint_bytes };
+
+    fn encode_size(&self) -> usize {
+        varint_size(*self as u32)
+    }
+
+    fn is_writable(&self) -> bool {
+        *self <= u32::MAX as usize
+    }
+}
+
+impl<A: Allocator> Write<A> for usize {
+    fn write(&self, sink: &mut Vec<u8, A>) -> Result<(), AllocError> {
+        UInt(*self as u32).write(sink)
+    }
+}
+
+impl<A: Allocator> Read<A> for usize {
+    type Cfg = RangeCfg<usize>;
+
+    ghost allowed = { λ c n. Within c n };
+
+    ghost fault = { NumberFault };
+
+    ghost memory_free = { λ _ _. Unit {0} };
+
+    ghost read_laws = { λ _ c. number_laws c };
+
+    fn read_cfg(_alloc: A, src: &mut Source<'_>, cfg: &RangeCfg<usize>) -> Result<usize, Error> {
+        let start = *src;
+        match read_varint(src) {
+            Ok(number) => {
+                let number = number as usize;
+                if cfg.contains(&number) {
+                    return Ok(number);
+                }
+                *src = start;
+                Err(Error::InvalidLength(number))
+            }
+            Err(error) => Err(error),
+        }
+    }
+}
+
+impl Canonical for usize {
+    ghost canonical = { number_canonical };
+}

@@ -1,0 +1,86 @@
+//! What has a byte form: how it is written and read, and the laws.
+ghost use Rattle.std.specs.Prelude.{◌≡◌, ℕ, ◌<◌, ◌≤◌, ◌^◌, ◌↔◌, ◌++◌, List, length, IsTrue, OnOk, OnErr, IfOk, IfErr};
+ghost use Rattle.commonware_base.specs.Fault.{Fault};
+ghost use Rattle.commonware_base.specs.Refusal.{Refuses};
+ghost use Rattle.commonware_base.specs.Source.{rest_of, Consumes};
+ghost use Rattle.commonware_base.specs.Text.{AreBytes, Accepts, IsPrefixFree, ReadLaws, CanonicalLaws};
+
+use crate::codec::error::Error;
+use crate::codec::source::Source;
+use std::alloc::{AllocError, Allocator};
+
+/// A type whose values have a byte form.
+pub trait EncodeSize {
+    /// The bytes of a value.
+    ghost enc: { Self → List ℕ };
+
+    /// The values that have bytes. It names the range or the invariant that the values of the type keep.
+    ghost writable: { Self → Type 0 };
+
+    /// How many bytes the value has. The value is writable, and the number fits a `usize`.
+    fn encode_size(&self) -> usize
+        requires writable { writable self.now }
+        requires fits { length (enc self.now) < 2 ^ 64 }
+        ensures { result ≡ length (enc self.now) };
+
+    /// Whether the value is writable.
+    fn is_writable(&self) -> bool
+        ensures { IsTrue result ↔ writable self.now };
+
+    /// No spelling begins another.
+    ghost prefix_free: { IsPrefixFree enc writable };
+
+    /// What is written are bytes.
+    ghost text_of_bytes: { (v : Self) → writable v → AreBytes (enc v) };
+}
+
+/// A type whose values can be appended to a list of bytes.
+pub trait Write<A: Allocator>: EncodeSize {
+    /// Appends the bytes of the value, which is writable. Where memory is refused, the sink is as it was.
+    fn write(&self, sink: &mut Vec<u8, A>) -> Result<(), AllocError>
+        requires { Self.writable self.now }
+        ensures ok { OnOk result (sink.new.items ≡ sink.old.items ++ Self.enc self.now) }
+        ensures err { OnErr result (sink.new.items ≡ sink.old.items) };
+}
+
+/// A bound on the number of bytes of a value.
+pub trait MaxEncodeSize: EncodeSize {
+    ghost MAX_ENCODE_SIZE: { ℕ };
+
+    /// At least the number of bytes of every writable value.
+    const MAX_ENCODE_SIZE: usize;
+
+    /// No writable value takes more bytes.
+    ghost bounded: { (v : Self) → Self.writable v → length (Self.enc v) ≤ MAX_ENCODE_SIZE };
+}
+
+/// A type whose values can be read.
+pub trait Read<A: Allocator>: EncodeSize + Sized {
+    /// What limits the values that are read.
+    type Cfg;
+
+    /// The values that a configuration lets through.
+    ghost allowed: { Self.Cfg → Self → Type 0 };
+
+    /// The fault of a text under a configuration.
+    ghost fault: { Self.Cfg → List ℕ → Fault → Type 0 };
+
+    /// The texts that are read or refused with no memory.
+    ghost memory_free: { Self.Cfg → List ℕ → Type 0 };
+
+    /// The value whose bytes come next, or the first fault of the text; `Memory` only where the reading isn't
+    /// memory-free. What follows the value is left. After an error the source stands where it stood.
+    fn read_cfg(alloc: A, src: &mut Source<'_>, cfg: &Self::Cfg) -> Result<Self, Error>
+        ensures accepted { IfOk result (λ v. Accepts Self.enc Self.writable (allowed cfg.now) (rest_of src.old) v (rest_of src.new)) }
+        ensures consumed { IfOk result (λ v. Consumes src.old src.new (Self.enc v)) }
+        ensures refused { IfErr result (Refuses (fault cfg.now (rest_of src.old)) (memory_free cfg.now (rest_of src.old))) }
+        ensures stays { OnErr result (src.new ≡ src.old) };
+
+    /// A text that is accepted has no fault, each other text has one, and what is allowed goes by the bytes.
+    ghost read_laws: { (alloc : A) (c : Self.Cfg) → ReadLaws Self.enc Self.writable (allowed c) (fault c) };
+}
+
+/// A type whose writable values are equal exactly where their bytes are. Equal values are writable together.
+pub trait Canonical: EncodeSize + Eq {
+    ghost canonical: { CanonicalLaws Self.enc Self.writable Self.eq };
+}

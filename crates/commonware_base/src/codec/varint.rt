@@ -1,0 +1,173 @@
+//! Numbers below 2^32 in groups of seven bits: the lowest group first, one group a byte, the top bit set on every
+//! byte but the last, in the fewest bytes.
+ghost use Rattle.std.specs.Prelude.{◌≡◌, ℕ, ◌+◌, ◌≤◌, ◌<◌, ◌^◌, ◌==◌, ◌++◌, List, length, take, OnOk, OnErr, IfOk, IfErr, refl};
+ghost use Rattle.commonware_base.specs.Refusal.{Refuses};
+ghost use Rattle.commonware_base.specs.Source.{rest_of, Consumes};
+ghost use Rattle.commonware_base.specs.TextLaws.{prefix_free_on, laws_on, canonical_on};
+ghost use Rattle.commonware_base.specs.Varint.{varint, IsVarint, varint_fault, groups_sum};
+ghost use Rattle.commonware_base.specs.VarintLaws.{varint_bytes, varint-length};
+ghost use Rattle.commonware_base.specs.Words.{IsWord};
+ghost use Rattle.commonware_base.specs.Numbers.{number_prefix_free, varint_laws, number_canonical};
+
+use crate::codec::error::Error;
+use crate::codec::source::Source;
+use crate::codec::traits::{Canonical, EncodeSize, MaxEncodeSize, Read, Write};
+use std::alloc::{AllocError, Allocator};
+
+/// A number that is written as a varint.
+#[derive(Clone, Copy, Debug, PartialEq, Eq, PartialOrd, Ord, Hash)]
+pub struct UInt(pub u32);
+
+impl EncodeSize for UInt {
+    ghost enc = { λ v. varint v.0 };
+
+    ghost writable = { λ v. IsWord v.0 };
+
+    ghost prefix_free = { prefix_free_on (λ v. v.0) varint IsWord number_prefix_free };
+
+    ghost text_of_bytes = { λ v h. varint_bytes v.0 h };
+
+    fn encode_size(&self) -> usize {
+        varint_size(self.0)
+    }
+
+    fn is_writable(&self) -> bool {
+        let _value = self.0;
+        true
+    }
+}
+
+impl<A: Allocator> Write<A> for UInt {
+    fn write(&self, sink: &mut Vec<u8, A>) -> Result<(), AllocError> {
+        let start = sink.len();
+        match push_varint(sink, self.0) {
+            Ok(()) => Ok(()),
+            Err(error) => {
+                sink.truncate(start);
+                Err(error)
+            }
+        }
+    }
+}
+
+impl MaxEncodeSize for UInt {
+    ghost MAX_ENCODE_SIZE = { 5 };
+
+    const MAX_ENCODE_SIZE: usize = 5;
+
+    ghost bounded = { λ v h. varint-length v.0 h };
+}
+
+impl<A: Allocator> Read<A> for UInt {
+    type Cfg = ();
+
+    ghost allowed = { λ _ _. Unit {0} };
+
+    ghost fault = { λ _ s f. varint_fault s f };
+
+    ghost memory_free = { λ _ _. Unit {0} };
+
+    ghost read_laws = { λ _ _. laws_on (λ v. v.0) varint IsWord (λ _. Unit {0}) varint_fault (λ n _ _. (record { 0 = n }, refl)) varint_laws };
+
+    fn read_cfg(_alloc: A, src: &mut Source<'_>, _cfg: &()) -> Result<UInt, Error> {
+        match read_varint(src) {
+            Ok(number) => Ok(UInt(number)),
+            Err(error) => Err(error),
+        }
+    }
+}
+
+impl Canonical for UInt {
+    ghost canonical = { canonical_on (λ v. v.0) varint IsWord ◌==◌ number_canonical };
+}
+
+/// Each number below 2^32 has one spelling as a varint, the one that is written, and no other number has it.
+pub fn varint_law()
+    ensures spelled { (n : ℕ) → n < 2 ^ 32 → IsVarint n (varint n) }
+    ensures only { (n : ℕ) (bytes : List ℕ) → IsVarint n bytes → bytes ≡ varint n }
+{}
+
+/// How many bytes spell the number.
+pub(crate) fn varint_size(number: u32) -> usize
+    ensures size { result ≡ length (varint number) }
+    ensures at_most_five { result ≤ 5 }
+{
+    let mut left = number;
+    let mut size = 1;
+    while left >= 128 {
+        left /= 128;
+        size += 1;
+    }
+    size
+}
+
+/// Appends the bytes of the number. Where memory is refused, some of them may stand there.
+pub(crate) fn push_varint<A: Allocator>(
+    sink: &mut Vec<u8, A>,
+    number: u32,
+) -> Result<(), AllocError>
+    ensures ok { OnOk result (sink.new.items ≡ sink.old.items ++ varint number) }
+    ensures err { OnErr result ((more : List ℕ) × (sink.new.items ≡ sink.old.items ++ more)) }
+{
+    let mut left = number;
+    while left >= 128 {
+        sink.push((left % 128) as u8 + 128)?;
+        left /= 128;
+    }
+    sink.push(left as u8)?;
+    Ok(())
+}
+
+/// The number whose bytes come next.
+pub(crate) fn read_varint(src: &mut Source<'_>) -> Result<u32, Error>
+    ensures consumed { IfOk result (λ number. Consumes src.old src.new (varint number)) }
+    ensures fits { IfOk result (λ number. number < 2 ^ 32) }
+    ensures refused { IfErr result (Refuses (varint_fault (rest_of src.old)) (Unit {0})) }
+    ensures stays { OnErr result (src.new ≡ src.old) }
+{
+    let rest = src.rest();
+    match varint_len(rest) {
+        Ok(count) => {
+            let number = groups_value(&rest[..count]);
+            src.advance(count);
+            Ok(number)
+        }
+        Err(error) => Err(error),
+    }
+}
+
+/// How many bytes the number at the front takes.
+fn varint_len(bytes: &[u8]) -> Result<usize, Error>
+    ensures within { IfOk result (λ count. count ≤ length bytes.now) }
+    ensures found { IfOk result (λ count. IsVarint (groups_sum (take count bytes.now)) (take count bytes.now)) }
+    ensures refused { IfErr result (Refuses (varint_fault bytes.now) (Unit {0})) }
+{
+    for (i, byte) in bytes.iter().enumerate() {
+        let byte = *byte;
+        if byte >= 128 && i < 4 {
+            continue;
+        }
+        if byte == 0 && i > 0 {
+            return Err(Error::InvalidVarint);
+        }
+        if byte > 15 && i == 4 {
+            return Err(Error::InvalidVarint);
+        }
+        return Ok(i + 1);
+    }
+    Err(Error::EndOfBuffer)
+}
+
+/// The number that the bytes spell.
+fn groups_value(bytes: &[u8]) -> u32
+    requires { groups_sum bytes.now < 2 ^ 32 }
+    ensures { result ≡ groups_sum bytes.now }
+{
+    let mut number = 0;
+    let mut i = bytes.len();
+    while i > 0 {
+        i -= 1;
+        number = number * 128 + (bytes[i] % 128) as u32;
+    }
+    number
+}

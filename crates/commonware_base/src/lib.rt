@@ -1,0 +1,4 @@
+//! What the ordered collections, quorums and certificates stand on: byte forms with laws.
+#![tactic(auto)]
+
+pub mod codec;

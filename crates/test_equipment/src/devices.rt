@@ -1,0 +1,1 @@
+//! A reader and a writer that do what a script says.

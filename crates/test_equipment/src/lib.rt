@@ -1,0 +1,12 @@
+//! What tests need to make memory and devices fail: an allocator that refuses one request, and a reader and a writer that
+//! do what a script says.
+//!
+//! Nothing here is meant for a program. A test hands `&Refusing<Global>` to a function that is generic over its allocator,
+//! and a [`ScriptedReader`] or a [`ScriptedWriter`] where a function reads or writes.
+#![tactic(auto)]
+
+pub mod devices;
+pub mod refusing;
+
+
+pub use refusing::Refusing;
