@@ -1,4 +1,5 @@
 pub mod Bytes
+pub mod Clones
 pub mod Fault
 pub mod ListLaws
 pub mod Lists

@@ -1,0 +1,6 @@
+pub mod Dedup
+pub mod SetLaws
+pub mod Sets
+pub mod Strict
+pub mod StrictLaws
+pub mod Taken

@@ -1,2 +1,6 @@
-//! To be written.
+//! Ordered collections: sets of strictly increasing items.
 #![tactic(auto)]
+
+mod set;
+
+pub use set::Set;

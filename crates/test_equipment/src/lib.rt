@@ -2,11 +2,11 @@
 //! do what a script says.
 //!
 //! Nothing here is meant for a program. A test hands `&Refusing<Global>` to a function that is generic over its allocator,
-//! and a [`ScriptedReader`] or a [`ScriptedWriter`] where a function reads or writes.
+//! and a [`ScriptedReader`] or a [`ScriptedWriter`] to one that reads or writes.
 #![tactic(auto)]
 
 pub mod devices;
 pub mod refusing;
 
-
+pub use devices::{ScriptedReader, ScriptedWriter, WriteFault};
 pub use refusing::Refusing;

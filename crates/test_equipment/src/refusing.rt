@@ -3,6 +3,9 @@
 use std::alloc::{AllocError, Allocator};
 use std::cell::Cell;
 
+#[cfg(test)]
+mod tests;
+
 /// Passes every request on to another allocator, but refuses one of them.
 ///
 /// A call of `grow` or `shrink` counts as a request too, since it allocates a new block.

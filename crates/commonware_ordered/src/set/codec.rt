@@ -1,0 +1,85 @@
+//! The byte form of a set, which is that of the list of its items.
+ghost use Rattle.std.specs.Prelude.{◌≡◌, OnErr, IfOk, IfErr};
+ghost use Rattle.commonware_base.specs.Lists.{list_enc, IsAllowedList, IsListMemoryFree};
+ghost use Rattle.commonware_base.specs.ListLaws.{list_bytes};
+ghost use Rattle.commonware_base.specs.Refusal.{Refuses};
+ghost use Rattle.commonware_base.specs.Source.{rest_of, Consumes};
+ghost use Rattle.commonware_ordered.specs.Sets.{IsWritableSet, SetFault};
+ghost use Rattle.commonware_ordered.specs.SetLaws.{set_prefix_free, set_laws, set_canonical};
+
+use super::{Set, is_strict};
+use commonware_base::codec::{
+    Canonical, EncodeSize, Error, RangeCfg, Read, Source, Write, read_list,
+};
+use std::alloc::{AllocError, Allocator};
+
+impl<T: Ord + EncodeSize, A: Allocator> EncodeSize for Set<T, A> {
+    ghost enc = { list_enc T.enc };
+
+    ghost writable = { IsWritableSet T.writable T.cmp };
+
+    ghost prefix_free = { set_prefix_free T.enc T.writable T.cmp T.prefix_free };
+
+    ghost text_of_bytes = { λ v h. list_bytes T.enc T.writable T.text_of_bytes v h.list };
+
+    fn encode_size(&self) -> usize {
+        self.items.encode_size()
+    }
+
+    fn is_writable(&self) -> bool {
+        self.items.is_writable()
+    }
+}
+
+impl<T: Ord + Write<A>, A: Allocator> Write<A> for Set<T, A> {
+    fn write(&self, sink: &mut Vec<u8, A>) -> Result<(), AllocError> {
+        self.items.write(sink)
+    }
+}
+
+impl<T: Ord + Canonical + Read<A> + Drop, A: Allocator + Copy> Read<A> for Set<T, A> {
+    type Cfg = (RangeCfg<usize>, T::Cfg);
+
+    ghost allowed = { λ c. IsAllowedList c.0 (T.allowed c.1) };
+
+    ghost fault = { λ c. SetFault T.enc T.writable T.cmp (T.allowed c.1) (T.fault c.1) c.0 };
+
+    ghost memory_free = { λ c. IsListMemoryFree (T.fault c.1) (T.memory_free c.1) c.0 };
+
+    ghost read_laws = { λ alloc c. set_laws T.enc T.writable T.cmp T.prefix_free T.eq T.total T.matches_eq T.canonical (T.allowed c.1) (T.fault c.1) c.0 (T.read_laws alloc c.1) };
+
+    fn read_cfg(alloc: A, src: &mut Source<'_>, cfg: &Self::Cfg) -> Result<Set<T, A>, Error> {
+        read_set::<T, A>(alloc, src, cfg.0, &cfg.1)
+    }
+}
+
+impl<T: Ord + Canonical, A: Allocator> Canonical for Set<T, A> {
+    ghost canonical = { set_canonical T.enc T.writable T.cmp T.prefix_free T.eq T.total T.matches_eq T.canonical };
+}
+
+/// Reads a set under a range for its length and a configuration for its items. The order is looked at once the whole
+/// list is read, so a fault of a later item comes before that of the order.
+fn read_set<T: Ord + Canonical + Read<A> + Drop, A: Allocator + Copy>(
+    alloc: A,
+    src: &mut Source<'_>,
+    range: RangeCfg<usize>,
+    item: &T::Cfg,
+) -> Result<Set<T, A>, Error>
+    ensures consumed { IfOk result (λ v. Consumes src.old src.new (list_enc T.enc v)) }
+    ensures writable { IfOk result (IsWritableSet T.writable T.cmp) }
+    ensures allowed { IfOk result (IsAllowedList range (T.allowed item.now)) }
+    ensures refused { IfErr result (Refuses (SetFault T.enc T.writable T.cmp (T.allowed item.now) (T.fault item.now) range (rest_of src.old)) (IsListMemoryFree (T.fault item.now) (T.memory_free item.now) range (rest_of src.old))) }
+    ensures stays { OnErr result (src.new ≡ src.old) }
+{
+    let mut here = *src;
+    match read_list::<T, A>(alloc, &mut here, range, item) {
+        Ok(items) => {
+            if !is_strict(items.as_slice()) {
+                return Err(Error::Invalid("Set", "items must be sorted and unique"));
+            }
+            *src = here;
+            Ok(Set { items })
+        }
+        Err(error) => Err(error),
+    }
+}

@@ -1,0 +1,22 @@
+//! The worked rows and vectors, through the facade: a file a subject, a table a kind.
+ghost use Rattle.std.specs.Prelude.{IfOk};
+
+mod lists;
+mod numbers;
+mod ranges;
+
+use crate::codec::{EncodeSize, Error, Read, Source};
+use std::alloc::Allocator;
+
+/// What the reader answers for the bytes, and how many of them it took.
+fn read<T: Read<A>, A: Allocator + Copy>(
+    alloc: A,
+    bytes: &[u8],
+    cfg: &T::Cfg,
+) -> (Result<T, Error>, usize)
+    ensures { IfOk result.0 T.writable }
+{
+    let mut src = Source::new(bytes);
+    let result = T::read_cfg(alloc, &mut src, cfg);
+    (result, src.position())
+}

@@ -1,0 +1,9 @@
+//! Ordered collections and quorums for consensus: one order of participants, one byte form of each collection.
+//!
+//! The crate gives its two lower crates again, so that a user names it alone.
+#![tactic(auto)]
+
+#[cfg(test)]
+mod bench;
+
+pub use commonware_base::codec;
