@@ -1,2 +1,20 @@
-//! To be written.
+//! The library of the program `committee`, which reads a committee from bytes and reports on it.
+//!
+//! Everything that the program does is generic over the allocator, the reader and the writers, so that each refused
+//! request for memory and each failing device can be tried. The program itself only hands in the real ones.
 #![tactic(auto)]
+
+mod command;
+mod error;
+mod faults;
+mod outcome;
+mod program;
+mod report;
+mod transfer;
+mod watched;
+
+pub use command::{Command, parse_args};
+pub use error::RunError;
+pub use outcome::run;
+pub use program::session;
+pub use watched::Watched;

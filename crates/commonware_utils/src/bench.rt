@@ -1,12 +1,14 @@
 //! The worked rows and vectors, through the facade: a file a subject, a table a kind.
-ghost use Rattle.std.specs.Prelude.{IfOk};
+ghost use Rattle.std.specs.Prelude.{IfOk, ◌≡◌, OnErr};
 
 mod lists;
 mod numbers;
+mod participants;
 mod ranges;
+mod sets;
 
-use crate::codec::{EncodeSize, Error, Read, Source};
-use std::alloc::Allocator;
+use crate::codec::{EncodeSize, Error, Read, Source, Write};
+use std::alloc::{AllocError, Allocator};
 
 /// What the reader answers for the bytes, and how many of them it took.
 fn read<T: Read<A>, A: Allocator + Copy>(

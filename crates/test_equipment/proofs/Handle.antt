@@ -5,7 +5,7 @@
 --     parts                      a `&` to the allocator is one to each field
 --     Counts, counting           the contract of `refuses`, and what a call picks in it
 --     counts_from, counts_to     what a call of it takes, and what it leaves: its answer, and the token
-use Rattle.std.proofs.Common.{◌≡◌, ℕ, ◌+◌, Bool, List, [], ◌∷◌, refl, ap, Bor}
+use Rattle.std.proofs.Common.{◌≡◌, ℕ, ◌+◌, Bool, List, [], ◌∷◌, refl, ap}
 use seplogic.Ra.Ura.{Ura}
 use mir.Syntax.{Args, a_type, dnil, dcons}
 use mir.Val.{Val, vbool, vptr}
@@ -50,6 +50,7 @@ module _ (Z : Al) where
   until_at p = (p.0, p.1 + up 8 (up (align (α Z)) 0 + size (α Z)))
 
   module _ {M : Type 1} {𝓤 : Ura M} (𝓛 : Logic 𝓤) where
+    -- A `&` to the allocator is a `&` to the inner one and a `&` to the count.
     pub parts : (κ : Lft) (p : ℕ × ℕ) (h : Refuser.Denot)
         → ent 𝓤 (sem 𝓛 (hidden_shr Refuser κ h p.0 p.1))
         (sep 𝓤 (sem 𝓛 (seen Z κ (inner_at p) h.inner)) (sem 𝓛 (hidden_shr Count κ h.until (until_at p).0 (until_at p).1)))
@@ -70,6 +71,7 @@ module _ {M : Type 1} {𝓤 : Ura M} (𝓛 : Logic 𝓤) (at_mem : Memory → SP
     (κ : Lft) (q : Share) (p : ℕ × ℕ) (c : Count.Denot) where
   open 𝓛 use {H, A}
 
+  -- A call of `refuses` takes the `&` to the count and a token of its lifetime.
   pub counts_from : ent 𝓤 (sep 𝓤 (sem 𝓛 (hidden_shr Count κ c p.0 p.1)) (A.lft κ q)) ((Counts 𝓛 at_mem run).pre (counting 𝓛 at_mem run κ q p c))
   counts_from =
       qed 𝓛 (‵ (hidden_shr Count κ c p.0 p.1) ∷ ‵ (flft κ q) ∷ []) ∵
@@ -78,6 +80,7 @@ module _ {M : Type 1} {𝓤 : Ura M} (𝓛 : Logic 𝓤) (at_mem : Memory → SP
       move ! (1 ∷ []) $ feq_i ! (List Val) (vptr p.0 p.1 ∷ []) (vptr p.0 p.1 ∷ []) refl $ fjoin ! $
       nothing ! $ move ! (1 ∷ 0 ∷ []) $ fjoin ! $ nothing ! $ move ! (2 ∷ 1 ∷ 0 ∷ []) $ join ! $ done !
 
+  -- It leaves its answer, which is some `bool`, and the token.
   pub counts_to : (v : Val) → ent 𝓤 ((Counts 𝓛 at_mem run).post (counting 𝓛 at_mem run κ q p c) v)
       (H.⇛ (ex 𝓤 (λ (b : Bool). guard 𝓤 (v ≡ vbool b) (A.lft κ q))))
   counts_to v =

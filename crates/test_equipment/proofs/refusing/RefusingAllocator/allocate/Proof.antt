@@ -99,6 +99,7 @@ module _ (Z : Al) {M : Type 1} {𝓤 : Ura M} (𝓛 : Logic 𝓤) (at_mem : Memo
         -- [the parameters and the answer; what it hands over; the tokens]
         move ! (2 ∷ 3 ∷ []) $ join ! $ join ! $ done !
 
+    -- The body: the count is asked, and then either the answer is an error or the inner allocator gives it.
     walk : n < 2 ^ 64 → a < 2 ^ 64 → ent 𝓤 ((walk_of 𝓛 (ended Z) (stayed Z) clauses).pre bound) (WpFn 𝓤 H 𝓣.C 𝓣.Λ (here Z) vs Post)
     walk fits_n fits_a =
         let h : (Refuser Z).Denot = r.now in
@@ -133,6 +134,7 @@ module _ (Z : Al) {M : Type 1} {𝓤 : Ura M} (𝓛 : Logic 𝓤) (at_mem : Memo
         (Takes-gives Z 𝓛 at_mem run κ q inner h.inner n a τ v) $ await ! tt $ split ! $ pick ! (λ c. learn ! (λ is_c.
         lands_as ! is_c refl (Answer-typed c.0 c.1.0 c.1.1) $ returns ! (look_at ! 0 refl) $ free_all ! refl $ by ! (leaves c.0 c.1.0 c.1.1)))))))))))
 
+-- The walk, at what the call's entry in the table hands it.
 pub allocate_spec : {M : Type 1} → stated.statement M
 unfolding tables_of
 allocate_spec 𝓤 𝓛 𝓜 𝓡 wired Y L g d drops met _ =

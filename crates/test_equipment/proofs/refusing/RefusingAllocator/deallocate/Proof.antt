@@ -4,7 +4,7 @@ use seplogic.Ra.Ura.{Ura}
 use mir.Syntax.{Ty, Fn}
 use mir.Val.{Val, vunit, vint, vptr}
 use mir.MapTy.{inst_fn}
-use base.Logic.{SProp, ent, id⊢, never_e}
+use base.Logic.{SProp, ent, never_e}
 use base.Fml.{Lft, Share, ftrue, fsep, ffalse, flft, froom}
 use prog.Memory.{Memory, size, align, capped}
 use prog.Routine.{Routine}
@@ -86,6 +86,7 @@ module _ (Z : Al) {M : Type 1} {𝓤 : Ura M} (𝓛 : Logic 𝓤) (at_mem : Memo
         -- [the parameters and the answer; the tokens; nothing]
         move ! (1 ∷ 0 ∷ []) $ join ! $ done !
 
+    -- The body: nothing lies at null, and a block goes to the inner allocator with the right to free it.
     walk : n < 2 ^ 64 → a < 2 ^ 64 → (x : Ptr) → ent 𝓤 ((walk_of 𝓛 (ended Z) (stayed Z) clauses).pre (bound x)) (WpFn 𝓤 H 𝓣.C 𝓣.Λ (here Z) (vs x) (Post x))
     walk fits_n fits_a null_ptr =
         qed 𝓛 (entry null_ptr ∷ (raw (fact 𝓤 (ρ ⊑ Z.row.lives)) ⊛ raw (fact 𝓤 Said) ⊛ ‵ (fsep ffalse (token Z r.now.inner τ null_ptr))) ∷ []) ∵
@@ -111,6 +112,7 @@ module _ (Z : Al) {M : Type 1} {𝓤 : Ura M} (𝓛 : Logic 𝓤) (at_mem : Memo
         lands_as ! is_unit refl (tt, tt) $ sets ! (of_opd ! (unit_lit !)) refl (tt, tt) $
         returns ! (look_at ! 0 refl) $ free_all ! refl $ keep ! (0 ∷ 2 ∷ []) $ by ! (leaves x))))))
 
+-- The walk, at what the call's entry in the table hands it.
 pub deallocate_spec : {M : Type 1} → stated.statement M
 unfolding tables_of
 deallocate_spec 𝓤 𝓛 𝓜 𝓡 wired Y L g d drops met _ =

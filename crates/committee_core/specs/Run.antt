@@ -1,0 +1,77 @@
+-- What a run makes of the bytes that its reader gave, and the exit status where it writes no report.
+use Rattle.std.specs.Prelude.{◌≡◌, ℕ, ◌<◌, List, [], Option, Some, length, ◌⊎◌}
+use Rattle.std.specs.Io.KnownBytes.{Consumes, IsAtEnd}
+use Rattle.std.specs.Ordering.{nat_cmp}
+use Rattle.std.specs.declared.ops.Bound.TheVariants.{Included}
+use Rattle.commonware_base.specs.Bytes.{byte, byte_fault}
+use Rattle.commonware_base.specs.Fault.{Fault}
+use Rattle.commonware_base.specs.Lists.{list_enc, IsAllowedList}
+use Rattle.commonware_base.specs.Range.{Bounds}
+use Rattle.commonware_base.specs.Refusal.{Refuses}
+use Rattle.commonware_base.specs.Text.{Accepts, IsByte}
+use Rattle.commonware_base.specs.declared.codec.error.Error.{Error}
+use Rattle.commonware_base.specs.declared.codec.error.Error.TheVariants as faults
+use Rattle.commonware_base.specs.declared.codec.error.Error.TheVariants.{EndOfBuffer, InvalidVarint, InvalidLength, Invalid}
+use Rattle.commonware_ordered.specs.Sets.{IsWritableSet, SetFault}
+use Rattle.committee_core.specs.Report.{IsMembersReport}
+use Rattle.committee_core.specs.declared.command.Command.{Command}
+use Rattle.committee_core.specs.declared.command.Command.TheVariants.{Read}
+use Rattle.committee_core.specs.declared.error.RunError.{RunError}
+use Rattle.committee_core.specs.declared.error.RunError.TheVariants.{Refused, LeftOver, Memory, ReadFailed, WriteFailed}
+
+-- a reader that had old left and has new left gave s, and is at its end
+pub record Gave (old new : Option (List ℕ)) (s : List ℕ) : Type 0 where
+  pub bytes : Consumes old new s
+  pub at_end : IsAtEnd new
+
+-- a committee has 1 to 256 members
+abbrev pub members_range : Bounds ℕ
+members_range = record { lower = Some 1; upper = Included 256 }
+
+-- s is the bytes of a set of 1 to 256 one-byte members, and then rest
+abbrev pub IsCommittee : List ℕ → List ℕ → List ℕ → Type 0
+IsCommittee s members rest = Accepts (list_enc byte) (IsWritableSet IsByte nat_cmp) (IsAllowedList members_range (λ _. Unit {0})) s members rest
+
+-- the first fault of s, where s begins with no committee
+abbrev pub committee_fault : List ℕ → Fault → Type 0
+committee_fault = SetFault byte IsByte nat_cmp (λ _. Unit {0}) byte_fault members_range
+
+-- the error names the first fault of s, so it is no want of memory
+abbrev pub IsFirstFault : List ℕ → Error → Type 0
+IsFirstFault s error = Refuses (committee_fault s) (Unit {0}) error
+
+-- s is a committee, and then count more bytes, of which there are some
+abbrev pub IsLeftOver : List ℕ → ℕ → Type 0
+IsLeftOver s count = (members : List ℕ) × (rest : List ℕ) × IsCommittee s members rest × (length rest ≡ count) × (0 < count)
+
+-- why no report was written, where the reader gave bytes of which Given holds: what the error says of them
+abbrev pub IsRefusal : (List ℕ → Type 0) → RunError → Type 0
+IsRefusal Given (Refused error) = (s : List ℕ) × Given s × IsFirstFault s error
+IsRefusal Given (LeftOver count) = (s : List ℕ) × Given s × IsLeftOver s count
+IsRefusal Given Memory = Unit {0}
+IsRefusal Given ReadFailed = Unit {0}
+IsRefusal Given WriteFailed = Unit {0}
+
+-- the bytes were refused: they have a first fault, or they go on after a committee
+abbrev pub IsRefused : (List ℕ → Type 0) → Type 0
+IsRefused Given = (s : List ℕ) × Given s × (((error : Error) × IsFirstFault s error) ⊎ ((count : ℕ) × IsLeftOver s count))
+
+-- what a reader's refusal is for a run
+abbrev pub refusal_of : Error → RunError
+refusal_of EndOfBuffer = Refused EndOfBuffer
+refusal_of InvalidVarint = Refused InvalidVarint
+refusal_of (InvalidLength length) = Refused (InvalidLength length)
+refusal_of (Invalid what rule) = Refused (Invalid what rule)
+refusal_of faults.Memory = Memory
+
+-- the text is the report that the command asks for, where the reader gave bytes of which Given holds
+abbrev pub IsReport : (List ℕ → Type 0) → Command → List ℕ → Type 0
+IsReport Given Read text = (s : List ℕ) × Given s × (members : List ℕ) × IsCommittee s members [] × IsMembersReport members text
+
+-- the exit status where no report was written: 1 where the bytes are refused, 3 where memory or a device failed
+abbrev pub status_of : RunError → ℕ
+status_of (Refused fault) = 1
+status_of (LeftOver count) = 1
+status_of Memory = 3
+status_of ReadFailed = 3
+status_of WriteFailed = 3

@@ -1,0 +1,38 @@
+//! Why a run has written no report.
+
+use commonware_utils::codec;
+
+/// Why a run has written no report.
+#[derive(Debug, PartialEq, Eq, Drop, thiserror::Error)]
+pub enum RunError {
+    /// The bytes begin with no committee.
+    #[error("refused: {0}")]
+    Refused(codec::Error),
+    /// So many bytes follow the committee.
+    #[error("refused: {0} bytes left over")]
+    LeftOver(usize),
+    /// A request for memory was refused.
+    #[error("failed: out of memory")]
+    Memory,
+    /// The reader failed.
+    #[error("failed: read")]
+    ReadFailed,
+    /// The writer failed, or took none of some bytes.
+    #[error("failed: write")]
+    WriteFailed,
+}
+
+impl From<codec::Error> for RunError {
+    ghost use Rattle.std.specs.Prelude.{◌≡◌};
+    ghost use Rattle.committee_core.specs.Run.{refusal_of};
+
+    ghost from_gives = { λ error refusal. refusal ≡ refusal_of error };
+
+    /// Want of memory stays that; every other error of a reader is a fault of the bytes.
+    fn from(error: codec::Error) -> RunError {
+        match error {
+            codec::Error::Memory => RunError::Memory,
+            fault => RunError::Refused(fault),
+        }
+    }
+}

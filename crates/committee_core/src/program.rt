@@ -1,0 +1,82 @@
+//! A whole run of the program: what it says, and its exit status.
+ghost use Rattle.std.specs.Prelude.{◌≡◌, ◌↔◌, ◌≤◌, ℕ, List, map, string_bytes, true, false};
+ghost use Rattle.std.specs.Io.KnownBytes.{Appends};
+ghost use Rattle.committee_core.specs.Command.{IsAskedFor};
+ghost use Rattle.committee_core.specs.Run.{Gave, IsRefused, IsReport, status_of};
+
+use crate::command::{Command, parse_args};
+use crate::error::RunError;
+use crate::outcome::run;
+use crate::watched::Watched;
+use commonware_utils::codec;
+use std::alloc::Allocator;
+use std::io;
+use std::io::{Read, Write};
+
+/// Does what the words after the program's name ask for, and answers the exit status.
+///
+/// The status is 0 where the report was written, 1 where the bytes were refused, 2 where the words ask for no command,
+/// and 3 where memory, the reader or the writer failed. Unless it is 0, one line on `errors` says why. Where `errors`
+/// fails, the status is the same.
+pub fn session<A: Allocator + Copy, R: Read, W: Write, E: Write>(
+    alloc: A,
+    words: &[String<A>],
+    input: &mut Watched<R>,
+    output: &mut Watched<W>,
+    errors: &mut E,
+) -> u8
+    // It is done only where the report that was asked for has been written.
+    ensures done { result ≡ 0 → (command : _) × IsAskedFor (map string_bytes words.now) command
+        × ((text : List ℕ) × Appends (W.contents output.old.inner) (W.contents output.new.inner) text
+        × IsReport (Gave (R.remaining input.old.inner) (R.remaining input.new.inner)) command text) }
+    ensures refused { result ≡ 1 →
+        IsRefused (Gave (R.remaining input.old.inner) (R.remaining input.new.inner)) × (output.new ≡ output.old) }
+    ensures usage { (result ≡ 2) ↔ ((command : _) → ¬ IsAskedFor (map string_bytes words.now) command) }
+    ensures read_failed { input.old.failed ≡ false → input.new.failed ≡ true → result ≡ 3 }
+    ensures write_failed { output.old.failed ≡ false → output.new.failed ≡ true → result ≡ 3 }
+    ensures statuses { result ≤ 3 }
+{
+    let Some(command) = parse_args(words) else {
+        let _ = writeln!(errors, "usage: committee read, or committee bounds <n>");
+        return 2;
+    };
+    match run(alloc, command, input, output) {
+        Ok(()) => 0,
+        Err(error) => {
+            let _ = complain(&error, errors);
+            status(&error)
+        }
+    }
+}
+
+/// The exit status where no report was written.
+fn status(error: &RunError) -> u8
+    ensures { result ≡ status_of error.now }
+{
+    match error {
+        RunError::Refused(_) | RunError::LeftOver(_) => 1,
+        RunError::Memory | RunError::ReadFailed | RunError::WriteFailed => 3,
+    }
+}
+
+/// Says in one line why no report was written.
+fn complain<E: Write>(error: &RunError, errors: &mut E) -> io::Result<()> {
+    match error {
+        RunError::Refused(fault) => complain_of(fault, errors),
+        RunError::LeftOver(count) => writeln!(errors, "refused: {count} bytes left over"),
+        RunError::Memory => writeln!(errors, "failed: out of memory"),
+        RunError::ReadFailed => writeln!(errors, "failed: read"),
+        RunError::WriteFailed => writeln!(errors, "failed: write"),
+    }
+}
+
+/// Says in one line what is wrong with the bytes.
+fn complain_of<E: Write>(fault: &codec::Error, errors: &mut E) -> io::Result<()> {
+    match fault {
+        codec::Error::EndOfBuffer => writeln!(errors, "refused: end of input"),
+        codec::Error::InvalidVarint => writeln!(errors, "refused: invalid varint"),
+        codec::Error::InvalidLength(length) => writeln!(errors, "refused: length {length}"),
+        codec::Error::Invalid(what, rule) => writeln!(errors, "refused: {what}: {rule}"),
+        codec::Error::Memory => writeln!(errors, "failed: out of memory"),
+    }
+}

@@ -1,0 +1,72 @@
+//! The report on a committee, as text in memory.
+//!
+//! Each line has a function of its own, which appends it.
+ghost use Rattle.std.specs.Prelude.{◌≡◌, ◌^◌, ◌<◌, ◌≤◌, ◌++◌, length, OnOk, IfOk, string_bytes};
+ghost use Rattle.committee_core.specs.Report.{IsMembersReport, members_line, member_line, n3f1_line, n5f1_line};
+
+use crate::faults::{m_quorum, n3f1_faults, n5f1_faults};
+use std::alloc::{AllocError, Allocator};
+
+/// The report on the members: how many, each with its position, and the numbers of the fault models.
+pub(crate) fn committee_report<A: Allocator>(
+    alloc: A,
+    members: &[u8],
+) -> Result<String<A>, AllocError>
+    requires some { 1 ≤ length members.now }
+    requires few { length members.now < 2 ^ 32 }
+    ensures { IfOk result (λ text. IsMembersReport members.now (string_bytes text)) }
+{
+    let mut text = String::new(alloc);
+    write_members(&mut text, members.len())?;
+    for (position, item) in members.iter().enumerate() {
+        write_member(&mut text, position, *item)?;
+    }
+    let n = members.len() as u32;
+    let n3f1 = n3f1_faults(n);
+    write_n3f1(&mut text, n, n3f1)?;
+    let n5f1 = n5f1_faults(n);
+    let m = m_quorum(n);
+    write_n5f1(&mut text, n, n5f1, m)?;
+    Ok(text)
+}
+
+#[tactic(auto, unfolding(crate::specs::Report::members_line))]
+fn write_members<A: Allocator>(text: &mut String<A>, n: usize) -> Result<(), AllocError>
+    ensures { OnOk result (string_bytes text.new ≡ string_bytes text.old ++ members_line n) }
+{
+    writeln!(text, "members {n}")
+}
+
+#[tactic(auto, unfolding(crate::specs::Report::member_line))]
+fn write_member<A: Allocator>(
+    text: &mut String<A>,
+    position: usize,
+    item: u8,
+) -> Result<(), AllocError>
+    ensures { OnOk result (string_bytes text.new ≡ string_bytes text.old ++ member_line position item) }
+{
+    writeln!(text, "{position} {item}")
+}
+
+#[tactic(auto, unfolding(crate::specs::Report::n3f1_line))]
+fn write_n3f1<A: Allocator>(text: &mut String<A>, n: u32, faults: u32) -> Result<(), AllocError>
+    requires { faults ≤ n }
+    ensures { OnOk result (string_bytes text.new ≡ string_bytes text.old ++ n3f1_line n faults) }
+{
+    let quorum = n - faults;
+    writeln!(text, "N3f1 faults {faults} quorum {quorum}")
+}
+
+#[tactic(auto, unfolding(crate::specs::Report::n5f1_line))]
+fn write_n5f1<A: Allocator>(
+    text: &mut String<A>,
+    n: u32,
+    faults: u32,
+    m: u32,
+) -> Result<(), AllocError>
+    requires { faults ≤ n }
+    ensures { OnOk result (string_bytes text.new ≡ string_bytes text.old ++ n5f1_line n faults m) }
+{
+    let quorum = n - faults;
+    writeln!(text, "N5f1 faults {faults} quorum {quorum} m-quorum {m}")
+}

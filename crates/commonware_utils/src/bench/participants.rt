@@ -1,0 +1,61 @@
+//! Participants: their number, order, text and bytes.
+use super::read;
+use crate::codec::{EncodeSize, Error, MaxEncodeSize, Write};
+use crate::{EqClone, Participant};
+use std::test::Fail;
+
+#[test]
+fn participants_are_their_index(rt: HostRuntime) {
+    for index in [0, 1, 42, u32::MAX] {
+        assert_eq!(rt; Participant::new(index).get(), index);
+        assert_eq!(rt;
+            Participant::from_usize(index as usize),
+            Participant::new(index)
+        );
+        assert_eq!(rt; usize::from(Participant::new(index)), index as usize);
+    }
+    assert_eq!(rt; Participant::default().get(), 0);
+    assert!(rt; Participant::new(5) == Participant::new(5));
+    assert!(rt; Participant::new(5) != Participant::new(6));
+    assert!(rt; Participant::new(1) < Participant::new(2));
+}
+
+#[test]
+fn participants_are_shown_in_decimal(rt: HostRuntime) -> Result<(), Fail> {
+    let alloc = rt.alloc();
+    for (index, text) in [
+        (0, "0"),
+        (42, "42"),
+        (1000, "1000"),
+        (4294967295, "4294967295"),
+    ] {
+        let participant = Participant::new(index);
+        assert_eq!(rt; format!(in alloc; "{participant}")?.as_str(), text);
+    }
+    let five = Participant::new(5);
+    assert_eq!(rt; format!(in alloc; "{five:?}")?.as_str(), "Participant(5)");
+    Ok(())
+}
+
+#[test]
+fn participants_are_written_as_varints(rt: HostRuntime) -> Result<(), Fail> {
+    for (index, bytes) in [
+        (0, b"\x00".as_slice()),
+        (1, b"\x01"),
+        (127, b"\x7f"),
+        (128, b"\x80\x01"),
+        (4294967295, b"\xff\xff\xff\xff\x0f"),
+    ] {
+        let participant = Participant::new(index);
+        let mut sink = Vec::new(rt.alloc());
+        participant.write(&mut sink)?;
+        assert_eq!(rt; sink.as_slice(), bytes, "{index}");
+        assert_eq!(rt; participant.encode_size(), bytes.len(), "{index}");
+        assert!(rt; participant.is_writable());
+        let (again, taken) = read::<Participant, _>(rt.alloc(), bytes, &());
+        assert_eq!(rt; again?, participant);
+        assert_eq!(rt; taken, bytes.len());
+    }
+    assert_eq!(rt; Participant::MAX_ENCODE_SIZE, 5);
+    Ok(())
+}
