@@ -7,6 +7,8 @@
 
 pub mod devices;
 pub mod refusing;
+#[cfg(test)]
+mod tests;
 
 pub use devices::{ScriptedReader, ScriptedWriter, WriteFault};
 pub use refusing::Refusing;

@@ -28,6 +28,11 @@ impl<B: Allocator> Refusing<B> {
         }
     }
 
+    /// From now on it grants so many requests and refuses the next one alone, whatever came before.
+    pub fn restart(&self, granted: u64) {
+        self.until.set(granted.saturating_add(1));
+    }
+
     /// Whether the request to refuse has come, and was refused.
     pub fn has_refused(&self) -> bool {
         self.until.get() == 0
