@@ -1,5 +1,5 @@
 //! Each request for memory refused in turn, counting upwards until a run meets no refusal: that one gives the full
-//! result, and every other answers that memory was refused and takes nothing.
+//! result, and every other gives it too or answers that memory was refused, and then leaves all as it was.
 use super::{FOUR, FOUR_REPORT, WHOLE, reader, writer};
 use crate::Refusing;
 use committee_core::{Command, RunError, run};
@@ -12,7 +12,7 @@ use std::test::Fail;
 const ENOUGH: u64 = 1000;
 
 /// A set of three sets.
-const NEST: &[u8; 7] = b"\x03\x00\x01\x07\x02\x01\x02";
+const NEST: &[u8; 7] = b"\x03\x00\x02\x01\x02\x01\x07";
 
 fn nest<A: Allocator + Copy>(alloc: A) -> Result<Set<Set<u8, A>, A>, AllocError> {
     let empty = Set::empty(alloc);
@@ -56,7 +56,7 @@ fn a_refused_write_leaves_the_sink(rt: HostRuntime) -> Result<(), Fail> {
             assert!(rt; written.is_ok());
             assert_eq!(rt;
                 sink.as_slice(),
-                b"\xaa\xbb\xcc\x03\x00\x01\x07\x02\x01\x02".as_slice()
+                b"\xaa\xbb\xcc\x03\x00\x02\x01\x02\x01\x07".as_slice()
             );
             runs = granted;
             break;
@@ -102,13 +102,14 @@ fn a_refused_builder_gives_nothing(rt: HostRuntime) -> Result<(), Fail> {
     let mut runs = 0;
     for granted in 0..ENOUGH {
         let heap = Refusing::after(rt.alloc(), granted);
-        let built = Set::from_iter_dedup(&heap, [5u32, 1, 3, 1, 9]);
+        match Set::from_iter_dedup(&heap, [5u32, 1, 3, 1, 9]) {
+            Ok(set) => assert_eq!(rt; set.as_slice(), [1, 3, 5, 9].as_slice(), "{granted}"),
+            Err(_) => assert!(rt; heap.has_refused(), "{granted}"),
+        }
         if !heap.has_refused() {
-            assert_eq!(rt; built?.as_slice(), [1, 3, 5, 9].as_slice());
             runs = granted;
             break;
         }
-        assert!(rt; built.is_err(), "request {granted}");
     }
     assert!(rt; runs > 1, "{runs}");
     Ok(())
