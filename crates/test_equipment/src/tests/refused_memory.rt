@@ -85,6 +85,7 @@ fn a_refused_read_leaves_the_source(rt: HostRuntime) -> Result<(), Fail> {
             &(any, (any, ())),
         );
         if !heap.has_refused() {
+            heap.restart(u64::MAX);
             assert!(rt; read? == nest(&heap)?);
             assert_eq!(rt; src.remaining(), 0);
             runs = granted;
