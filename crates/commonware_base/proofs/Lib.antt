@@ -1,3 +1,4 @@
 pub mod ListSteps
 pub mod ReadSteps
+pub mod RoundTrip
 pub mod SourceLemmas

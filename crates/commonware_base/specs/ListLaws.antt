@@ -12,7 +12,7 @@ use Rattle.commonware_base.specs.Range.{Bounds, Within}
 use Rattle.commonware_base.specs.RangeLaws.{within_or_not}
 use Rattle.commonware_base.specs.TextLaws.{bytes_append, bytes_right}
 use Rattle.commonware_base.specs.Varint.{varint, varint_fault}
-use Rattle.commonware_base.specs.Lists.{list_enc, IsWritableList, IsAllowedList, HasLengthOutside, HasFaultyItem, ListFault, bad_spelling, bad_length, bad_item, IsListMemoryFree, spelling, outside, empty, first}
+use Rattle.commonware_base.specs.Lists.{list_enc, IsWritableList, IsAllowedList, HasLengthOutside, HasFaultyItem, ListFault, bad_spelling, bad_length, bad_item, list_cut, at_spelling, at_length, at_item, IsListMemoryFree, spelling, outside, empty, first}
 use Rattle.commonware_base.specs.VarintLaws.{varint_split, varint_no_fault, varint_one_fault, varint_or_fault, varint_bytes}
 
 module _ {T : Type 0} (enc : T → List ℕ) (Writable : T → Type 0)
@@ -93,17 +93,30 @@ module _ {T : Type 0} (enc : T → List ℕ) (Writable : T → Type 0)
             let c = varint_split w.count (length xs) _ _ w.short p.short (sym w.begins ∙ e ∙ append_assoc (varint (length xs)) (flat_map enc xs) r) in
             no_fault_among xs w.items r w.rest f (subst (λ n. length w.items < n) c.0 w.fewer) p.each w.writable h.each (sym c.1) w.faulty
 
+        -- two faults of a text are at one cut
+        pub list_one_cut : (s : List ℕ) (f g : Fault) (v : ListFault enc Writable Allowed item_fault range s f) (w : ListFault enc Writable Allowed item_fault range s g) → list_cut v ≡ list_cut w
+        list_one_cut s f g (bad_spelling v) (bad_spelling w) = refl
+        list_one_cut s f g (bad_spelling v) (bad_length m q w) = absurd (varint_no_fault s m w.rest f w.short w.begins v)
+        list_one_cut s f g (bad_spelling v) (bad_item w) = absurd (varint_no_fault s w.count _ f w.short w.begins v)
+        list_one_cut s f g (bad_length n p v) (bad_spelling w) = absurd (varint_no_fault s n v.rest g v.short v.begins w)
+        list_one_cut s f g (bad_length n p v) (bad_length m q w) = refl
+        list_one_cut s f g (bad_length n p v) (bad_item w) = absurd (v.outside (subst (Within range) (varint_split w.count n _ _ w.short v.short (sym w.begins ∙ v.begins)).0 w.in_range))
+        list_one_cut s f g (bad_item v) (bad_spelling w) = absurd (varint_no_fault s v.count _ g v.short v.begins w)
+        list_one_cut s f g (bad_item v) (bad_length m q w) = absurd (w.outside (subst (Within range) (varint_split v.count m _ _ v.short w.short (sym v.begins ∙ w.begins)).0 v.in_range))
+        list_one_cut s f g (bad_item v) (bad_item w) = refl
+
+        -- a text has at most one fault
         pub list_one_fault : (s : List ℕ) (f g : Fault) → ListFault enc Writable Allowed item_fault range s f → ListFault enc Writable Allowed item_fault range s g → f ≡ g
         list_one_fault s f g (bad_spelling v) (bad_spelling w) = varint_one_fault s f g v w
-        list_one_fault s f g (bad_spelling v) (bad_length m q w) = absurd (varint_no_fault s m w.rest f w.short w.begins v)
-        list_one_fault s f g (bad_spelling v) (bad_item w) = absurd (varint_no_fault s w.count _ f w.short w.begins v)
-        list_one_fault s f g (bad_length n p v) (bad_spelling w) = absurd (varint_no_fault s n v.rest g v.short v.begins w)
         list_one_fault s f g (bad_length n p v) (bad_length m q w) = p ∙ ap InvalidLength (varint_split n m _ _ v.short w.short (sym v.begins ∙ w.begins)).0 ∙ sym q
-        list_one_fault s f g (bad_length n p v) (bad_item w) = absurd (v.outside (subst (Within range) (varint_split w.count n _ _ w.short v.short (sym w.begins ∙ v.begins)).0 w.in_range))
-        list_one_fault s f g (bad_item v) (bad_spelling w) = absurd (varint_no_fault s v.count _ g v.short v.begins w)
-        list_one_fault s f g (bad_item v) (bad_length m q w) = absurd (w.outside (subst (Within range) (varint_split v.count m _ _ v.short w.short (sym v.begins ∙ w.begins)).0 v.in_range))
         list_one_fault s f g (bad_item v) (bad_item w) =
             first_fault v.items w.items v.rest w.rest f g v.writable w.writable v.allowed w.allowed (varint_split v.count w.count _ _ v.short w.short (sym v.begins ∙ w.begins)).1 v.faulty w.faulty
+        list_one_fault s f g (bad_spelling v) (bad_length m q w) = let cut : at_spelling ≡ at_length = list_one_cut s f g (bad_spelling v) (bad_length m q w) in absurd (cc)
+        list_one_fault s f g (bad_spelling v) (bad_item w) = let cut : at_spelling ≡ at_item = list_one_cut s f g (bad_spelling v) (bad_item w) in absurd (cc)
+        list_one_fault s f g (bad_length n p v) (bad_spelling w) = let cut : at_length ≡ at_spelling = list_one_cut s f g (bad_length n p v) (bad_spelling w) in absurd (cc)
+        list_one_fault s f g (bad_length n p v) (bad_item w) = let cut : at_length ≡ at_item = list_one_cut s f g (bad_length n p v) (bad_item w) in absurd (cc)
+        list_one_fault s f g (bad_item v) (bad_spelling w) = let cut : at_item ≡ at_spelling = list_one_cut s f g (bad_item v) (bad_spelling w) in absurd (cc)
+        list_one_fault s f g (bad_item v) (bad_length m q w) = let cut : at_item ≡ at_length = list_one_cut s f g (bad_item v) (bad_length m q w) in absurd (cc)
 
         -- Some items, and then a fault, or all of them.
         record Items (n : ℕ) (s : List ℕ) : Type 0 where
@@ -252,6 +265,10 @@ module _ {T : Type 0} (enc : T → List ℕ) (Writable : T → Type 0) (prefix_f
     accepted_no_fault = λ s v r f a. list_accepted_no_fault enc Writable prefix_free Allowed h.allowed_by_bytes item_fault h.one_fault h.accepted_no_fault range s v r f a.writable a.allowed a.begins;
     accepted_or_faulty = list_accepted_or_faulty enc Writable prefix_free Allowed h.allowed_by_bytes item_fault h.one_fault h.accepted_no_fault range h.accepted_or_faulty;
   }
+
+  -- the cuts of a list exclude one another
+  pub list_cuts_exclude : (Allowed : T → Type 0) (item_fault : List ℕ → Fault → Type 0) (range : Bounds ℕ) → ReadLaws enc Writable Allowed item_fault → (s : List ℕ) (f g : Fault) (v : ListFault enc Writable Allowed item_fault range s f) (w : ListFault enc Writable Allowed item_fault range s g) → list_cut v ≡ list_cut w
+  list_cuts_exclude Allowed item_fault range h = list_one_cut enc Writable prefix_free Allowed h.allowed_by_bytes item_fault h.one_fault h.accepted_no_fault range
 
   pub list_canonical : (eq : T → T → Bool) → CanonicalLaws enc Writable eq → CanonicalLaws (list_enc enc) (IsWritableList Writable) (pointwise eq)
   list_canonical eq h = record {

@@ -42,6 +42,18 @@ pub data ListFault {T : Type 0} (enc : T → List ℕ) (Writable Allowed : T →
   bad_length : (count : ℕ) → fault ≡ InvalidLength count → HasLengthOutside range text count → ListFault enc Writable Allowed item_fault range text fault
   bad_item : HasFaultyItem enc Writable Allowed item_fault range text fault → ListFault enc Writable Allowed item_fault range text fault
 
+-- The cuts at which a text that should begin with a list can be faulty.
+pub data ListCut : Type 0 where
+  at_spelling : ListCut
+  at_length : ListCut
+  at_item : ListCut
+
+-- the cut of a fault
+abbrev pub list_cut : {T : Type 0} {enc : T → List ℕ} {Writable Allowed : T → Type 0} {item_fault : List ℕ → Fault → Type 0} {range : Bounds ℕ} {text : List ℕ} {fault : Fault} → ListFault enc Writable Allowed item_fault range text fault → ListCut
+list_cut (bad_spelling w) = at_spelling
+list_cut (bad_length count same w) = at_length
+list_cut (bad_item w) = at_item
+
 -- A list is read or refused with no memory where its length is wrong or 0, or where its first item is refused so.
 pub data IsListMemoryFree (item_fault : List ℕ → Fault → Type 0) (ItemMemoryFree : List ℕ → Type 0) (range : Bounds ℕ) (text : List ℕ) : Type 0 where
   spelling : (fault : Fault) → varint_fault text fault → IsListMemoryFree item_fault ItemMemoryFree range text

@@ -5,6 +5,7 @@
 
 mod config;
 mod error;
+mod laws;
 mod list;
 mod primitives;
 mod source;
@@ -13,7 +14,8 @@ mod varint;
 
 pub use config::RangeCfg;
 pub use error::Error;
+pub use laws::{list_fault_law, round_trip, varint_law};
 pub use list::read_list;
 pub use source::Source;
 pub use traits::{Canonical, EncodeSize, MaxEncodeSize, Read, Write};
-pub use varint::{UInt, varint_law};
+pub use varint::UInt;

@@ -2,20 +2,24 @@
 use Rattle.std.proofs.Common.{◌≡◌, ℕ, zero, suc, ◌+◌, ◌<◌, ◌≤◌, Bool, true, false, cond, List, [], ◌∷◌, ◌++◌, map, length, get_or, refl, sym, ◌∙◌, ap, subst, arith, ◌⊎◌, ⊎_elim, inl, inr}
 use Rattle.std.specs.Prelude.{Option, Some, None}
 use Rattle.std.specs.Option.{option_map}
-use Rattle.std.specs.List.{AllWithin, Contains, find, slice_get}
+use Rattle.std.specs.List.{AllWithin, Contains, dedup, find, slice_get}
+use Rattle.std.specs.List.Retain.{DiffersFromLast, IsFiltered}
 use Rattle.std.specs.List.Sorted.{IsPermutation, IsSorted}
 use Rattle.std.specs.Cmp.{IsEquivalence, IsTotalOrder, Equal-is, eq_by_cmp_equiv}
-use Rattle.std.specs.Ordering.{eq_by_cmp, is_lt, ordering_then, nat_cmp}
+use Rattle.std.specs.Ordering.{eq_by_cmp, is_eq, is_lt, ordering_then, nat_cmp}
 use Rattle.std.specs.declared.cmp.Ordering.{Ordering}
 use Rattle.std.specs.declared.cmp.Ordering.TheVariants.{Less, Equal, Greater}
 use Rattle.std.proofs.lemmas.Cmp.{nat_cmp_total, on_total, then_total}
 use Rattle.std.proofs.lemmas.List.{get_or-map, length-map}
 use Rattle.std.proofs.lemmas.List.Elements.{Contains-append_right}
+use Rattle.std.proofs.lemmas.List.Filters.{dedup_is}
 use Rattle.std.proofs.lemmas.List.Sorted.{sorted_far, ranks_by, Contains-permutation, IsPermutation-sym}
 use Rattle.std.proofs.lemmas.Map.Keys.{ge_from_not_lt}
 use Rattle.std.proofs.lemmas.Option.{same_Some, slice_get_read, slice_get_within, slice_get-get_or}
 use mathlib.Core.Bool.{true≢false}
+use Rattle.commonware_ordered.specs.Dedup.{IsDedup}
 use Rattle.commonware_ordered.proofs.First.{contains_cases, contains_head, find_congr, find_from_kept, found_if_passes, found_is_in, found_passes}
+use Rattle.commonware_ordered.proofs.Sorted.{IsDedup_from_sorted}
 
 -- the items of xs, each with its position, counted from n
 abbrev pub placed : {X : Type 0} → ℕ → List X → List (X × ℕ)
@@ -106,7 +110,7 @@ module _ {X : Type 0} {cmp : X → X → Ordering} (o : IsTotalOrder cmp) where
   not_less Greater e h = refl
 
   -- the items of sorted pairs are sorted
-  pub sorted_items : (ps : List (X × ℕ)) → IsSorted by_place ps → IsSorted cmp (map (λ p. p.0) ps)
+  sorted_items : (ps : List (X × ℕ)) → IsSorted by_place ps → IsSorted cmp (map (λ p. p.0) ps)
   sorted_items ps s k d low high =
       let within : k + 1 < length ps = omega (arith, length-map ps (λ (p : X × ℕ). p.0)) in
       let here : k < length ps = omega arith in
@@ -115,7 +119,7 @@ module _ {X : Type 0} {cmp : X → X → Ordering} (o : IsTotalOrder cmp) where
       ∙ not_less (cmp (get_or ps (k + 1) (d, 0)).0 (get_or ps k (d, 0)).0) (nat_cmp (get_or ps (k + 1) (d, 0)).1 (get_or ps k (d, 0)).1) (s k (d, 0) low within))
 
   -- a sort of the items of a list, each with its position, leaves the first of equals first
-  pub find_sorted : (l : List X) (ps : List (X × ℕ)) → IsPermutation (placed 0 l) ps → IsSorted by_place ps → (q : X) → find (eq_by_cmp cmp q) (map (λ p. p.0) ps) ≡ find (eq_by_cmp cmp q) l
+  find_sorted : (l : List X) (ps : List (X × ℕ)) → IsPermutation (placed 0 l) ps → IsSorted by_place ps → (q : X) → find (eq_by_cmp cmp q) (map (λ p. p.0) ps) ≡ find (eq_by_cmp cmp q) l
   find_sorted l ps perm sorted q = find-map (λ p. p.0) (eq_by_cmp cmp q) ps ∙ go (find (λ p. eq_by_cmp cmp q p.0) ps) refl
     where
       laws : IsEquivalence (eq_by_cmp cmp)
@@ -149,3 +153,9 @@ module _ {X : Type 0} {cmp : X → X → Ordering} (o : IsTotalOrder cmp) where
       go (Some m) e =
           let a = placed_at 0 l m (Contains-permutation ps (placed 0 l) m (IsPermutation-sym (placed 0 l) ps perm) (found_is_in (λ p. eq_by_cmp cmp q p.0) ps m e)) in
           sym (find_congr laws q m.0 l (found_passes (λ p. eq_by_cmp cmp q p.0) ps m e) ∙ find_from_kept laws l m.0 a.0 a.2 (before m e a.0 a.1 a.2))
+
+  -- the pairs are sorted, and equal neighbours are removed from their items: what is left is the set of the list
+  pub IsDedup_by_place : {eq : X → X → Bool} → ((x y : X) → eq x y ≡ is_eq (cmp x y)) → (xs : List X) (before after : List (X × ℕ)) (items set : List X) → before ≡ placed 0 xs → IsPermutation before after → IsSorted by_place after → items ≡ map (λ p. p.0) after → IsFiltered (DiffersFromLast eq) [] items set → IsDedup eq cmp xs set
+  IsDedup_by_place {eq} ties xs before after items set paired perm sorted taken left =
+      subst (IsDedup eq cmp xs) (sym (dedup_is eq items set left ∙ ap (dedup eq) taken))
+      (IsDedup_from_sorted o ties xs (map (λ p. p.0) after) (find_sorted xs after (subst (λ l. IsPermutation l after) paired perm) sorted) (sorted_items after sorted))

@@ -81,12 +81,6 @@ impl Canonical for UInt {
     ghost canonical = { canonical_on (λ v. v.0) varint IsWord ◌==◌ number_canonical };
 }
 
-/// Each number below 2^32 has one spelling as a varint, the one that is written, and no other number has it.
-pub fn varint_law()
-    ensures spelled { (n : ℕ) → n < 2 ^ 32 → IsVarint n (varint n) }
-    ensures only { (n : ℕ) (bytes : List ℕ) → IsVarint n bytes → bytes ≡ varint n }
-{}
-
 /// How many bytes spell the number.
 pub(crate) fn varint_size(number: u32) -> usize
     ensures size { result ≡ length (varint number) }

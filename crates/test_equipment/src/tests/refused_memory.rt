@@ -3,9 +3,9 @@
 use super::{FOUR, FOUR_REPORT, WHOLE, reader, writer};
 use crate::Refusing;
 use committee_core::{Command, RunError, run};
-use commonware_utils::codec::{Error, RangeCfg, Read, Source, Write};
+use commonware_utils::codec::{EncodeSize, Error, RangeCfg, Read, Source, Write};
 use commonware_utils::ordered::Set;
-use std::alloc::{AllocError, Allocator, Global};
+use std::alloc::{AllocError, Global};
 use std::test::Fail;
 
 /// More requests than any call of these tests makes.
@@ -14,11 +14,13 @@ const ENOUGH: u64 = 1000;
 /// A set of three sets.
 const NEST: &[u8; 7] = b"\x03\x00\x02\x01\x02\x01\x07";
 
-fn nest<A: Allocator + Copy>(alloc: A) -> Result<Set<Set<u8, A>, A>, AllocError> {
-    let empty = Set::empty(alloc);
-    let one = Set::from_iter_dedup(alloc, [7u8])?;
-    let two = Set::from_iter_dedup(alloc, [2u8, 1, 2])?;
-    Set::from_iter_dedup(alloc, [two, one, empty])
+fn nest(
+    heap: &Refusing<Global>,
+) -> Result<Set<Set<u8, &Refusing<Global>>, &Refusing<Global>>, AllocError> {
+    let empty = Set::empty(heap);
+    let one = Set::from_iter_dedup(heap, [7u8])?;
+    let two = Set::from_iter_dedup(heap, [2u8, 1, 2])?;
+    Set::from_iter_dedup(heap, [two, one, empty])
 }
 
 #[test]
@@ -46,6 +48,7 @@ fn a_run_writes_nothing_without_memory(rt: HostRuntime) {
 fn a_refused_write_leaves_the_sink(rt: HostRuntime) -> Result<(), Fail> {
     let heap = Refusing::after(rt.alloc(), u64::MAX);
     let set = nest(&heap)?;
+    assert!(rt; set.is_writable());
     let mut runs = 0;
     for granted in 0..ENOUGH {
         heap.restart(u64::MAX);

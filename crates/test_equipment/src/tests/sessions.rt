@@ -1,5 +1,5 @@
 //! What a session writes, says and answers.
-use super::{FOUR, FOUR_REPORT, WHOLE, reader, words_of, writer};
+use super::{FOUR, FOUR_REPORT, WHOLE, failing_reader, failing_writer, reader, words_of, writer};
 use crate::{ScriptedWriter, WriteFault};
 use committee_core::{Command, parse_args, session};
 use std::io::ErrorKind;
@@ -98,26 +98,26 @@ fn other_words_get_the_usage_line(rt: HostRuntime) -> Result<(), Fail> {
 }
 
 #[test]
-fn failed_devices_give_status_3(rt: HostRuntime) -> Result<(), Fail> {
-    let alloc = rt.alloc();
-    let words = words_of(alloc, &["read"])?;
-    let mut input = super::failing_reader(b"\x04", ErrorKind::BrokenPipe);
-    let mut output = writer(alloc, WHOLE);
-    let mut errors: Vec<u8> = Vec::new(alloc);
-    let status = session(alloc, &words, &mut input, &mut output, &mut errors);
-    assert_eq!(rt;
-        (status, errors.as_slice()),
-        (3, b"failed: read\n".as_slice())
-    );
+fn a_failed_reader_gives_status_3(rt: HostRuntime) -> Result<(), Fail> {
+    let words = words_of(rt.alloc(), &["read"])?;
+    let mut input = failing_reader(b"\x04", ErrorKind::BrokenPipe);
+    let mut output = writer(rt.alloc(), WHOLE);
+    let mut errors: Vec<u8> = Vec::new(rt.alloc());
+    let status = session(rt.alloc(), &words, &mut input, &mut output, &mut errors);
+    assert_eq!(rt; status, 3);
+    assert_eq!(rt; errors.as_slice(), b"failed: read\n".as_slice());
+    Ok(())
+}
 
+#[test]
+fn a_failed_writer_gives_status_3(rt: HostRuntime) -> Result<(), Fail> {
+    let words = words_of(rt.alloc(), &["read"])?;
     let mut input = reader(FOUR, WHOLE);
-    let mut output = super::failing_writer(alloc, WHOLE, 0, WriteFault::TakesNothing);
-    let mut errors: Vec<u8> = Vec::new(alloc);
-    let status = session(alloc, &words, &mut input, &mut output, &mut errors);
-    assert_eq!(rt;
-        (status, errors.as_slice()),
-        (3, b"failed: write\n".as_slice())
-    );
+    let mut output = failing_writer(rt.alloc(), WHOLE, 0, WriteFault::TakesNothing);
+    let mut errors: Vec<u8> = Vec::new(rt.alloc());
+    let status = session(rt.alloc(), &words, &mut input, &mut output, &mut errors);
+    assert_eq!(rt; status, 3);
+    assert_eq!(rt; errors.as_slice(), b"failed: write\n".as_slice());
     Ok(())
 }
 

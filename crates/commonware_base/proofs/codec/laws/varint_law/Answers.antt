@@ -1,5 +1,5 @@
 use Rattle.commonware_base.specs.VarintLaws.{varint_is, varint_only}
-use Rattle.commonware_base.proofs.codec.varint.varint_law.Goals as goal
+use Rattle.commonware_base.proofs.codec.laws.varint_law.Goals as goal
 
 pub returns-clause-spelled : goal.returns-clause-spelled
 returns-clause-spelled c = varint_is

@@ -1,0 +1,29 @@
+-- What was written is read again.
+use Rattle.std.proofs.Common.{◌≡◌, ℕ, List, [], ◌++◌, Bool, true, refl, sym, ◌∙◌}
+use Rattle.std.proofs.lemmas.List.{append-nil}
+use Rattle.commonware_base.specs.Fault.{Fault}
+use Rattle.commonware_base.specs.Fault as faults
+use Rattle.commonware_base.specs.Refusal.{Refuses}
+use Rattle.commonware_base.specs.Text.{Accepts, IsPrefixFree, ReadLaws, CanonicalLaws}
+use Rattle.commonware_base.specs.declared.codec.error.Error.{Error}
+use Rattle.commonware_base.specs.declared.codec.error.Error.TheVariants.{EndOfBuffer, InvalidVarint, InvalidLength, Invalid, Memory}
+
+module _ {T : Type 0} (enc : T → List ℕ) (Writable Allowed : T → Type 0) (value : T) (text : List ℕ) (writable : Writable value) (written : text ≡ enc value) where
+  -- what is accepted of the bytes of a value equals it
+  pub equal_again : (eq : T → T → Bool) → IsPrefixFree enc Writable → CanonicalLaws enc Writable eq → (again : T) (rest : List ℕ) → Accepts enc Writable Allowed text again rest → eq again value ≡ true
+  equal_again eq prefix_free canonical again rest a =
+      let same : enc again ++ rest ≡ enc value ++ [] = sym a.begins ∙ written ∙ sym (append-nil (enc value)) in
+      (canonical.equal_by_bytes again value a.writable writable).1 (prefix_free again value rest [] a.writable writable same)
+
+  module _ (HasFault : List ℕ → Fault → Type 0) (laws : ReadLaws enc Writable Allowed HasFault) (allowed : Allowed value) where
+    -- the bytes of an allowed value have no fault
+    no_fault : (f : Fault) → HasFault text f → ⊥
+    no_fault f h = laws.accepted_no_fault text value [] f (record { writable = writable; allowed = allowed; begins = written ∙ sym (append-nil (enc value)) }) h
+
+    -- so they are refused for memory alone
+    pub only_memory : (free : Type 0) (error : Error) → Refuses (HasFault text) free error → error ≡ Memory
+    only_memory free EndOfBuffer h = absurd (no_fault faults.EndOfBuffer h)
+    only_memory free InvalidVarint h = absurd (no_fault faults.InvalidVarint h)
+    only_memory free (InvalidLength n) h = absurd (no_fault (faults.InvalidLength n) h)
+    only_memory free (Invalid what why) h = absurd (no_fault (faults.Invalid what.now why.now) h)
+    only_memory free Memory h = refl

@@ -1,0 +1,48 @@
+//! Laws of the byte forms, each the contract of a call that a proof can cite.
+ghost use Rattle.std.specs.Prelude.{◌≡◌, ℕ, ◌<◌, ◌^◌, List, true, IfOk, IfErr};
+ghost use Rattle.commonware_base.specs.Fault.{Fault};
+ghost use Rattle.commonware_base.specs.Lists.{ListFault, list_cut};
+ghost use Rattle.commonware_base.specs.Varint.{IsVarint, varint};
+
+use crate::codec::config::RangeCfg;
+use crate::codec::error::Error;
+use crate::codec::source::Source;
+use crate::codec::traits::{Canonical, Read, Write};
+use std::alloc::Allocator;
+
+/// Each number below 2^32 has one spelling as a varint, the one that is written, and no other number has it.
+pub fn varint_law()
+    ensures spelled { (n : ℕ) → n < 2 ^ 32 → IsVarint n (varint n) }
+    ensures only { (n : ℕ) (bytes : List ℕ) → IsVarint n bytes → bytes ≡ varint n }
+{}
+
+/// The cuts at which a text is no list exclude one another: no text is faulty at two of them.
+pub fn list_fault_law<T: Read<A>, A: Allocator>(alloc: A, range: RangeCfg<usize>, item: &T::Cfg)
+    ensures { (s : List ℕ) (f g : Fault)
+        (v : ListFault T.enc T.writable (T.allowed item.now) (T.fault item.now) range s f)
+        (w : ListFault T.enc T.writable (T.allowed item.now) (T.fault item.now) range s g)
+        → list_cut v ≡ list_cut w }
+{
+    let _ = (alloc, range);
+}
+
+/// Writes a value and reads it again: an equal value, or `Memory`.
+///
+/// The value is writable, and the configuration allows it.
+pub fn round_trip<T: Read<A> + Write<A> + Canonical, A: Allocator + Copy>(
+    alloc: A,
+    value: &T,
+    cfg: &T::Cfg,
+) -> Result<T, Error>
+    requires writable { T.writable value.now }
+    requires allowed { T.allowed cfg.now value.now }
+    ensures equal { IfOk result (λ again. T.eq again value.now ≡ true) }
+    ensures memory { IfErr result (λ error. error ≡ Error.Memory) }
+{
+    let mut sink = Vec::new(alloc);
+    if value.write(&mut sink).is_err() {
+        return Err(Error::Memory);
+    }
+    let mut src = Source::new(&sink);
+    T::read_cfg(alloc, &mut src, cfg)
+}
