@@ -1,5 +1,5 @@
 //! What the words after the program's name ask for.
-ghost use Rattle.std.specs.Prelude.{◌≡◌, ◌↔◌, Some, List, map, string_bytes, IfSome, IfNone};
+ghost use Rattle.std.specs.Prelude.{◌≡◌, Some, map, string_bytes, IfSome, IfNone};
 ghost use Rattle.committee_core.specs.Command.{IsAskedFor};
 
 use std::alloc::Allocator;

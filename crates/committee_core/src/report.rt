@@ -2,12 +2,14 @@
 //!
 //! Each line has a function of its own, which appends it.
 ghost use Rattle.std.specs.Prelude.{◌≡◌, ◌^◌, ◌<◌, ◌≤◌, ◌++◌, length, OnOk, IfOk, string_bytes};
-ghost use Rattle.committee_core.specs.Report.{IsMembersReport, members_line, member_line, n3f1_line, n5f1_line};
+ghost use Rattle.committee_core.specs.Report.{IsMembersReport, members_line, member_line};
+ghost use Rattle.committee_core.specs.Report.{n3f1_line, n5f1_line};
 
 use crate::faults::{m_quorum, n3f1_faults, n5f1_faults};
 use std::alloc::{AllocError, Allocator};
 
-/// The report on the members: how many, each with its position, and the numbers of the fault models.
+/// The report on the members: how many they are, each with its position, and the numbers of the
+/// fault models.
 pub(crate) fn committee_report<A: Allocator>(
     alloc: A,
     members: &[u8],
@@ -43,7 +45,8 @@ fn write_member<A: Allocator>(
     position: usize,
     item: u8,
 ) -> Result<(), AllocError>
-    ensures { OnOk result (string_bytes text.new ≡ string_bytes text.old ++ member_line position item) }
+    ensures { OnOk result
+        (string_bytes text.new ≡ string_bytes text.old ++ member_line position item) }
 {
     writeln!(text, "{position} {item}")
 }

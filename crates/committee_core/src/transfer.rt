@@ -1,8 +1,8 @@
 //! All the bytes of a reader, and all the bytes to a writer.
 //!
-//! Each call of the device is made once: an interrupted call is a failure like every other, and is not made again.
-ghost use Rattle.std.specs.Prelude.{◌≡◌, ◌≢◌, ◌++◌, ℕ, List, true, Err, OnOk, OnErr, IfOk, IfErr};
-ghost use Rattle.std.specs.Io.KnownBytes.{Appends, Consumes};
+//! No call that fails is made again: an interrupted one is a failure like every other.
+ghost use Rattle.std.specs.Prelude.{◌≡◌, ◌≢◌, true, Err, OnOk, IfOk, IfErr};
+ghost use Rattle.std.specs.Io.KnownBytes.{Appends};
 ghost use Rattle.committee_core.specs.Run.{Gave};
 
 use crate::error::RunError;
@@ -29,8 +29,6 @@ pub(crate) fn read_all<A: Allocator, R: Read>(
     ensures memory { result ≡ Err RunError.Memory → input.new.failed ≡ input.old.failed }
     ensures failed { IfErr result (λ e. e ≢ RunError.Memory
         → (e ≡ RunError.ReadFailed) × (input.new.failed ≡ true)) }
-    ensures taken { OnErr result ((s : List ℕ)
-        × Consumes (R.remaining input.old.inner) (R.remaining input.new.inner) s) }
 {
     let mut bytes = Vec::new(alloc);
     let mut chunk = [0u8; CHUNK];
@@ -50,8 +48,7 @@ pub(crate) fn read_all<A: Allocator, R: Read>(
 
 /// Writes all the bytes, and flushes.
 ///
-/// The error is `WriteFailed`, at the first write that fails or takes none, or at the flush. What was written then is
-/// a beginning of the bytes.
+/// The error is `WriteFailed`, at the first write that fails or takes none, or at the flush.
 pub(crate) fn write_whole<W: Write>(output: &mut Watched<W>, bytes: &[u8]) -> Result<(), RunError>
     ensures bytes { OnOk result
         (Appends (W.contents output.old.inner) (W.contents output.new.inner) bytes.now) }
@@ -59,8 +56,6 @@ pub(crate) fn write_whole<W: Write>(output: &mut Watched<W>, bytes: &[u8]) -> Re
 
     // Where it gives up.
     ensures failed { IfErr result (λ e. (e ≡ RunError.WriteFailed) × (output.new.failed ≡ true)) }
-    ensures begun { OnErr result ((gone : List ℕ) × ((rest : List ℕ) × (bytes.now ≡ gone ++ rest)
-        × Appends (W.contents output.old.inner) (W.contents output.new.inner) gone)) }
 {
     let mut rest = bytes;
     while !rest.is_empty() {

@@ -8,9 +8,11 @@ use std::io;
 use std::io::{Read, Write};
 use std::marker::Model;
 
-/// A reader or a writer that remembers whether a call has failed, and whether its last read was at the end.
+/// A reader or a writer that remembers whether a call has failed, and whether its last read was at
+/// the end.
 ///
-/// Each call is passed on to the inner reader or writer once, and its answer is given back as it is.
+/// Each call is passed on to the inner reader or writer, once, and its answer is given back as it
+/// is.
 #[derive(Drop)]
 pub struct Watched<S> {
     inner: S,
@@ -92,12 +94,14 @@ impl<S: Read> Read for Watched<S> {
 impl<S: Write> Write for Watched<S> {
     ghost contents = { λ w. S.contents w.inner };
 
-    /// Writes to the inner writer, once, and remembers an error, and that none of some bytes was taken.
+    /// Writes to the inner writer, once, and remembers an error, and that none of some bytes was
+    /// taken.
     fn write(&mut self, buf: &[u8]) -> io::Result<usize>
         ensures bound { WritesAtMost result buf.now }
         ensures bytes { WriteAppends (S.contents self.old.inner) (S.contents self.new.inner)
             result buf.now }
-        ensures failed { self.new.failed ≡ (self.old.failed || is_failed_write (length buf.now) result) }
+        ensures failed { self.new.failed
+            ≡ (self.old.failed || is_failed_write (length buf.now) result) }
         ensures ended { self.new.ended ≡ self.old.ended }
     {
         let result = self.inner.write(buf);
