@@ -5,6 +5,7 @@ ghost use Rattle.std.proofs.Common.{ap};
 ghost use Rattle.std.proofs.lemmas.Cmp.{int_eq_equiv, nat_eq_equiv, nat_list_eq_equiv};
 ghost use Rattle.commonware_base.specs.Clones.{equal_from_all_zip, equal_from_same};
 
+use crate::codec::UInt;
 use std::alloc::Allocator;
 
 /// A type whose clones equal their source.
@@ -74,4 +75,8 @@ impl<A: Allocator + Clone> EqClone for String<A> {
 
 impl<T: EqClone, A: Allocator + Clone> EqClone for Vec<T, A> {
     ghost clones_are_equal = { λ x y copied. equal_from_all_zip T.is_clone T.clones_are_equal x.items y.items copied.0 };
+}
+
+impl EqClone for UInt {
+    ghost clones_are_equal = { λ x y same. equal_from_same nat_eq_equiv x.0 y.0 (ap (λ v. v.0) same) };
 }

@@ -1,6 +1,8 @@
 //! The worked rows and vectors, through the facade: a file a subject, a table a kind.
 ghost use Rattle.std.specs.Prelude.{IfOk, ◌≡◌, OnErr};
 
+mod clones;
+mod labelled;
 mod lists;
 mod numbers;
 mod participants;
@@ -16,7 +18,8 @@ fn read<T: Read<A>, A: Allocator + Copy>(
     bytes: &[u8],
     cfg: &T::Cfg,
 ) -> (Result<T, Error>, usize)
-    ensures { IfOk result.0 T.writable }
+    ensures writable { IfOk result.0 T.writable }
+    ensures allowed { IfOk result.0 (T.allowed cfg.now) }
 {
     let mut src = Source::new(bytes);
     let result = T::read_cfg(alloc, &mut src, cfg);

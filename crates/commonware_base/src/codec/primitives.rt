@@ -8,10 +8,10 @@ ghost use Rattle.commonware_base.specs.Words.{IsWord, four_bytes, four_fault, fo
 ghost use Rattle.commonware_base.specs.Numbers.{NumberFault, number_prefix_free, number_laws, number_canonical};
 ghost use Rattle.commonware_base.specs.Range.{Within};
 
-use crate::codec::traits::{Canonical, EncodeSize, MaxEncodeSize, Read, Write};
-use crate::codec::error::Error;
 use crate::codec::config::RangeCfg;
+use crate::codec::error::Error;
 use crate::codec::source::Source;
+use crate::codec::traits::{Canonical, EncodeSize, MaxEncodeSize, Read, Write};
 use crate::codec::varint::{UInt, read_varint, varint_size};
 use std::alloc::{AllocError, Allocator};
 

@@ -1,9 +1,10 @@
 //! Participants: their number, order, text and bytes.
 use super::read;
+use crate::Participant;
 use crate::codec::{EncodeSize, Error, MaxEncodeSize, Write};
-use crate::{EqClone, Participant};
 use std::test::Fail;
 
+/// With the test of the Rust crate `test_participant_constructors`.
 #[test]
 fn participants_are_their_index(rt: HostRuntime) {
     for index in [0, 1, 42, u32::MAX] {
@@ -15,11 +16,9 @@ fn participants_are_their_index(rt: HostRuntime) {
         assert_eq!(rt; usize::from(Participant::new(index)), index as usize);
     }
     assert_eq!(rt; Participant::default().get(), 0);
-    assert!(rt; Participant::new(5) == Participant::new(5));
-    assert!(rt; Participant::new(5) != Participant::new(6));
-    assert!(rt; Participant::new(1) < Participant::new(2));
 }
 
+/// With the test of the Rust crate `test_participant_display`.
 #[test]
 fn participants_are_shown_in_decimal(rt: HostRuntime) -> Result<(), Fail> {
     let alloc = rt.alloc();
@@ -53,9 +52,40 @@ fn participants_are_written_as_varints(rt: HostRuntime) -> Result<(), Fail> {
         assert_eq!(rt; participant.encode_size(), bytes.len(), "{index}");
         assert!(rt; participant.is_writable());
         let (again, taken) = read::<Participant, _>(rt.alloc(), bytes, &());
-        assert_eq!(rt; again?, participant);
+        assert!(rt;
+            matches!(again, Ok(again) if again == participant),
+            "{index}"
+        );
         assert_eq!(rt; taken, bytes.len());
     }
     assert_eq!(rt; Participant::MAX_ENCODE_SIZE, 5);
     Ok(())
+}
+
+/// The test of the Rust crate `test_participant_encode_decode`.
+#[test]
+fn participant_encode_decode(rt: HostRuntime) -> Result<(), Fail> {
+    for value in [0u32, 1, 127, 128, 255, 256, u32::MAX] {
+        let participant = Participant::new(value);
+        assert!(rt; participant.is_writable());
+        let mut encoded = Vec::new(rt.alloc());
+        participant.write(&mut encoded)?;
+        assert_eq!(rt; encoded.len(), participant.encode_size(), "{value}");
+        let (decoded, taken) = read::<Participant, _>(rt.alloc(), &encoded, &());
+        assert!(rt;
+            matches!(decoded, Ok(again) if again == participant),
+            "{value}"
+        );
+        assert_eq!(rt; taken, encoded.len(), "{value}");
+    }
+    Ok(())
+}
+
+/// The test of the Rust crate `test_participant_ordering`.
+#[test]
+fn participant_ordering(rt: HostRuntime) {
+    assert!(rt; Participant::new(0) < Participant::new(1));
+    assert!(rt; Participant::new(5) < Participant::new(10));
+    assert!(rt; Participant::new(10) > Participant::new(5));
+    assert_eq!(rt; Participant::new(42), Participant::new(42));
 }

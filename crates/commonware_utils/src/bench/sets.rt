@@ -1,8 +1,11 @@
 //! Sets: what is built, written and read.
 use super::read;
 use crate::Participant;
-use crate::codec::{EncodeSize, Error, RangeCfg, Write};
+use crate::codec::{EncodeSize, Error, RangeCfg, Write, round_trip};
 use crate::ordered::Set;
+use std::alloc::{AllocError, Allocator};
+use std::cmp::Ordering;
+use std::hash::{DefaultHasher, Hash, Hasher};
 use std::test::Fail;
 
 const UNSORTED: Error = Error::Invalid("Set", "items must be sorted and unique");
@@ -32,48 +35,63 @@ fn the_empty_set_holds_nothing(rt: HostRuntime) {
     assert_eq!(rt; (set.len(), set.get(0)), (0, None));
 }
 
+/// Whether the value is written as these bytes, and its size is their number.
+fn is_written_as<T: Write<A>, A: Allocator>(
+    alloc: A,
+    value: &T,
+    bytes: &[u8],
+) -> Result<bool, AllocError> {
+    let mut sink = Vec::new(alloc);
+    if !value.is_writable() {
+        return Ok(false);
+    }
+    value.write(&mut sink)?;
+    Ok(sink.as_slice() == bytes && value.encode_size() == bytes.len())
+}
+
 #[test]
 fn sets_are_written_as_their_lists(rt: HostRuntime) -> Result<(), Fail> {
     let alloc = rt.alloc();
-    let mut sink = Vec::new(alloc);
-    let set = Set::from_iter_dedup(alloc, [3u8, 1, 2, 1])?;
-    set.write(&mut sink)?;
-    assert_eq!(rt; sink.as_slice(), b"\x03\x01\x02\x03".as_slice());
-    assert_eq!(rt; set.encode_size(), 4);
-    assert!(rt; set.is_writable());
-    let empty: Set<u8, _> = Set::empty(alloc);
-    empty.write(&mut sink)?;
-    Set::from_iter_dedup(alloc, [256u32, 1])?.write(&mut sink)?;
-    Set::from_iter_dedup(alloc, [Participant::new(300), Participant::new(1)])?.write(&mut sink)?;
-    let bytes = b"\x03\x01\x02\x03\x00\x02\x00\x00\x00\x01\x00\x00\x01\x00\x02\x01\xac\x02";
-    assert_eq!(rt; sink.as_slice(), bytes.as_slice());
+    let three = Set::from_iter_dedup(alloc, [3u8, 1, 2, 1])?;
+    assert!(rt; is_written_as(alloc, &three, b"\x03\x01\x02\x03")?);
+    let none: Set<u8, _> = Set::empty(alloc);
+    assert!(rt; is_written_as(alloc, &none, b"\x00")?);
+    let words = Set::from_iter_dedup(alloc, [256u32, 1])?;
+    assert!(rt; is_written_as(alloc, &words, b"\x02\x00\x00\x00\x01\x00\x00\x01\x00")?);
+    let indices = Set::from_iter_dedup(alloc, [Participant::new(300), Participant::new(1)])?;
+    assert!(rt; is_written_as(alloc, &indices, b"\x02\x01\xac\x02")?);
     Ok(())
 }
 
 #[test]
 fn texts_that_are_no_set_are_refused(rt: HostRuntime) {
-    let any = RangeCfg::from(..);
-    let few = RangeCfg::from(0..=10);
-    for (range, bytes, error) in [
-        (
-            any,
-            b"\x83\x00\x01\x02\x03".as_slice(),
-            Error::InvalidVarint,
-        ),
-        (any, b"\xff\xff\xff\xff\x10", Error::InvalidVarint),
-        (any, b"\xff\xff\xff\xff", Error::EndOfBuffer),
-        (any, b"", Error::EndOfBuffer),
-        (any, b"\xff\xff\xff\xff\x0f\x01", Error::EndOfBuffer),
-        (few, b"\x04\x01\x03\x02\x04", UNSORTED),
-        (few, b"\x04\x01\x02\x02\x03", UNSORTED),
-        (few, b"\x03\x02\x01", Error::EndOfBuffer),
-        (few, b"\x0b", Error::InvalidLength(11)),
-        (RangeCfg::from(3..2), b"\x00", Error::InvalidLength(0)),
+    for (bytes, error) in [
+        (b"\x83\x00\x01\x02\x03".as_slice(), Error::InvalidVarint),
+        (b"\xff\xff\xff\xff\x10", Error::InvalidVarint),
+        (b"\xff\xff\xff\xff", Error::EndOfBuffer),
+        (b"", Error::EndOfBuffer),
+        (b"\xff\xff\xff\xff\x0f\x01", Error::EndOfBuffer),
     ] {
-        let (result, taken) = read::<Set<u8, _>, _>(rt.alloc(), bytes, &(range, ()));
+        let any = RangeCfg::from(..);
+        let (result, taken) = read::<Set<u8, _>, _>(rt.alloc(), bytes, &(any, ()));
         assert_eq!(rt; result.err(), Some(error), "{bytes:?}");
         assert_eq!(rt; taken, 0, "{bytes:?}");
     }
+    for (bytes, error) in [
+        (b"\x04\x01\x03\x02\x04".as_slice(), UNSORTED),
+        (b"\x04\x01\x02\x02\x03", UNSORTED),
+        (b"\x03\x02\x01", Error::EndOfBuffer),
+        (b"\x0b", Error::InvalidLength(11)),
+    ] {
+        let few = RangeCfg::from(0..=10);
+        let (result, taken) = read::<Set<u8, _>, _>(rt.alloc(), bytes, &(few, ()));
+        assert_eq!(rt; result.err(), Some(error), "{bytes:?}");
+        assert_eq!(rt; taken, 0, "{bytes:?}");
+    }
+    let none = RangeCfg::from(3..2);
+    let (result, taken) = read::<Set<u8, _>, _>(rt.alloc(), b"\x00", &(none, ()));
+    assert_eq!(rt; result.err(), Some(Error::InvalidLength(0)));
+    assert_eq!(rt; taken, 0);
 }
 
 #[test]
@@ -82,5 +100,126 @@ fn what_follows_a_set_is_left(rt: HostRuntime) -> Result<(), Fail> {
     let (set, taken) = read::<Set<u8, _>, _>(rt.alloc(), b"\x02\x05\x09\xff\xff", &(any, ()));
     assert_eq!(rt; set?.as_slice(), [5, 9].as_slice());
     assert_eq!(rt; taken, 3);
+    Ok(())
+}
+
+#[test]
+fn sets_of_sets_are_written_and_read(rt: HostRuntime) -> Result<(), Fail> {
+    let alloc = rt.alloc();
+    let any = RangeCfg::from(..);
+    let none = Set::empty(alloc);
+    let one = Set::from_iter_dedup(alloc, [1u8])?;
+    let both = Set::from_iter_dedup(alloc, [2u8, 1])?;
+    let two = Set::from_iter_dedup(alloc, [2u8])?;
+    let nest = Set::from_iter_dedup(alloc, [two, both, one, none])?;
+    let bytes = b"\x04\x00\x01\x01\x02\x01\x02\x01\x02";
+    assert!(rt; is_written_as(alloc, &nest, bytes)?);
+    let (again, taken) = read::<Set<Set<u8, _>, _>, _>(alloc, bytes, &(any, (any, ())));
+    assert!(rt; again? == nest);
+    assert_eq!(rt; taken, 9);
+    Ok(())
+}
+
+#[test]
+fn the_first_fault_of_a_nest_is_named(rt: HostRuntime) {
+    let any = RangeCfg::from(..);
+    for bytes in [
+        b"\x01\x02\x02\x01".as_slice(),
+        b"\x02\x01\x05\x00",
+        b"\x02\x02\x07\x07\x80",
+    ] {
+        let cfg = (any, (any, ()));
+        let (result, taken) = read::<Set<Set<u8, _>, _>, _>(rt.alloc(), bytes, &cfg);
+        assert_eq!(rt; result.err(), Some(UNSORTED), "{bytes:?}");
+        assert_eq!(rt; taken, 0, "{bytes:?}");
+    }
+    let cfg = (any, (RangeCfg::from(..=1), ()));
+    let (result, taken) = read::<Set<Set<u8, _>, _>, _>(rt.alloc(), b"\x02\x00\x02", &cfg);
+    assert_eq!(rt; result.err(), Some(Error::InvalidLength(2)));
+    assert_eq!(rt; taken, 0);
+}
+
+#[test]
+fn sets_nest_three_deep(rt: HostRuntime) -> Result<(), Fail> {
+    let alloc = rt.alloc();
+    let any = RangeCfg::from(..);
+    let bytes = b"\x02\x00\x02\x00\x01\x07\xff";
+    let cfg = (any, (any, (any, ())));
+    let (nest, taken) = read::<Set<Set<Set<u8, _>, _>, _>, _>(alloc, bytes, &cfg);
+    let nest = nest?;
+    assert_eq!(rt; (nest.len(), taken), (2, 6));
+    let again = round_trip(alloc, &nest, &cfg);
+    assert!(rt; again? == nest);
+    Ok(())
+}
+
+#[test]
+fn sets_are_ordered_as_their_lists(rt: HostRuntime) -> Result<(), Fail> {
+    let alloc = rt.alloc();
+    let short = Set::from_iter_dedup(alloc, [1u8, 2])?;
+    let long = Set::from_iter_dedup(alloc, [1u8, 2, 3])?;
+    assert!(rt; short < long);
+    assert_eq!(rt; short.cmp(&long), Ordering::Less);
+    let high = Set::from_iter_dedup(alloc, [2u8])?;
+    let low = Set::from_iter_dedup(alloc, [1u8, 9])?;
+    assert!(rt; high > low);
+    assert!(rt; short != high && short == Set::from_iter_dedup(alloc, [2u8, 1, 2])?);
+    Ok(())
+}
+
+#[test]
+fn equal_sets_hash_alike(rt: HostRuntime) -> Result<(), Fail> {
+    let alloc = rt.alloc();
+    let mut states = [
+        DefaultHasher::new(),
+        DefaultHasher::new(),
+        DefaultHasher::new(),
+    ];
+    Set::from_iter_dedup(alloc, [1u8, 2])?.hash(&mut states[0]);
+    Set::from_iter_dedup(alloc, [2u8, 1, 2])?.hash(&mut states[1]);
+    Set::from_iter_dedup(alloc, [1u8, 3])?.hash(&mut states[2]);
+    assert_eq!(rt; states[0].finish(), states[1].finish());
+    assert_ne!(rt; states[0].finish(), states[2].finish());
+    Ok(())
+}
+
+#[test]
+fn sets_are_debugged_as_their_lists(rt: HostRuntime) -> Result<(), Fail> {
+    let alloc = rt.alloc();
+    let set = Set::from_iter_dedup(alloc, [2u8, 1])?;
+    assert_eq!(rt; format!(in alloc; "{set:?}")?.as_str(), "Set([1, 2])");
+    Ok(())
+}
+
+/// The test of the Rust crate `test_sorted_unique_codec_roundtrip`.
+#[test]
+fn sorted_unique_codec_roundtrip(rt: HostRuntime) -> Result<(), Fail> {
+    let alloc = rt.alloc();
+    let sorted = Set::from_iter_dedup(alloc, 1..=9u8)?;
+    assert!(rt; sorted.is_writable());
+    let mut sink = Vec::new(alloc);
+    sorted.write(&mut sink)?;
+    let (decoded, _) = read::<Set<u8, _>, _>(alloc, &sink, &(RangeCfg::from(0..=9), ()));
+    assert!(rt; decoded? == sorted);
+    Ok(())
+}
+
+/// The tests of the Rust crate `test_set_decode_rejects_duplicates`, `.._rejects_unsorted` and `.._accepts_valid`.
+#[test]
+fn set_decode_looks_at_the_order(rt: HostRuntime) -> Result<(), Fail> {
+    let alloc = rt.alloc();
+    let cfg = (RangeCfg::from(0..=10), ());
+    for (items, accepted) in [
+        ([1u8, 2, 2, 3], false),
+        ([1, 3, 2, 4], false),
+        ([1, 2, 3, 4], true),
+    ] {
+        let mut sink = Vec::new(alloc);
+        Vec::from_slice(alloc, &items)?.write(&mut sink)?;
+        match read::<Set<u8, _>, _>(alloc, &sink, &cfg).0 {
+            Ok(set) => assert!(rt; accepted && set.as_slice() == items.as_slice()),
+            Err(error) => assert!(rt; !accepted && error == UNSORTED),
+        }
+    }
     Ok(())
 }

@@ -1,0 +1,39 @@
+//! Clones that equal their source.
+ghost use Rattle.std.specs.Prelude.{◌≡◌, true, IfOk};
+
+use crate::codec::UInt;
+use crate::ordered::Set;
+use crate::{EqClone, Participant};
+use std::alloc::{AllocError, Allocator};
+use std::test::Fail;
+
+/// Whether a clone equals its source, which the law says of every type that has it.
+fn clones_equal<T: EqClone>(value: &T) -> Result<bool, AllocError>
+    ensures { IfOk result (λ equal. equal ≡ true) }
+{
+    let copy = value.clone()?;
+    Ok(*value == copy)
+}
+
+#[test]
+fn numbers_and_texts_equal_their_clones(rt: HostRuntime) -> Result<(), Fail> {
+    let alloc = rt.alloc();
+    assert!(rt; clones_equal(&1u8)? && clones_equal(&2u16)? && clones_equal(&3u32)?);
+    assert!(rt; clones_equal(&4u64)? && clones_equal(&5u128)? && clones_equal(&6usize)?);
+    assert!(rt; clones_equal(&-1i8)? && clones_equal(&-2i16)? && clones_equal(&-3i32)?);
+    assert!(rt; clones_equal(&-4i64)? && clones_equal(&-5i128)? && clones_equal(&-6isize)?);
+    assert!(rt; clones_equal(&'c')? && clones_equal(&"text")?);
+    assert!(rt; clones_equal(&String::from_str(alloc, "text")?)?);
+    assert!(rt; clones_equal(&UInt(300))? && clones_equal(&Participant::new(300))?);
+    Ok(())
+}
+
+#[test]
+fn collections_equal_their_clones(rt: HostRuntime) -> Result<(), Fail> {
+    let alloc = rt.alloc();
+    assert!(rt; clones_equal(&vec![in alloc; 3u8, 1, 2]?)?);
+    let two = Set::from_iter_dedup(alloc, [2u8, 1])?;
+    let nest = Set::from_iter_dedup(alloc, [two, Set::empty(alloc)])?;
+    assert!(rt; clones_equal(&nest)?);
+    Ok(())
+}

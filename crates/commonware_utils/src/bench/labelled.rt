@@ -1,0 +1,137 @@
+//! A type as a stranger writes it: its `==` isn't identity, and it proves the laws of order, clones and codec itself.
+ghost use Rattle.std.specs.Prelude.{◌≡◌, ◌==◌, ℕ, refl};
+ghost use Rattle.std.proofs.Common.{ap};
+ghost use Rattle.std.proofs.lemmas.Cmp.{nat_eq_equiv};
+ghost use Rattle.commonware_base.specs.Bytes.{byte, byte_canonical, byte_fault, byte_laws, byte_length, byte_prefix_free};
+ghost use Rattle.commonware_base.specs.Clones.{equal_from_same};
+ghost use Rattle.commonware_base.specs.Text.{IsByte};
+ghost use Rattle.commonware_base.specs.TextLaws.{canonical_on, laws_on, prefix_free_on};
+
+use super::read;
+use crate::EqClone;
+use crate::codec::{
+    Canonical, EncodeSize, Error, MaxEncodeSize, RangeCfg, Read, Source, Write, round_trip,
+};
+use crate::ordered::Set;
+use std::alloc::{AllocError, Allocator};
+use std::test::Fail;
+
+/// A number and a label. The number alone is compared, hashed and written; what is read has the label `r`.
+#[derive(Clone, Copy)]
+#[derive_where(Debug, PartialEq, Eq, PartialOrd, Ord, Hash)]
+struct Labelled {
+    number: u8,
+    #[derive_where(skip(EqHashOrd))]
+    label: char,
+}
+
+impl EqClone for Labelled {
+    ghost clones_are_equal = { λ x y same. equal_from_same nat_eq_equiv x.number y.number (ap (λ v. v.number) same) };
+}
+
+impl EncodeSize for Labelled {
+    ghost enc = { λ v. byte v.number };
+
+    ghost writable = { λ v. IsByte v.number };
+
+    ghost prefix_free = { prefix_free_on (λ v. v.number) byte IsByte byte_prefix_free };
+
+    ghost text_of_bytes = { λ v h. (h, tt) };
+
+    fn encode_size(&self) -> usize {
+        1
+    }
+
+    fn is_writable(&self) -> bool {
+        let _number = self.number;
+        true
+    }
+}
+
+impl<A: Allocator> Write<A> for Labelled {
+    fn write(&self, sink: &mut Vec<u8, A>) -> Result<(), AllocError> {
+        self.number.write(sink)
+    }
+}
+
+impl MaxEncodeSize for Labelled {
+    ghost MAX_ENCODE_SIZE = { 1 };
+
+    const MAX_ENCODE_SIZE: usize = 1;
+
+    ghost bounded = { λ v h. byte_length v.number };
+}
+
+impl<A: Allocator> Read<A> for Labelled {
+    type Cfg = ();
+
+    ghost allowed = { λ _ _. Unit {0} };
+
+    ghost fault = { λ _ s f. byte_fault s f };
+
+    ghost memory_free = { λ _ _. Unit {0} };
+
+    ghost read_laws = { λ _ _. laws_on (λ v. v.number) byte IsByte (λ _. Unit {0}) byte_fault (λ n _ _. (record { number = n; label = 114 }, refl)) byte_laws };
+
+    fn read_cfg(alloc: A, src: &mut Source<'_>, cfg: &()) -> Result<Labelled, Error> {
+        match u8::read_cfg(alloc, src, cfg) {
+            Ok(number) => Ok(Labelled { number, label: 'r' }),
+            Err(error) => Err(error),
+        }
+    }
+}
+
+impl Canonical for Labelled {
+    ghost canonical = { canonical_on (λ v. v.number) byte IsByte ◌==◌ byte_canonical };
+}
+
+const fn item(number: u8, label: char) -> Labelled {
+    Labelled { number, label }
+}
+
+#[test]
+fn the_first_of_equals_stays(rt: HostRuntime) -> Result<(), Fail> {
+    let items = [item(2, 'x'), item(1, 'y'), item(2, 'z')];
+    let set = Set::from_iter_dedup(rt.alloc(), items)?;
+    assert_eq!(rt; set.len(), 2);
+    assert_eq!(rt;
+        set.get(0).map(|item| (item.number, item.label)),
+        Some((1, 'y'))
+    );
+    assert_eq!(rt;
+        set.get(1).map(|item| (item.number, item.label)),
+        Some((2, 'x'))
+    );
+    Ok(())
+}
+
+#[test]
+fn equal_sets_of_labelled_items_have_equal_bytes(rt: HostRuntime) -> Result<(), Fail> {
+    let alloc = rt.alloc();
+    let any = RangeCfg::from(..);
+    let set = Set::from_iter_dedup(alloc, [item(2, 'x'), item(1, 'y')])?;
+    assert!(rt; set.is_writable());
+    let (read_set, taken) = read::<Set<Labelled, _>, _>(alloc, b"\x02\x01\x02", &(any, ()));
+    let read_set = read_set?;
+    assert_eq!(rt; taken, 3);
+    assert_eq!(rt; read_set.get(0).map(|item| item.label), Some('r'));
+    assert!(rt; read_set == set);
+    for written in [&set, &read_set] {
+        let mut sink = Vec::new(alloc);
+        assert!(rt; written.is_writable());
+        written.write(&mut sink)?;
+        assert_eq!(rt; sink.as_slice(), b"\x02\x01\x02".as_slice());
+    }
+    assert_eq!(rt; Labelled::MAX_ENCODE_SIZE, 1);
+    Ok(())
+}
+
+#[test]
+fn a_labelled_item_is_read_back_equal(rt: HostRuntime) -> Result<(), Fail> {
+    let item = item(7, 'x');
+    assert!(rt; item.is_writable());
+    let again = round_trip(rt.alloc(), &item, &())?;
+    assert!(rt; again == item);
+    assert_eq!(rt; again.label, 'r');
+    Ok(())
+}
