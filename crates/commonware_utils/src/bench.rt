@@ -2,6 +2,7 @@
 ghost use Rattle.std.specs.Prelude.{IfOk, ◌≡◌, OnErr};
 
 mod clones;
+mod example;
 mod labelled;
 mod lists;
 mod numbers;
