@@ -1,16 +1,16 @@
 -- Steps of the reader of lists.
-use Rattle.std.proofs.Common.{◌≡◌, ℕ, zero, suc, ◌+◌, ◌<◌, ◌≤◌, ◌^◌, List, [], ◌∷◌, ◌++◌, length, refl, ap, sym, ◌∙◌, arith, subst, length-append}
+use Rattle.std.proofs.Common.{◌≡◌, ℕ, ◌+◌, ◌<◌, ◌^◌, List, [], ◌∷◌, ◌++◌, length, refl, ap, sym, ◌∙◌, arith, subst, length-append}
 use Rattle.std.specs.List.{AllByRecursion, flat_map}
 use Rattle.std.proofs.lemmas.List.{append_assoc, append-nil}
 use Rattle.std.proofs.lemmas.List.Concat.{flat_map-append}
 use Rattle.commonware_base.specs.Range.{Bounds}
 use Rattle.commonware_base.specs.declared.codec.source.Source.{Source}
-use Rattle.commonware_base.specs.Fault.{Fault, EndOfBuffer, InvalidVarint, InvalidLength, Invalid}
+use Rattle.commonware_base.specs.Fault.{Fault, InvalidLength}
 use Rattle.commonware_base.specs.Text.{Accepts}
 use Rattle.commonware_base.specs.Range.{Within}
 use Rattle.commonware_base.specs.Source.{Consumes, rest_of}
 use Rattle.commonware_base.specs.Varint.{varint}
-use Rattle.commonware_base.specs.Lists.{list_enc, IsWritableList, IsAllowedList, HasLengthOutside, ListFault, bad_length, bad_item, IsListMemoryFree}
+use Rattle.commonware_base.specs.Lists.{list_enc, IsWritableList, IsAllowedList, ListFault, bad_length, bad_item, IsListMemoryFree}
 use Rattle.commonware_base.specs.ListLaws.{list_wants_memory}
 use Rattle.commonware_base.proofs.SourceLemmas.{consumes_both}
 

@@ -1,7 +1,6 @@
 -- A source that moved on.
-use Rattle.std.proofs.Common.{◌≡◌, ℕ, ◌+◌, ◌≤◌, List, ◌++◌, length, take, drop, refl, ap, sym, ◌∙◌, arith, subst}
+use Rattle.std.proofs.Common.{◌≡◌, ℕ, ◌+◌, ◌≤◌, List, ◌++◌, length, take, drop, ap, sym, ◌∙◌, arith}
 use Rattle.std.proofs.lemmas.List.{take-append-drop, drop-drop, length-take-le, append_assoc}
-use Rattle.std.specs.Prelude.{length as len}
 use Rattle.std.proofs.Common.{length-append}
 use Rattle.commonware_base.specs.declared.codec.source.Source.{Source}
 use Rattle.commonware_base.specs.Source.{Consumes, rest_of, position_of, bytes_of}

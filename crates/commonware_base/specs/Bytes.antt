@@ -1,9 +1,9 @@
 -- A byte, which stands for itself.
-use Rattle.std.specs.Prelude.{◌≡◌, ℕ, ◌<◌, ◌^◌, ◌≤◌, length, List, [], ◌∷◌, ◌++◌, ◌⊎◌, refl, ◌↔◌, ◌==◌, true}
+use Rattle.std.specs.Prelude.{◌≡◌, ℕ, ◌≤◌, length, List, [], ◌∷◌, ◌++◌, refl, ◌==◌}
 use Rattle.std.proofs.Common.{arith, inl, inr, ap, sym, subst, ◌∙◌}
 use Rattle.std.proofs.lemmas.Bool.{eqb-true, eq-eqb}
 use Rattle.commonware_base.specs.Fault.{Fault, EndOfBuffer}
-use Rattle.commonware_base.specs.Text.{AreBytes, Accepts, AcceptedOrFaulty, IsByte, IsPrefixFree, ReadLaws, CanonicalLaws}
+use Rattle.commonware_base.specs.Text.{AreBytes, AcceptedOrFaulty, IsByte, IsPrefixFree, ReadLaws, CanonicalLaws}
 
 abbrev pub byte : ℕ → List ℕ
 byte b = b ∷ []

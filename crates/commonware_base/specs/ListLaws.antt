@@ -1,18 +1,18 @@
 -- Laws of lists of items that keep the laws.
-use Rattle.std.proofs.Common.{◌≡◌, ℕ, zero, suc, ◌+◌, ◌<◌, ◌≤◌, ◌^◌, List, [], ◌∷◌, ◌++◌, length, refl, ap, sym, ◌∙◌, arith, inl, inr, subst, add-one}
+use Rattle.std.proofs.Common.{◌≡◌, ℕ, zero, suc, ◌<◌, ◌^◌, List, [], ◌∷◌, ◌++◌, length, refl, ap, sym, ◌∙◌, arith, inl, inr, subst}
 use Rattle.std.specs.Prelude.{◌⊎◌}
 use Rattle.std.specs.List.{AllByRecursion, flat_map}
-use Rattle.std.specs.Prelude.{Bool, true, false, ◌&&◌, ◌↔◌}
+use Rattle.std.specs.Prelude.{Bool, true, ◌↔◌}
 use Rattle.std.specs.Cmp.Lexicographic.{pointwise}
-use Rattle.std.proofs.lemmas.Bool.{cases_lt, and_parts, and_from}
+use Rattle.std.proofs.lemmas.Bool.{and_parts, and_from}
 use Rattle.std.proofs.lemmas.List.{append_assoc, append_cancel_left}
-use Rattle.commonware_base.specs.Fault.{Fault, EndOfBuffer, InvalidVarint, InvalidLength, Invalid}
+use Rattle.commonware_base.specs.Fault.{Fault, InvalidLength}
 use Rattle.commonware_base.specs.Text.{AreBytes, Accepts, AcceptedOrFaulty, IsPrefixFree, ReadLaws, CanonicalLaws}
 use Rattle.commonware_base.specs.Range.{Bounds, Within}
 use Rattle.commonware_base.specs.RangeLaws.{within_or_not}
 use Rattle.commonware_base.specs.TextLaws.{bytes_append, bytes_right}
-use Rattle.commonware_base.specs.Varint.{varint, varint_fault}
-use Rattle.commonware_base.specs.Lists.{list_enc, IsWritableList, IsAllowedList, HasLengthOutside, HasFaultyItem, ListFault, bad_spelling, bad_length, bad_item, list_cut, at_spelling, at_length, at_item, IsListMemoryFree, spelling, outside, empty, first}
+use Rattle.commonware_base.specs.Varint.{varint}
+use Rattle.commonware_base.specs.Lists.{list_enc, IsWritableList, IsAllowedList, ListFault, bad_spelling, bad_length, bad_item, list_cut, at_spelling, at_length, at_item, IsListMemoryFree, spelling, outside, empty, first}
 use Rattle.commonware_base.specs.VarintLaws.{varint_split, varint_no_fault, varint_one_fault, varint_or_fault, varint_bytes}
 
 module _ {T : Type 0} (enc : T → List ℕ) (Writable : T → Type 0)

@@ -1,5 +1,4 @@
 -- What a refusal says of a text.
-use Rattle.std.specs.Prelude.{ℕ, List}
 use Rattle.commonware_base.specs.declared.codec.error.Error.{Error}
 use Rattle.commonware_base.specs.declared.codec.error.Error.TheVariants.{EndOfBuffer, InvalidVarint, InvalidLength, Invalid, Memory}
 use Rattle.commonware_base.specs.Fault.{Fault}

@@ -1,7 +1,7 @@
 -- A word, which is written as four bytes, the highest first.
 use Rattle.std.specs.Prelude.{◌≡◌, ℕ, zero, suc, ◌<◌, ◌≤◌, ◌^◌, List, [], ◌∷◌, ◌++◌, length, refl, ◌↔◌, ◌==◌, true}
 use Rattle.std.specs.Int.{w32, to_be_bytes, from_be_bytes}
-use Rattle.std.proofs.Common.{inl, inr, ap, sym, ◌∙◌, arith, get_or, subst, length-append}
+use Rattle.std.proofs.Common.{inl, inr, ap, sym, ◌∙◌, arith, get_or, subst}
 use Rattle.std.proofs.lemmas.Bool.{eqb-true, eq-eqb}
 use Rattle.std.proofs.lemmas.Nat.{be_bytes_4, from_be_bytes-to_be_bytes_4}
 use Rattle.commonware_base.specs.Fault.{Fault, EndOfBuffer}

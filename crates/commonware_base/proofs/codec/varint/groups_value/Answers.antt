@@ -1,6 +1,4 @@
-use Rattle.std.proofs.Common.{arith, ◌≡◌, ◌*◌, ◌+◌, ◌-◌, ◌%◌, ◌<◌, get_or, drop, ap, add-one, sub-one}
-use Rattle.std.proofs.lemmas.List.{drop_more}
-use Rattle.commonware_base.specs.Varint.{groups_sum}
+use Rattle.std.proofs.Common.{arith, ◌-◌}
 use Rattle.commonware_base.specs.VarintLaws.{groups_sum-drop, sum_before}
 use Rattle.commonware_base.proofs.codec.varint.groups_value.Goals as goal
 

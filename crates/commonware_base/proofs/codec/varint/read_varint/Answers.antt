@@ -1,4 +1,4 @@
-use Rattle.std.proofs.Common.{arith, ◌≡◌, ◌≤◌, take, length, sym, ◌∙◌, ap}
+use Rattle.std.proofs.Common.{◌≡◌, ◌≤◌, take, length, sym, ◌∙◌, ap}
 use Rattle.commonware_base.specs.Source.{rest_of}
 use Rattle.commonware_base.specs.Varint.{varint}
 use Rattle.commonware_base.proofs.SourceLemmas.{consumes_front}

@@ -1,4 +1,4 @@
-use Rattle.std.proofs.Common.{arith, get_or, ◌<◌, ◌≤◌, ◌≡◌}
+use Rattle.std.proofs.Common.{arith, get_or, ◌≤◌, ◌≡◌}
 use Rattle.commonware_base.specs.VarintLaws.{bad_zero, bad_fifth, good_at}
 use Rattle.commonware_base.proofs.codec.varint.varint_len.Goals as goal
 

@@ -1,4 +1,4 @@
-use Rattle.std.proofs.Common.{arith, ◌≡◌, ◌<◌, ◌≤◌, ◌++◌, length, ap, sym, ◌∙◌, length-append}
+use Rattle.std.proofs.Common.{arith, ◌≡◌, length, ap, length-append}
 use Rattle.std.specs.List.{flat_map}
 use Rattle.commonware_base.specs.Varint.{varint}
 use Rattle.commonware_base.proofs.ListSteps.{item_within}

@@ -1,4 +1,4 @@
-use Rattle.std.proofs.Common.{◌≡◌, ◌+◌, ◌++◌, length, take}
+use Rattle.std.proofs.Common.{◌≡◌, ◌+◌, length, take}
 use Rattle.std.specs.List.{flat_map}
 use Rattle.commonware_base.specs.Varint.{varint}
 use Rattle.commonware_base.proofs.codec.list.VecEncodeSize.encode_size.Given as goal

@@ -1,5 +1,5 @@
 use Rattle.std.proofs.Common.{refl}
-use Rattle.commonware_base.specs.Numbers.{NumberFault, out_of_range}
+use Rattle.commonware_base.specs.Numbers.{out_of_range}
 use Rattle.commonware_base.proofs.codec.primitives.UsizeRead.read_cfg.Goals as goal
 
 pub returns-in-Ok-clause-refused : goal.returns-in-Ok-clause-refused
