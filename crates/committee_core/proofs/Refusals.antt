@@ -1,12 +1,11 @@
 -- What a refusal says of the bytes that were read.
 use Rattle.std.proofs.Common.{◌≡◌, ℕ, List, inl, inr, subst, sym, arith, Result, Ok, Err}
 use Rattle.std.specs.Result.{IfErr, IsErrAnd}
-use Rattle.commonware_base.specs.Fault.{Fault}
 use Rattle.commonware_base.specs.Refusal.{Refuses}
 use Rattle.commonware_base.specs.declared.codec.error.Error.{Error}
 use Rattle.commonware_base.specs.declared.codec.error.Error.TheVariants.{EndOfBuffer, InvalidVarint, InvalidLength, Invalid}
 use Rattle.commonware_base.specs.declared.codec.error.Error.TheVariants as faults
-use Rattle.committee_core.specs.Run.{IsFirstFault, IsRefusal, IsRefused, committee_fault, refusal_of, status_of}
+use Rattle.committee_core.specs.Run.{IsRefusal, IsRefused, committee_fault, refusal_of, status_of}
 use Rattle.committee_core.specs.declared.error.RunError.{RunError}
 use Rattle.committee_core.specs.declared.error.RunError.TheVariants.{Refused, LeftOver, Memory, ReadFailed, WriteFailed}
 
