@@ -10,7 +10,7 @@ use Rattle.commonware_base.specs.Fault.{Fault}
 use Rattle.commonware_base.specs.Text.{Accepts, IsPrefixFree, ReadLaws, CanonicalLaws}
 use Rattle.commonware_base.specs.Lists.{list_enc, IsWritableList, IsAllowedList, ListFault}
 use Rattle.commonware_base.specs.ListLaws.{list_prefix_free, list_laws, list_canonical}
-use Rattle.commonware_ordered.specs.Sets.{IsWritableSet, HasUnsorted, unsorted_fault, SetFault, bad_list, bad_order}
+use Rattle.commonware_ordered.specs.Sets.{IsWritableSet, HasUnsorted, unsorted_fault, SetFault, bad_list, bad_order, set_cut, at_list, at_order}
 use Rattle.commonware_ordered.specs.StrictLaws.{strict_or_not, strict_same}
 
 module _ {T : Type 0} (enc : T → List ℕ) (Writable : T → Type 0) (cmp : T → T → Ordering) (prefix_free : IsPrefixFree enc Writable) where
@@ -44,11 +44,18 @@ module _ {T : Type 0} (enc : T → List ℕ) (Writable : T → Type 0) (cmp : T 
       list_of : (s : List ℕ) (w : HasUnsorted enc Writable cmp Allowed range s) → Accepts (list_enc enc) (IsWritableList Writable) (IsAllowedList range Allowed) s w.items w.rest
       list_of s w = record { writable = w.writable; allowed = w.allowed; begins = w.begins }
 
+      -- two faults of a text are at one cut
+      pub set_one_cut : (s : List ℕ) (f g : Fault) (v : SetFault enc Writable cmp Allowed item_fault range s f) (w : SetFault enc Writable cmp Allowed item_fault range s g) → set_cut v ≡ set_cut w
+      set_one_cut s f g (bad_list v) (bad_list w) = refl
+      set_one_cut s f g (bad_list v) (bad_order e w) = absurd (as_list.accepted_no_fault s w.items w.rest f (list_of s w) v)
+      set_one_cut s f g (bad_order d v) (bad_list w) = absurd (as_list.accepted_no_fault s v.items v.rest g (list_of s v) w)
+      set_one_cut s f g (bad_order d v) (bad_order e w) = refl
+
       -- a text has at most one fault
       one : (s : List ℕ) (f g : Fault) → SetFault enc Writable cmp Allowed item_fault range s f → SetFault enc Writable cmp Allowed item_fault range s g → f ≡ g
       one s f g (bad_list v) (bad_list w) = as_list.one_fault s f g v w
-      one s f g (bad_list v) (bad_order e w) = absurd (as_list.accepted_no_fault s w.items w.rest f (list_of s w) v)
-      one s f g (bad_order d v) (bad_list w) = absurd (as_list.accepted_no_fault s v.items v.rest g (list_of s v) w)
+      one s f g (bad_list v) (bad_order e w) = let cut : at_list ≡ at_order = set_one_cut s f g (bad_list v) (bad_order e w) in absurd (cc)
+      one s f g (bad_order d v) (bad_list w) = let cut : at_order ≡ at_list = set_one_cut s f g (bad_order d v) (bad_list w) in absurd (cc)
       one s f g (bad_order d v) (bad_order e w) = d ∙ sym e
 
       -- what is promised of the texts of sets

@@ -28,3 +28,13 @@ unsorted_fault = Invalid (codes "Set") (codes "items must be sorted and unique")
 pub data SetFault {T : Type 0} (enc : T → List ℕ) (Writable : T → Type 0) (cmp : T → T → Ordering) (Allowed : T → Type 0) (item_fault : List ℕ → Fault → Type 0) (range : Bounds ℕ) (text : List ℕ) (fault : Fault) : Type 0 where
   bad_list : ListFault enc Writable Allowed item_fault range text fault → SetFault enc Writable cmp Allowed item_fault range text fault
   bad_order : fault ≡ unsorted_fault → HasUnsorted enc Writable cmp Allowed range text → SetFault enc Writable cmp Allowed item_fault range text fault
+
+-- The cuts at which a text that should begin with a set can be faulty.
+pub data SetCut : Type 0 where
+  at_list : SetCut
+  at_order : SetCut
+
+-- the cut of a fault
+abbrev pub set_cut : {T : Type 0} {enc : T → List ℕ} {Writable : T → Type 0} {cmp : T → T → Ordering} {Allowed : T → Type 0} {item_fault : List ℕ → Fault → Type 0} {range : Bounds ℕ} {text : List ℕ} {fault : Fault} → SetFault enc Writable cmp Allowed item_fault range text fault → SetCut
+set_cut (bad_list w) = at_list
+set_cut (bad_order same w) = at_order

@@ -3,4 +3,4 @@
 
 mod set;
 
-pub use set::Set;
+pub use set::{Set, set_fault_law};

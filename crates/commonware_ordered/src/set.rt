@@ -15,6 +15,7 @@ ghost use Rattle.commonware_ordered.specs.Taken.{TakesAll};
 
 mod codec;
 
+pub use codec::set_fault_law;
 use commonware_base::EqClone;
 use std::alloc::{AllocError, Allocator};
 use std::cmp::Ordering;

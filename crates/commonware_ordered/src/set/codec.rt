@@ -1,10 +1,11 @@
 //! The byte form of a set, which is that of the list of its items.
-ghost use Rattle.std.specs.Prelude.{◌≡◌, OnErr, IfOk, IfErr};
+ghost use Rattle.std.specs.Prelude.{◌≡◌, ℕ, List, OnErr, IfOk, IfErr};
+ghost use Rattle.commonware_base.specs.Fault.{Fault};
 ghost use Rattle.commonware_base.specs.Lists.{list_enc, IsAllowedList, IsListMemoryFree};
 ghost use Rattle.commonware_base.specs.ListLaws.{list_bytes};
 ghost use Rattle.commonware_base.specs.Refusal.{Refuses};
 ghost use Rattle.commonware_base.specs.Source.{rest_of, Consumes};
-ghost use Rattle.commonware_ordered.specs.Sets.{IsWritableSet, SetFault};
+ghost use Rattle.commonware_ordered.specs.Sets.{IsWritableSet, SetFault, set_cut};
 ghost use Rattle.commonware_ordered.specs.SetLaws.{set_prefix_free, set_laws, set_canonical};
 
 use super::{Set, is_strict};
@@ -55,6 +56,20 @@ impl<T: Ord + Canonical + Read<A> + Drop, A: Allocator + Copy> Read<A> for Set<T
 
 impl<T: Ord + Canonical, A: Allocator> Canonical for Set<T, A> {
     ghost canonical = { set_canonical T.enc T.writable T.cmp T.prefix_free T.eq T.total T.matches_eq T.canonical };
+}
+
+/// The cuts at which a text is no set exclude one another: no text has a fault of the list and one of the order.
+pub fn set_fault_law<T: Ord + Canonical + Read<A>, A: Allocator>(
+    alloc: A,
+    range: RangeCfg<usize>,
+    item: &T::Cfg,
+)
+    ensures { (s : List ℕ) (f g : Fault)
+        (v : SetFault T.enc T.writable T.cmp (T.allowed item.now) (T.fault item.now) range s f)
+        (w : SetFault T.enc T.writable T.cmp (T.allowed item.now) (T.fault item.now) range s g)
+        → set_cut v ≡ set_cut w }
+{
+    let _ = (alloc, range);
 }
 
 /// Reads a set under a range for its length and a configuration for its items. The order is looked at once the whole

@@ -1,12 +1,13 @@
 //! Lists of items.
 use super::read;
-use crate::codec::{EncodeSize, Error, RangeCfg, Source, Write, read_list};
+use crate::codec::{EncodeSize, Error, RangeCfg, Source, Write, list_fault_law, read_list};
 use std::test::Fail;
 
 #[test]
 fn lists_are_written_and_read(rt: HostRuntime) -> Result<(), Fail> {
     let alloc = rt.alloc();
     let any = RangeCfg::from(..);
+    list_fault_law::<u8, _>(alloc, any, &());
     let list = vec![in alloc; 1u8, 3, 2, 4]?;
     let mut sink = Vec::new(alloc);
     list.write(&mut sink)?;

@@ -2,7 +2,7 @@
 use super::read;
 use crate::Participant;
 use crate::codec::{EncodeSize, Error, RangeCfg, Write, round_trip};
-use crate::ordered::Set;
+use crate::ordered::{Set, set_fault_law};
 use std::alloc::{AllocError, Allocator};
 use std::cmp::Ordering;
 use std::hash::{DefaultHasher, Hash, Hasher};
@@ -52,6 +52,7 @@ fn is_written_as<T: Write<A>, A: Allocator>(
 #[test]
 fn sets_are_written_as_their_lists(rt: HostRuntime) -> Result<(), Fail> {
     let alloc = rt.alloc();
+    set_fault_law::<u8, _>(alloc, RangeCfg::from(..), &());
     let three = Set::from_iter_dedup(alloc, [3u8, 1, 2, 1])?;
     assert!(rt; is_written_as(alloc, &three, b"\x03\x01\x02\x03")?);
     let none: Set<u8, _> = Set::empty(alloc);
