@@ -2,10 +2,9 @@
 #![tactic(auto)]
 
 use committee_core::{Watched, session};
-use std::env;
-use std::io;
 use std::io::Write;
 use std::process::ExitCode;
+use std::{env, io};
 
 fn main(rt: HostRuntime) -> ExitCode {
     let mut errors = rt.stderr();

@@ -2,7 +2,7 @@
 
 use commonware_utils::codec;
 
-/// Why a run has written no report.
+/// Why a run has written no report. Its text is the line that a session says.
 #[derive(Debug, PartialEq, Eq, Drop, thiserror::Error)]
 pub enum RunError {
     /// The bytes begin with no committee.

@@ -8,9 +8,7 @@ use crate::command::{Command, parse_args};
 use crate::error::RunError;
 use crate::outcome::run;
 use crate::watched::Watched;
-use commonware_utils::codec;
 use std::alloc::Allocator;
-use std::io;
 use std::io::{Read, Write};
 
 /// Does what the words after the program's name ask for, and answers the exit status.
@@ -32,6 +30,7 @@ pub fn session<A: Allocator + Copy, R: Read, W: Write, E: Write>(
     ensures refused { result ≡ 1 →
         IsRefused (Gave (R.remaining input.old.inner) (R.remaining input.new.inner)) × (output.new ≡ output.old) }
     ensures usage { (result ≡ 2) ↔ ((command : _) → ¬ IsAskedFor (map string_bytes words.now) command) }
+    ensures untouched { result ≡ 2 → (input.new ≡ input.old) × (output.new ≡ output.old) }
     ensures read_failed { input.old.failed ≡ false → input.new.failed ≡ true → result ≡ 3 }
     ensures write_failed { output.old.failed ≡ false → output.new.failed ≡ true → result ≡ 3 }
     ensures statuses { result ≤ 3 }
@@ -43,7 +42,7 @@ pub fn session<A: Allocator + Copy, R: Read, W: Write, E: Write>(
     match run(alloc, command, input, output) {
         Ok(()) => 0,
         Err(error) => {
-            let _ = complain(&error, errors);
+            let _ = writeln!(errors, "{error}");
             status(&error)
         }
     }
@@ -56,27 +55,5 @@ fn status(error: &RunError) -> u8
     match error {
         RunError::Refused(_) | RunError::LeftOver(_) => 1,
         RunError::Memory | RunError::ReadFailed | RunError::WriteFailed => 3,
-    }
-}
-
-/// Says in one line why no report was written.
-fn complain<E: Write>(error: &RunError, errors: &mut E) -> io::Result<()> {
-    match error {
-        RunError::Refused(fault) => complain_of(fault, errors),
-        RunError::LeftOver(count) => writeln!(errors, "refused: {count} bytes left over"),
-        RunError::Memory => writeln!(errors, "failed: out of memory"),
-        RunError::ReadFailed => writeln!(errors, "failed: read"),
-        RunError::WriteFailed => writeln!(errors, "failed: write"),
-    }
-}
-
-/// Says in one line what is wrong with the bytes.
-fn complain_of<E: Write>(fault: &codec::Error, errors: &mut E) -> io::Result<()> {
-    match fault {
-        codec::Error::EndOfBuffer => writeln!(errors, "refused: end of input"),
-        codec::Error::InvalidVarint => writeln!(errors, "refused: invalid varint"),
-        codec::Error::InvalidLength(length) => writeln!(errors, "refused: length {length}"),
-        codec::Error::Invalid(what, rule) => writeln!(errors, "refused: {what}: {rule}"),
-        codec::Error::Memory => writeln!(errors, "failed: out of memory"),
     }
 }

@@ -6,7 +6,7 @@ use Rattle.commonware_base.specs.Fault.{Fault, InvalidLength}
 use Rattle.commonware_base.specs.Text.{AreBytes, AcceptedOrFaulty, IsPrefixFree, ReadLaws, CanonicalLaws}
 use Rattle.commonware_base.specs.Range.{Bounds, Within}
 use Rattle.commonware_base.specs.RangeLaws.{within_or_not}
-use Rattle.commonware_base.specs.Lists.{HasLengthOutside}
+use Rattle.commonware_base.specs.Lists.{BeginsOutOfRange}
 use Rattle.commonware_base.specs.Varint.{varint, varint_fault}
 use Rattle.commonware_base.specs.VarintLaws.{varint_split, varint_no_fault, varint_one_fault, varint_or_fault}
 use Rattle.commonware_base.specs.Words.{IsWord}
@@ -29,7 +29,7 @@ varint_accepted_or_faulty s h = elim (varint_or_fault s h) [
 -- what is wrong with a text that should begin with a number in a range
 pub data NumberFault (range : Bounds ℕ) (text : List ℕ) (fault : Fault) : Type 0 where
   misspelled : varint_fault text fault → NumberFault range text fault
-  out_of_range : (n : ℕ) → fault ≡ InvalidLength n → HasLengthOutside range text n → NumberFault range text fault
+  out_of_range : (n : ℕ) → fault ≡ InvalidLength n → BeginsOutOfRange range text n → NumberFault range text fault
 
 -- a number in the range at the front is no fault
 number_no_fault : (range : Bounds ℕ) (s : List ℕ) (n : ℕ) (r : List ℕ) (f : Fault) → IsWord n → Within range n → s ≡ varint n ++ r → NumberFault range s f → ⊥

@@ -4,11 +4,11 @@ use Rattle.std.specs.List.{AllByRecursion}
 use Rattle.commonware_base.specs.Fault.{Fault, EndOfBuffer, InvalidVarint}
 
 -- a byte that more bytes come after
-abbrev pub IsHigh : ℕ → Type 0
-IsHigh b = (128 ≤ b) × (b < 256)
+abbrev pub IsContinued : ℕ → Type 0
+IsContinued b = (128 ≤ b) × (b < 256)
 
-abbrev pub AreHigh : List ℕ → Type 0
-AreHigh = AllByRecursion IsHigh
+abbrev pub AreContinued : List ℕ → Type 0
+AreContinued = AllByRecursion IsContinued
 
 -- The sum of each byte modulo 128 times 128 ^ place, where the first byte has place 0.
 abbrev pub groups_sum : List ℕ → ℕ
@@ -21,7 +21,7 @@ pub record IsVarint (number : ℕ) (bytes : List ℕ) : Type 0 where
   pub front : List ℕ
   pub last : ℕ
   pub bytes_are : bytes ≡ front ++ last ∷ []
-  pub high : AreHigh front
+  pub high : AreContinued front
   pub low : last < 128
   pub shortest : last ≡ 0 → front ≡ []
   pub short : length front ≤ 4
@@ -38,22 +38,22 @@ unfoldable pub varint : ℕ → List ℕ
 varint n = groups 4 n
 
 -- at most four bytes, and more should come
-pub record IsCut (text : List ℕ) : Type 0 where
-  pub high : AreHigh text
+pub record IsTruncated (text : List ℕ) : Type 0 where
+  pub high : AreContinued text
   pub short : length text ≤ 4
 
 -- The text begins with 2 to 5 bytes of which all but the last are at least 128 and the last is 0, or with
 -- four bytes of at least 128 and then one above 15.
-pub record IsNoVarint (text : List ℕ) : Type 0 where
+pub record IsMisspelled (text : List ℕ) : Type 0 where
   pub front : List ℕ
   pub last : ℕ
   pub rest : List ℕ
   pub begins : text ≡ front ++ last ∷ rest
-  pub high : AreHigh front
+  pub high : AreContinued front
   pub wrong : ((last ≡ 0) × (0 < length front) × (length front ≤ 4)) ⊎ ((length front ≡ 4) × (15 < last))
 
 -- what is wrong with a text that should begin with a number
 abbrev pub varint_fault : List ℕ → Fault → Type 0
-varint_fault text EndOfBuffer = IsCut text
-varint_fault text InvalidVarint = IsNoVarint text
+varint_fault text EndOfBuffer = IsTruncated text
+varint_fault text InvalidVarint = IsMisspelled text
 varint_fault text _ = ⊥

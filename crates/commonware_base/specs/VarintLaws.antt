@@ -8,10 +8,10 @@ use Rattle.std.proofs.Math.Seq.{drop-nil}
 use Rattle.commonware_base.specs.Fault.{Fault, EndOfBuffer, InvalidVarint, InvalidLength, Invalid}
 use Rattle.commonware_base.specs.Text.{AreBytes}
 use Rattle.commonware_base.specs.TextLaws.{bytes_append}
-use Rattle.commonware_base.specs.Varint.{IsHigh, AreHigh, groups_sum, IsVarint, groups, varint, IsCut, IsNoVarint, varint_fault}
+use Rattle.commonware_base.specs.Varint.{IsContinued, AreContinued, groups_sum, IsVarint, groups, varint, IsTruncated, IsMisspelled, varint_fault}
 
 -- Two texts that agree: their high bytes in front, and the byte after them, are the same.
-pub same_front : (f g : List ℕ) (l m : ℕ) (x y : List ℕ) → AreHigh f → AreHigh g → l < 128 → m < 128 → f ++ l ∷ x ≡ g ++ m ∷ y → (f ≡ g) × (l ≡ m) × (x ≡ y)
+pub same_front : (f g : List ℕ) (l m : ℕ) (x y : List ℕ) → AreContinued f → AreContinued g → l < 128 → m < 128 → f ++ l ∷ x ≡ g ++ m ∷ y → (f ≡ g) × (l ≡ m) × (x ≡ y)
 same_front [] [] l m x y hf hg hl hm e = (refl, cc, cc)
 same_front [] (c ∷ g) l m x y hf hg hl hm e = let d : l ≡ c = cc in absurd (omega arith)
 same_front (b ∷ f) [] l m x y hf hg hl hm e = let d : b ≡ m = cc in absurd (omega arith)
@@ -27,7 +27,7 @@ sum_pos [] m p h = omega arith
 sum_pos (c ∷ g) m p h = let r = sum_pos g m p h in omega (arith, r)
 
 -- Two spellings with one sum are the same.
-pub same_sum : (f g : List ℕ) (l m : ℕ) → AreHigh f → AreHigh g → l < 128 → m < 128 → (l ≡ 0 → f ≡ []) → (m ≡ 0 → g ≡ []) → groups_sum (f ++ l ∷ []) ≡ groups_sum (g ++ m ∷ []) → f ++ l ∷ [] ≡ g ++ m ∷ []
+pub same_sum : (f g : List ℕ) (l m : ℕ) → AreContinued f → AreContinued g → l < 128 → m < 128 → (l ≡ 0 → f ≡ []) → (m ≡ 0 → g ≡ []) → groups_sum (f ++ l ∷ []) ≡ groups_sum (g ++ m ∷ []) → f ++ l ∷ [] ≡ g ++ m ∷ []
 same_sum [] [] l m hf hg hl hm sf sg e = let d : l ≡ m = omega arith in ap (λ n. n ∷ []) d
 same_sum [] (c ∷ g) l m hf hg hl hm sf sg e =
     let pos : 0 < m = (elim (cases_lt 0 m) [ inl p ↦ p | inr q ↦ (let z : m ≡ 0 = omega arith in let n : c ∷ g ≡ [] = sg z in absurd (cc)) ]) in
@@ -46,7 +46,7 @@ record Spells (number more : ℕ) (bytes : List ℕ) : Type 0 where
   front : List ℕ
   last : ℕ
   bytes_are : bytes ≡ front ++ last ∷ []
-  high : AreHigh front
+  high : AreContinued front
   low : last < 128
   shortest : last ≡ 0 → front ≡ []
   short : length front ≤ more
@@ -82,7 +82,7 @@ varint_is n h =
     record { front = s.front; last = s.last; bytes_are = s.bytes_are; high = s.high; low = s.low; shortest = s.shortest; short = s.short; sum = s.sum; fits = h }
 
 -- high bytes are bytes
-high_bytes : (f : List ℕ) → AreHigh f → AreBytes f
+high_bytes : (f : List ℕ) → AreContinued f → AreBytes f
 high_bytes [] h = tt
 high_bytes (b ∷ f) h = (omega (arith, h.0.1), high_bytes f h.1)
 
@@ -116,12 +116,12 @@ parts : (s : List ℕ) (n : ℕ) (r : List ℕ) (v : IsVarint n (varint n)) → 
 parts s n r v e = e ∙ ap (λ t. t ++ r) v.bytes_are ∙ append_assoc v.front (v.last ∷ []) r
 
 -- high bytes alone have no last byte
-not_all_high : (f : List ℕ) (l : ℕ) (x : List ℕ) → l < 128 → AreHigh (f ++ l ∷ x) → ⊥
+not_all_high : (f : List ℕ) (l : ℕ) (x : List ℕ) → l < 128 → AreContinued (f ++ l ∷ x) → ⊥
 not_all_high [] l x h a = omega (arith, a.0.0)
 not_all_high (b ∷ f) l x h a = not_all_high f l x h a.1
 
 -- Two texts that agree: up to the first byte below 128, or the fifth.
-same_wrong : (f g : List ℕ) (l m : ℕ) (x y : List ℕ) → AreHigh f → AreHigh g → l < 128 → f ++ l ∷ x ≡ g ++ m ∷ y → length f ≤ length g → (f ≡ g) × (l ≡ m)
+same_wrong : (f g : List ℕ) (l m : ℕ) (x y : List ℕ) → AreContinued f → AreContinued g → l < 128 → f ++ l ∷ x ≡ g ++ m ∷ y → length f ≤ length g → (f ≡ g) × (l ≡ m)
 same_wrong [] [] l m x y hf hg hl e h = (refl, cc)
 same_wrong [] (c ∷ g) l m x y hf hg hl e h = let d : l ≡ c = cc in absurd (omega arith)
 same_wrong (b ∷ f) [] l m x y hf hg hl e h = absurd (omega arith)
@@ -144,7 +144,7 @@ last_of_five (a ∷ b ∷ c ∷ d ∷ k ∷ f) l e h s = absurd (omega arith)
 pub varint_no_fault : (s : List ℕ) (n : ℕ) (r : List ℕ) (f : Fault) → n < 2 ^ 32 → s ≡ varint n ++ r → varint_fault s f → ⊥
 varint_no_fault s n r EndOfBuffer h e w =
     let v = varint_is n h in
-    not_all_high v.front v.last r v.low (subst AreHigh (parts s n r v e) w.high)
+    not_all_high v.front v.last r v.low (subst AreContinued (parts s n r v e) w.high)
 varint_no_fault s n r InvalidVarint h e w =
     let v = varint_is n h in
     let p : v.front ++ v.last ∷ r ≡ w.front ++ w.last ∷ w.rest = sym (parts s n r v e) ∙ w.begins in
@@ -165,9 +165,9 @@ varint_no_fault s n r (InvalidLength k) h e w = w
 varint_no_fault s n r (Invalid what why) h e w = w
 
 -- A cut text has no byte that ends a number, and no fifth.
-cut_not_bad : (s : List ℕ) → IsCut s → IsNoVarint s → ⊥
-cut_not_bad s c w =
-    let a : AreHigh (w.front ++ w.last ∷ w.rest) = subst AreHigh w.begins c.high in
+truncated_not_misspelled : (s : List ℕ) → IsTruncated s → IsMisspelled s → ⊥
+truncated_not_misspelled s c w =
+    let a : AreContinued (w.front ++ w.last ∷ w.rest) = subst AreContinued w.begins c.high in
     let n : length s ≡ length (w.front ++ w.last ∷ w.rest) = ap length w.begins in
     elim w.wrong [
       | inl z ↦ not_all_high w.front w.last w.rest (omega (arith, z.0)) a
@@ -177,8 +177,8 @@ cut_not_bad s c w =
 -- A text has one fault.
 pub varint_one_fault : (s : List ℕ) (f g : Fault) → varint_fault s f → varint_fault s g → f ≡ g
 varint_one_fault s EndOfBuffer EndOfBuffer p q = refl
-varint_one_fault s EndOfBuffer InvalidVarint p q = absurd (cut_not_bad s p q)
-varint_one_fault s InvalidVarint EndOfBuffer p q = absurd (cut_not_bad s q p)
+varint_one_fault s EndOfBuffer InvalidVarint p q = absurd (truncated_not_misspelled s p q)
+varint_one_fault s InvalidVarint EndOfBuffer p q = absurd (truncated_not_misspelled s q p)
 varint_one_fault s InvalidVarint InvalidVarint p q = refl
 varint_one_fault s (InvalidLength k) g p q = absurd p
 varint_one_fault s (Invalid a b) g p q = absurd p
@@ -193,11 +193,11 @@ pub record Stops (more : ℕ) (s : List ℕ) : Type 0 where
   pub last : ℕ
   pub rest : List ℕ
   pub begins : s ≡ front ++ last ∷ rest
-  pub high : AreHigh front
+  pub high : AreContinued front
   pub short : length front ≤ more
   pub stops : (last < 128) ⊎ (length front ≡ more)
 
-pub stop_of : (more : ℕ) (s : List ℕ) → AreBytes s → (AreHigh s × (length s ≤ more)) ⊎ Stops more s
+pub stop_of : (more : ℕ) (s : List ℕ) → AreBytes s → (AreContinued s × (length s ≤ more)) ⊎ Stops more s
 stop_of more [] h = inl (tt, omega arith)
 stop_of zero (b ∷ s) h = inr (record { front = []; last = b; rest = s; begins = refl; high = tt; short = omega arith; stops = inr refl })
 stop_of (suc more) (b ∷ s) h = elim (cases_lt b 128) [
@@ -226,8 +226,8 @@ sum_fits (a ∷ b ∷ c ∷ d ∷ []) l e h s = let p : l ≤ 15 = s refl in ome
 sum_fits (a ∷ b ∷ c ∷ d ∷ k ∷ f) l e h s = absurd (omega arith)
 
 -- A text that stops is a number or has the fault.
-pub number_of : (s : List ℕ) (front : List ℕ) (last : ℕ) (rest : List ℕ) → s ≡ front ++ last ∷ rest → AreHigh front → length front ≤ 4 → (last < 128) ⊎ (length front ≡ 4) →
-    ((n : ℕ) × (n ≡ groups_sum (front ++ last ∷ [])) × IsVarint n (front ++ last ∷ [])) ⊎ IsNoVarint s
+pub number_of : (s : List ℕ) (front : List ℕ) (last : ℕ) (rest : List ℕ) → s ≡ front ++ last ∷ rest → AreContinued front → length front ≤ 4 → (last < 128) ⊎ (length front ≡ 4) →
+    ((n : ℕ) × (n ≡ groups_sum (front ++ last ∷ [])) × IsVarint n (front ++ last ∷ [])) ⊎ IsMisspelled s
 number_of s front last rest begins high short stops = elim (cases_lt 0 last) [
   | inr z ↦ (let zero' : last ≡ 0 = omega arith in elim (cases_lt 0 (length front)) [
     | inl p ↦ inr (record { front = front; last = last; rest = rest; begins = begins; high = high; wrong = inl (zero', p, short) })
@@ -304,23 +304,23 @@ groups_sum-drop zero (x ∷ xs) = omega arith
 groups_sum-drop (suc i) (x ∷ xs) = let r = groups_sum-drop i xs in omega (arith, r)
 
 -- one more high byte
-pub high_more : (xs : List ℕ) (i : ℕ) → i < length xs → AreHigh (take i xs) → IsHigh (get_or xs i 0) → AreHigh (take (suc i) xs)
+pub high_more : (xs : List ℕ) (i : ℕ) → i < length xs → AreContinued (take i xs) → IsContinued (get_or xs i 0) → AreContinued (take (suc i) xs)
 high_more [] i h a b = absurd (omega arith)
 high_more (x ∷ xs) zero h a b = (b, tt)
 high_more (x ∷ xs) (suc i) h a b = (a.0, high_more xs i (omega arith) a.1 b)
 
 -- What the bytes up to a place make.
-module _ (s : List ℕ) (i : ℕ) (within : i < length s) (high : AreHigh (take i s)) (short : i ≤ 4) where
+module _ (s : List ℕ) (i : ℕ) (within : i < length s) (high : AreContinued (take i s)) (short : i ≤ 4) where
   cut_at : s ≡ take i s ++ get_or s i 0 ∷ drop (i + 1) s
   cut_at = sym (take-append-drop i s) ∙ ap (λ t. take i s ++ t) (drop_more s i 0 within)
 
   front_length : length (take i s) ≡ i
   front_length = length-take-le i s (omega arith)
 
-  pub bad_zero : 0 < i → get_or s i 0 ≡ 0 → IsNoVarint s
+  pub bad_zero : 0 < i → get_or s i 0 ≡ 0 → IsMisspelled s
   bad_zero p z = let n = front_length in record { front = take i s; last = get_or s i 0; rest = drop (i + 1) s; begins = cut_at; high = high; wrong = inl (z, omega (arith, n), omega (arith, n)) }
 
-  pub bad_fifth : i ≡ 4 → 15 < get_or s i 0 → IsNoVarint s
+  pub bad_fifth : i ≡ 4 → 15 < get_or s i 0 → IsMisspelled s
   bad_fifth p z = let n = front_length in record { front = take i s; last = get_or s i 0; rest = drop (i + 1) s; begins = cut_at; high = high; wrong = inr (n ∙ p, z) }
 
   pub good_at : get_or s i 0 < 128 → (get_or s i 0 ≡ 0 → i ≡ 0) → (i ≡ 4 → get_or s i 0 ≤ 15) → IsVarint (groups_sum (take (i + 1) s)) (take (i + 1) s)

@@ -8,32 +8,32 @@ use Rattle.commonware_base.specs.Fault.{Fault, EndOfBuffer}
 use Rattle.commonware_base.specs.Text.{AreBytes, AcceptedOrFaulty, IsPrefixFree, ReadLaws, CanonicalLaws}
 
 -- four bytes, the highest first
-abbrev pub four_bytes : ℕ → List ℕ
-four_bytes n = to_be_bytes w32 n
+abbrev pub word_bytes : ℕ → List ℕ
+word_bytes n = to_be_bytes w32 n
 
 -- a number of 32 bits
 abbrev pub IsWord : ℕ → Type 0
 IsWord n = n < 2 ^ 32
 
 -- fewer than four bytes are left
-abbrev pub four_fault : List ℕ → Fault → Type 0
-four_fault s f = (length s < 4) × (f ≡ EndOfBuffer)
+abbrev pub word_fault : List ℕ → Fault → Type 0
+word_fault s f = (length s < 4) × (f ≡ EndOfBuffer)
 
 -- two texts of four bytes that begin one text are the same
-pub four_prefix_free : IsPrefixFree four_bytes IsWord
-four_prefix_free a b x y p q e = cc
+pub word_prefix_free : IsPrefixFree word_bytes IsWord
+word_prefix_free a b x y p q e = cc
 
 -- four bytes at the front are no fault
-four_no_fault : (s : List ℕ) (v : ℕ) (r : List ℕ) (f : Fault) → s ≡ four_bytes v ++ r → four_fault s f → ⊥
-four_no_fault s v r f e w = omega (arith, w.0, ap length e)
+word_no_fault : (s : List ℕ) (v : ℕ) (r : List ℕ) (f : Fault) → s ≡ word_bytes v ++ r → word_fault s f → ⊥
+word_no_fault s v r f e w = omega (arith, w.0, ap length e)
 
 -- there are four bytes, or fewer
-four_accepted_or_faulty : (s : List ℕ) → AreBytes s → AcceptedOrFaulty four_bytes IsWord (λ _. Unit {0}) (four_fault s) s
-four_accepted_or_faulty [] h = inr (EndOfBuffer, (omega arith, refl))
-four_accepted_or_faulty (a ∷ []) h = inr (EndOfBuffer, (omega arith, refl))
-four_accepted_or_faulty (a ∷ b ∷ []) h = inr (EndOfBuffer, (omega arith, refl))
-four_accepted_or_faulty (a ∷ b ∷ c ∷ []) h = inr (EndOfBuffer, (omega arith, refl))
-four_accepted_or_faulty (a ∷ b ∷ c ∷ d ∷ s) h =
+word_accepted_or_faulty : (s : List ℕ) → AreBytes s → AcceptedOrFaulty word_bytes IsWord (λ _. Unit {0}) (word_fault s) s
+word_accepted_or_faulty [] h = inr (EndOfBuffer, (omega arith, refl))
+word_accepted_or_faulty (a ∷ []) h = inr (EndOfBuffer, (omega arith, refl))
+word_accepted_or_faulty (a ∷ b ∷ []) h = inr (EndOfBuffer, (omega arith, refl))
+word_accepted_or_faulty (a ∷ b ∷ c ∷ []) h = inr (EndOfBuffer, (omega arith, refl))
+word_accepted_or_faulty (a ∷ b ∷ c ∷ d ∷ s) h =
     let t : List ℕ = a ∷ b ∷ c ∷ d ∷ [] in
     inl (from_be_bytes w32 t, s, record { writable = omega (arith, h.0, h.1.0, h.1.1.0, h.1.1.1.0); allowed = tt; begins = ap (λ u. u ++ s) (sym (be_bytes_4 t _ refl small refl)) })
   where
@@ -45,24 +45,24 @@ four_accepted_or_faulty (a ∷ b ∷ c ∷ d ∷ s) h =
     small (suc (suc (suc (suc i)))) = omega arith
 
 -- different words have different bytes
-four_equal : (a b : ℕ) → IsWord a → IsWord b → ((a == b) ≡ true) ↔ (four_bytes a ≡ four_bytes b)
-four_equal a b p q = ((λ e. ap four_bytes (eqb-true a b e)), (λ e. eq-eqb a b (sym (from_be_bytes-to_be_bytes_4 a p) ∙ ap (from_be_bytes w32) e ∙ from_be_bytes-to_be_bytes_4 b q)))
+word_equal : (a b : ℕ) → IsWord a → IsWord b → ((a == b) ≡ true) ↔ (word_bytes a ≡ word_bytes b)
+word_equal a b p q = ((λ e. ap word_bytes (eqb-true a b e)), (λ e. eq-eqb a b (sym (from_be_bytes-to_be_bytes_4 a p) ∙ ap (from_be_bytes w32) e ∙ from_be_bytes-to_be_bytes_4 b q)))
 
-pub four_laws : ReadLaws four_bytes IsWord (λ _. Unit {0}) four_fault
-four_laws = record {
+pub word_laws : ReadLaws word_bytes IsWord (λ _. Unit {0}) word_fault
+word_laws = record {
   allowed_by_bytes = λ a b _ _ _ h. h;
   one_fault = λ s f g v w. v.1 ∙ sym w.1;
-  accepted_no_fault = λ s v r f a w. four_no_fault s v r f a.begins w;
-  accepted_or_faulty = four_accepted_or_faulty;
+  accepted_no_fault = λ s v r f a w. word_no_fault s v r f a.begins w;
+  accepted_or_faulty = word_accepted_or_faulty;
 }
 
-pub four_canonical : CanonicalLaws four_bytes IsWord (λ a b. a == b)
-four_canonical = record { equal_by_bytes = four_equal; writable_together = λ a b e p. subst IsWord (eqb-true a b e) p }
+pub word_canonical : CanonicalLaws word_bytes IsWord (λ a b. a == b)
+word_canonical = record { equal_by_bytes = word_equal; writable_together = λ a b e p. subst IsWord (eqb-true a b e) p }
 
 -- the bytes of a word are bytes
-pub four_text : (n : ℕ) → AreBytes (four_bytes n)
-four_text n = (omega arith, (omega arith, (omega arith, (omega arith, tt))))
+pub word_text : (n : ℕ) → AreBytes (word_bytes n)
+word_text n = (omega arith, (omega arith, (omega arith, (omega arith, tt))))
 
 -- and there are four of them
-pub four_length : (n : ℕ) → length (four_bytes n) ≤ 4
-four_length n = omega arith
+pub word_length : (n : ℕ) → length (word_bytes n) ≤ 4
+word_length n = omega arith

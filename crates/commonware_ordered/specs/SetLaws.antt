@@ -10,7 +10,7 @@ use Rattle.commonware_base.specs.Fault.{Fault}
 use Rattle.commonware_base.specs.Text.{Accepts, IsPrefixFree, ReadLaws, CanonicalLaws}
 use Rattle.commonware_base.specs.Lists.{list_enc, IsWritableList, IsAllowedList, ListFault}
 use Rattle.commonware_base.specs.ListLaws.{list_prefix_free, list_laws, list_canonical}
-use Rattle.commonware_ordered.specs.Sets.{IsWritableSet, HasUnsorted, unsorted_fault, SetFault, bad_list, bad_order, set_cut, at_list, at_order}
+use Rattle.commonware_ordered.specs.Sets.{IsWritableSet, BeginsUnsorted, unsorted_fault, SetFault, bad_list, bad_order, set_cut, at_list, at_order}
 use Rattle.commonware_ordered.specs.StrictLaws.{strict_or_not, strict_same}
 
 module _ {T : Type 0} (enc : T → List ℕ) (Writable : T → Type 0) (cmp : T → T → Ordering) (prefix_free : IsPrefixFree enc Writable) where
@@ -41,7 +41,7 @@ module _ {T : Type 0} (enc : T → List ℕ) (Writable : T → Type 0) (cmp : T 
           w.unsorted (strict_same cmp eq total matches_eq v w.items equal a.writable.strict)
 
       -- the list that isn't strict is accepted as a list
-      list_of : (s : List ℕ) (w : HasUnsorted enc Writable cmp Allowed range s) → Accepts (list_enc enc) (IsWritableList Writable) (IsAllowedList range Allowed) s w.items w.rest
+      list_of : (s : List ℕ) (w : BeginsUnsorted enc Writable cmp Allowed range s) → Accepts (list_enc enc) (IsWritableList Writable) (IsAllowedList range Allowed) s w.items w.rest
       list_of s w = record { writable = w.writable; allowed = w.allowed; begins = w.begins }
 
       -- two faults of a text are at one cut

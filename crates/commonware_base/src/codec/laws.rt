@@ -1,5 +1,5 @@
 //! Laws of the byte forms, each the contract of a call that a proof can cite.
-ghost use Rattle.std.specs.Prelude.{◌≡◌, ℕ, ◌<◌, ◌^◌, List, true, IfOk, IfErr};
+ghost use Rattle.std.specs.Prelude.{◌≡◌, ℕ, ◌<◌, ◌^◌, List, length, true, IfOk, IfErr};
 ghost use Rattle.commonware_base.specs.Fault.{Fault};
 ghost use Rattle.commonware_base.specs.Lists.{ListFault, list_cut};
 ghost use Rattle.commonware_base.specs.Varint.{IsVarint, varint};
@@ -26,23 +26,29 @@ pub fn list_fault_law<T: Read<A>, A: Allocator>(alloc: A, range: RangeCfg<usize>
     let _ = (alloc, range);
 }
 
-/// Writes a value and reads it again: an equal value, or `Memory`.
+/// Writes a value and any bytes after it, and reads it again: an equal value, and how many bytes are left, which are
+/// those after it; or `Memory`.
 ///
 /// The value is writable, and the configuration allows it.
-pub fn round_trip<T: Read<A> + Write<A> + Canonical, A: Allocator + Copy>(
+pub fn round_trip<T: Read<A> + Write<A> + Canonical + Drop, A: Allocator + Copy>(
     alloc: A,
     value: &T,
+    after: &[u8],
     cfg: &T::Cfg,
-) -> Result<T, Error>
+) -> Result<(T, usize), Error>
     requires writable { T.writable value.now }
     requires allowed { T.allowed cfg.now value.now }
-    ensures equal { IfOk result (λ again. T.eq again value.now ≡ true) }
+    ensures equal { IfOk result (λ p. T.eq p.0 value.now ≡ true) }
+    ensures left { IfOk result (λ p. p.1 ≡ length after.now) }
     ensures memory { IfErr result (λ error. error ≡ Error.Memory) }
 {
     let mut sink = Vec::new(alloc);
-    if value.write(&mut sink).is_err() {
+    if value.write(&mut sink).is_err() || sink.extend_from_slice(after).is_err() {
         return Err(Error::Memory);
     }
     let mut src = Source::new(&sink);
-    T::read_cfg(alloc, &mut src, cfg)
+    match T::read_cfg(alloc, &mut src, cfg) {
+        Ok(again) => Ok((again, src.remaining())),
+        Err(error) => Err(error),
+    }
 }

@@ -4,7 +4,7 @@ ghost use Rattle.commonware_base.specs.Text.{IsByte};
 ghost use Rattle.commonware_base.specs.Bytes.{byte, byte_fault, byte_prefix_free, byte_laws, byte_canonical, byte_length};
 ghost use Rattle.commonware_base.specs.Varint.{varint};
 ghost use Rattle.commonware_base.specs.VarintLaws.{varint_bytes};
-ghost use Rattle.commonware_base.specs.Words.{IsWord, four_bytes, four_fault, four_prefix_free, four_laws, four_canonical, four_text, four_length};
+ghost use Rattle.commonware_base.specs.Words.{IsWord, word_bytes, word_fault, word_prefix_free, word_laws, word_canonical, word_text, word_length};
 ghost use Rattle.commonware_base.specs.Numbers.{NumberFault, number_prefix_free, number_laws, number_canonical};
 ghost use Rattle.commonware_base.specs.Range.{Within};
 
@@ -77,13 +77,13 @@ impl MaxEncodeSize for u8 {
 }
 
 impl EncodeSize for u32 {
-    ghost enc = { four_bytes };
+    ghost enc = { word_bytes };
 
     ghost writable = { IsWord };
 
-    ghost prefix_free = { four_prefix_free };
+    ghost prefix_free = { word_prefix_free };
 
-    ghost text_of_bytes = { λ v h. four_text v };
+    ghost text_of_bytes = { λ v h. word_text v };
 
     fn encode_size(&self) -> usize {
         4
@@ -106,11 +106,11 @@ impl<A: Allocator> Read<A> for u32 {
 
     ghost allowed = { λ _ _. Unit {0} };
 
-    ghost fault = { λ _ s f. four_fault s f };
+    ghost fault = { λ _ s f. word_fault s f };
 
     ghost memory_free = { λ _ _. Unit {0} };
 
-    ghost read_laws = { λ _ _. four_laws };
+    ghost read_laws = { λ _ _. word_laws };
 
     fn read_cfg(_alloc: A, src: &mut Source<'_>, _cfg: &()) -> Result<u32, Error> {
         let rest = src.rest();
@@ -128,11 +128,11 @@ impl MaxEncodeSize for u32 {
 
     const MAX_ENCODE_SIZE: usize = 4;
 
-    ghost bounded = { λ v h. four_length v };
+    ghost bounded = { λ v h. word_length v };
 }
 
 impl Canonical for u32 {
-    ghost canonical = { four_canonical };
+    ghost canonical = { word_canonical };
 }
 
 impl EncodeSize for usize {

@@ -130,8 +130,8 @@ fn equal_sets_of_labelled_items_have_equal_bytes(rt: HostRuntime) -> Result<(), 
 fn a_labelled_item_is_read_back_equal(rt: HostRuntime) -> Result<(), Fail> {
     let item = item(7, 'x');
     assert!(rt; item.is_writable());
-    let again = round_trip(rt.alloc(), &item, &())?;
+    let (again, left) = round_trip(rt.alloc(), &item, b"\x01\x02", &())?;
     assert!(rt; again == item);
-    assert_eq!(rt; again.label, 'r');
+    assert_eq!(rt; (again.label, left), ('r', 2));
     Ok(())
 }

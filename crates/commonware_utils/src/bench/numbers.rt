@@ -73,6 +73,15 @@ fn words_and_numbers_in_a_range(rt: HostRuntime) -> Result<(), Fail> {
     300usize.write(&mut sink)?;
     7u8.write(&mut sink)?;
     assert_eq!(rt; sink.as_slice(), b"\x00\x00\x01\x02\xac\x02\x07".as_slice());
+    assert!(rt; 300usize.is_writable());
+    assert_eq!(rt;
+        (
+            7u8.encode_size(),
+            258u32.encode_size(),
+            300usize.encode_size()
+        ),
+        (1, 4, 2)
+    );
     assert_eq!(rt;
         read::<u32, _>(rt.alloc(), b"\x00\x00\x01\x02", &()),
         (Ok(258), 4)
@@ -107,5 +116,19 @@ fn words_and_numbers_in_a_range(rt: HostRuntime) -> Result<(), Fail> {
         ),
         (1, 4, 5)
     );
+    Ok(())
+}
+
+#[test]
+fn errors_say_what_is_wrong(rt: HostRuntime) -> Result<(), Fail> {
+    for (error, text) in [
+        (Error::EndOfBuffer, "end of input"),
+        (Error::InvalidVarint, "invalid varint"),
+        (Error::InvalidLength(257), "length 257"),
+        (Error::Invalid("Set", "a rule"), "Set: a rule"),
+        (Error::Memory, "out of memory"),
+    ] {
+        assert_eq!(rt; format!(in rt.alloc(); "{error}")?.as_str(), text);
+    }
     Ok(())
 }

@@ -149,8 +149,9 @@ fn sets_nest_three_deep(rt: HostRuntime) -> Result<(), Fail> {
     let (nest, taken) = read::<Set<Set<Set<u8, _>, _>, _>, _>(alloc, bytes, &cfg);
     let nest = nest?;
     assert_eq!(rt; (nest.len(), taken), (2, 6));
-    let again = round_trip(alloc, &nest, &cfg);
-    assert!(rt; again? == nest);
+    let (again, left) = round_trip(alloc, &nest, b"\xff", &cfg)?;
+    assert!(rt; again == nest);
+    assert_eq!(rt; left, 1);
     Ok(())
 }
 

@@ -14,6 +14,11 @@ fn a_failed_read_is_no_end(rt: HostRuntime) {
             let outcome = run(rt.alloc(), Command::Read, &mut input, &mut output);
             assert_eq!(rt; outcome, Err(RunError::ReadFailed), "{given:?}");
             assert!(rt; input.failed() && !input.ended() && !output.failed());
+            assert_eq!(rt;
+                input.inner().calls as usize,
+                given.len() + 1,
+                "nothing is tried again"
+            );
             assert_eq!(rt; (output.inner().calls, output.inner().flushes), (0, 0));
         }
     }
@@ -61,14 +66,17 @@ fn a_failed_flush_is_told(rt: HostRuntime) {
 
 #[test]
 fn each_call_reaches_the_watched_device(rt: HostRuntime) -> Result<(), Fail> {
-    let mut input = reader(b"abc", 2);
+    let mut input = reader(b"abcdef", 2);
     let mut buffer = [0u8; 4];
+    assert_eq!(rt; input.read(&mut buffer[..0])?, 0);
+    assert_eq!(rt; input.read(&mut buffer[..1])?, 1);
+    assert_eq!(rt; input.read(&mut buffer[..3])?, 2);
     assert_eq!(rt; input.read(&mut buffer)?, 2);
     assert_eq!(rt; input.read(&mut buffer)?, 1);
     assert!(rt; !input.ended());
     assert_eq!(rt; input.read(&mut buffer)?, 0);
     assert!(rt; input.ended() && !input.failed());
-    assert_eq!(rt; input.inner().calls, 3);
+    assert_eq!(rt; input.inner().calls, 6);
 
     let mut output = writer(rt.alloc(), 2);
     assert_eq!(rt; output.write(b"abc")?, 2);
@@ -86,6 +94,7 @@ fn failures_are_remembered(rt: HostRuntime) {
     let mut buffer = [0u8; 4];
     assert!(rt; input.read(&mut buffer).is_err());
     assert!(rt; input.failed() && !input.ended());
+    assert_eq!(rt; input.inner().calls, 1);
 
     let mut output = failing_writer(rt.alloc(), 9, 0, WriteFault::TakesNothing);
     assert!(rt; matches!(output.write(b"a"), Ok(0)));

@@ -3,7 +3,7 @@
 use super::{FOUR, FOUR_REPORT, WHOLE, reader, writer};
 use crate::Refusing;
 use committee_core::{Command, RunError, run};
-use commonware_utils::codec::{EncodeSize, Error, RangeCfg, Read, Source, Write};
+use commonware_utils::codec::{EncodeSize, Error, RangeCfg, Read, Source, UInt, Write, read_list};
 use commonware_utils::ordered::Set;
 use std::alloc::{AllocError, Global};
 use std::test::Fail;
@@ -158,5 +158,51 @@ fn what_needs_no_memory_is_answered_without(rt: HostRuntime) -> Result<(), Fail>
     let heap = Refusing::after(rt.alloc(), 0);
     let none: Set<u8, &Refusing<Global>> = Set::empty(&heap);
     assert!(rt; none.is_empty() && !heap.has_refused());
+    Ok(())
+}
+
+#[test]
+fn a_refused_varint_leaves_the_sink(rt: HostRuntime) -> Result<(), Fail> {
+    let heap = Refusing::after(rt.alloc(), u64::MAX);
+    let mut refusals = 0;
+    for length in 0..64usize {
+        heap.restart(u64::MAX);
+        let mut sink = Vec::new(&heap);
+        for _ in 0..length {
+            sink.push(0xaau8)?;
+        }
+        heap.restart(0);
+        let written = UInt(300).write(&mut sink);
+        if heap.has_refused() {
+            assert!(rt; written.is_err());
+            assert_eq!(rt; sink.len(), length);
+            refusals += 1;
+        } else {
+            assert_eq!(rt; sink.len(), length + 2);
+        }
+    }
+    assert!(rt; refusals > 2, "{refusals}");
+    Ok(())
+}
+
+#[test]
+fn a_refused_list_leaves_the_source(rt: HostRuntime) -> Result<(), Fail> {
+    let bytes = b"\x03\x00\x02\x01\x02\x01\x07";
+    let any = RangeCfg::from(..);
+    let mut runs = 0;
+    for granted in 0..ENOUGH {
+        let heap = Refusing::after(rt.alloc(), granted);
+        let mut src = Source::new(bytes);
+        let read: Result<Vec<Vec<u8, _>, _>, Error> = read_list(&heap, &mut src, any, &(any, ()));
+        if !heap.has_refused() {
+            assert_eq!(rt; read?.len(), 3);
+            assert_eq!(rt; src.remaining(), 0);
+            runs = granted;
+            break;
+        }
+        assert_eq!(rt; read.err(), Some(Error::Memory), "request {granted}");
+        assert_eq!(rt; src.position(), 0);
+    }
+    assert!(rt; runs > 2, "{runs}");
     Ok(())
 }

@@ -1,6 +1,6 @@
 //! What a session writes, says and answers.
 use super::{FOUR, FOUR_REPORT, WHOLE, failing_reader, failing_writer, reader, words_of, writer};
-use crate::{ScriptedWriter, WriteFault};
+use crate::{Refusing, ScriptedWriter, WriteFault};
 use committee_core::{Command, parse_args, session};
 use std::io::ErrorKind;
 use std::test::Fail;
@@ -122,6 +122,21 @@ fn a_failed_writer_gives_status_3(rt: HostRuntime) -> Result<(), Fail> {
 }
 
 #[test]
+fn a_refused_request_gives_status_3(rt: HostRuntime) -> Result<(), Fail> {
+    let heap = Refusing::after(rt.alloc(), u64::MAX);
+    let words = words_of(&heap, &["read"])?;
+    let mut input = reader(FOUR, WHOLE);
+    let mut output = writer(rt.alloc(), WHOLE);
+    let mut errors: Vec<u8> = Vec::new(rt.alloc());
+    heap.restart(0);
+    let status = session(&heap, &words, &mut input, &mut output, &mut errors);
+    assert_eq!(rt; status, 3);
+    assert_eq!(rt; errors.as_slice(), b"failed: out of memory\n".as_slice());
+    assert_eq!(rt; (output.inner().calls, output.inner().flushes), (0, 0));
+    Ok(())
+}
+
+#[test]
 fn a_failing_standard_error_changes_no_status(rt: HostRuntime) -> Result<(), Fail> {
     let alloc = rt.alloc();
     for (word, bytes, wanted) in [
@@ -137,5 +152,17 @@ fn a_failing_standard_error_changes_no_status(rt: HostRuntime) -> Result<(), Fai
         let status = session(alloc, &words, &mut input, &mut output, &mut errors);
         assert_eq!(rt; status, wanted, "{word} {bytes:?}");
     }
+    Ok(())
+}
+
+#[test]
+fn a_failing_standard_error_leaves_status_3(rt: HostRuntime) -> Result<(), Fail> {
+    let words = words_of(rt.alloc(), &["read"])?;
+    let mut input = failing_reader(b"", ErrorKind::Interrupted);
+    let mut output = writer(rt.alloc(), WHOLE);
+    let mut errors = ScriptedWriter::new(rt.alloc(), WHOLE).with_fault(0, WriteFault::TakesNothing);
+    let status = session(rt.alloc(), &words, &mut input, &mut output, &mut errors);
+    assert_eq!(rt; status, 3);
+    assert_eq!(rt; errors.calls, 1);
     Ok(())
 }
