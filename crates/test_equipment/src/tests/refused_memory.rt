@@ -164,7 +164,7 @@ fn what_needs_no_memory_is_answered_without(rt: HostRuntime) -> Result<(), Fail>
 #[test]
 fn a_refused_varint_leaves_the_sink(rt: HostRuntime) -> Result<(), Fail> {
     let heap = Refusing::after(rt.alloc(), u64::MAX);
-    let mut refusals = 0;
+    let mut refusals = 0u32;
     for length in 0..64usize {
         heap.restart(u64::MAX);
         let mut sink = Vec::new(&heap);
@@ -176,7 +176,7 @@ fn a_refused_varint_leaves_the_sink(rt: HostRuntime) -> Result<(), Fail> {
         if heap.has_refused() {
             assert!(rt; written.is_err());
             assert_eq!(rt; sink.len(), length);
-            refusals += 1;
+            refusals = refusals.saturating_add(1);
         } else {
             assert_eq!(rt; sink.len(), length + 2);
         }
