@@ -14,6 +14,7 @@ use Rattle.commonware_base.specs.Lists.{list_enc, IsWritableList, IsAllowedList,
 use Rattle.commonware_base.specs.ListLaws.{list_wants_memory}
 use Rattle.commonware_base.proofs.SourceLemmas.{consumes_both}
 
+-- what holds of all items, and of one more, holds of all with it
 all_push : {T : Type 0} (P : T → Type 0) (xs : List T) (x : T) → AllByRecursion P xs → P x → AllByRecursion P (xs ++ x ∷ [])
 all_push P [] x h p = (p, tt)
 all_push P (y ∷ xs) x h p = (h.0, all_push P xs x h.1 p)
@@ -28,9 +29,11 @@ pub record ReadSoFar {T : Type 0} (enc : T → List ℕ) (Writable Allowed : T �
   pub done_is : length items ≡ done
 
 module _ {T : Type 0} (enc : T → List ℕ) (Writable Allowed : T → Type 0) (range : Bounds ℕ) (count : ℕ) (start : Source) where
+  -- no item was read yet
   pub read_none : (now : Source) → count < 2 ^ 32 → Within range count → Consumes start now (varint count) → ReadSoFar enc Writable Allowed range count 0 start now []
   read_none now h w t = record { short = h; in_range = w; taken = subst (Consumes start now) (sym (append-nil (varint count))) t; writable = tt; allowed = tt; done_is = refl }
 
+  -- one more item was read
   pub read_more : (done : ℕ) (now next : Source) (items : List T) (v : T) → ReadSoFar enc Writable Allowed range count done start now items → Accepts enc Writable Allowed (rest_of now) v (rest_of next) → Consumes now next (enc v) → ReadSoFar enc Writable Allowed range count (done + 1) start next (items ++ v ∷ [])
   read_more done now next items v s a t =
       let both = consumes_both start now next (varint count ++ flat_map enc items) (enc v) s.taken t in
@@ -47,19 +50,24 @@ module _ {T : Type 0} (enc : T → List ℕ) (Writable Allowed : T → Type 0) (
       }
 
   module _ (now : Source) (items : List T) (s : ReadSoFar enc Writable Allowed range count count start now items) where
+    -- all items were read
     pub read_all : Consumes start now (list_enc enc items)
     read_all = subst (λ n. Consumes start now (varint n ++ flat_map enc items)) (sym s.done_is) s.taken
 
+    -- so the list is writable
     pub read_all_writable : IsWritableList Writable items
     read_all_writable = record { short = subst (λ n. n < 2 ^ 32) (sym s.done_is) s.short; each = s.writable }
 
+    -- and allowed
     pub read_all_allowed : IsAllowedList range Allowed items
     read_all_allowed = record { in_range = subst (Within range) (sym s.done_is) s.in_range; each = s.allowed }
 
   module _ (item_fault : List ℕ → Fault → Type 0) (ItemMemoryFree : List ℕ → Type 0) where
+    -- a length out of the range is the fault
     pub read_outside : (now : Source) → count < 2 ^ 32 → ¬ Within range count → Consumes start now (varint count) → ListFault enc Writable Allowed item_fault range (rest_of start) (InvalidLength count)
     read_outside now h w t = bad_length count refl (record { rest = rest_of now; short = h; begins = t.rest; outside = w })
 
+    -- an item's fault is the list's
     pub read_faulty : (done : ℕ) (now : Source) (items : List T) (f : Fault) → ReadSoFar enc Writable Allowed range count done start now items → done < count → item_fault (rest_of now) f → ListFault enc Writable Allowed item_fault range (rest_of start) f
     read_faulty done now items f s h w = bad_item (record {
       count = count;

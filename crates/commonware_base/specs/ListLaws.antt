@@ -50,6 +50,7 @@ module _ {T : Type 0} (enc : T → List ℕ) (Writable : T → Type 0)
       cc
 
   module _ (Allowed : T → Type 0) (allowed_by_bytes : (a b : T) → Writable a → Writable b → enc a ≡ enc b → Allowed a → Allowed b) where
+    -- as many items of one spelling are allowed together
     allowed_items : (xs ys : List T) → length xs ≡ length ys → AllByRecursion Writable xs → AllByRecursion Writable ys → flat_map enc xs ++ [] ≡ flat_map enc ys ++ [] → AllByRecursion Allowed xs → AllByRecursion Allowed ys
     allowed_items [] [] n p q e h = tt
     allowed_items [] (b ∷ ys) n p q e h = absurd (omega arith)
@@ -58,6 +59,7 @@ module _ {T : Type 0} (enc : T → List ℕ) (Writable : T → Type 0)
         let f = split_first a b xs ys [] [] p.0 q.0 e in
         (allowed_by_bytes a b p.0 q.0 f.0 h.0, allowed_items xs ys (omega arith) p.1 q.1 f.1 h.1)
 
+    -- lists of one spelling are allowed together
     pub list_allowed_by_bytes : (range : Bounds ℕ) (xs ys : List T) → IsWritableList Writable xs → IsWritableList Writable ys → list_enc enc xs ≡ list_enc enc ys → IsAllowedList range Allowed xs → IsAllowedList range Allowed ys
     list_allowed_by_bytes range xs ys p q e h =
         let f = split_count xs ys [] [] p q (ap (λ u. u ++ []) e) in
@@ -84,6 +86,7 @@ module _ {T : Type 0} (enc : T → List ℕ) (Writable : T → Type 0)
       no_fault_among (a ∷ xs) (b ∷ ys) s t g n p q h e w = no_fault_among xs ys s t g (omega arith) p.1 q.1 h.1 (split_first a b xs ys s t p.0 q.0 e).1 w
 
       module _ (range : Bounds ℕ) where
+        -- a list at the front is no fault
         pub list_accepted_no_fault : (s : List ℕ) (xs : List T) (r : List ℕ) (f : Fault) → IsWritableList Writable xs → IsAllowedList range Allowed xs → s ≡ list_enc enc xs ++ r → ListFault enc Writable Allowed item_fault range s f → ⊥
         list_accepted_no_fault s xs r f p h e (bad_spelling w) = varint_no_fault s (length xs) (flat_map enc xs ++ r) f p.short (e ∙ append_assoc (varint (length xs)) (flat_map enc xs) r) w
         list_accepted_no_fault s xs r f p h e (bad_length n q w) =
@@ -138,6 +141,7 @@ module _ {T : Type 0} (enc : T → List ℕ) (Writable : T → Type 0)
           faulty : item_fault rest fault
 
         module _ (accepted_or_faulty : (s : List ℕ) → AreBytes s → AcceptedOrFaulty enc Writable Allowed (item_fault s) s) where
+          -- a text has n items at the front, or some and then a fault
           items_or_fault : (n : ℕ) (s : List ℕ) → AreBytes s → Items n s ⊎ FaultyItems n s
           items_or_fault zero s h = inl (record { items = []; rest = s; count = refl; begins = refl; writable = tt; allowed = tt })
           items_or_fault (suc n) s h = elim (accepted_or_faulty s h) [
@@ -164,6 +168,7 @@ module _ {T : Type 0} (enc : T → List ℕ) (Writable : T → Type 0)
             ]
           ]
 
+          -- a text begins with a list or has a fault
           pub list_accepted_or_faulty : (s : List ℕ) → AreBytes s → AcceptedOrFaulty (list_enc enc) (IsWritableList Writable) (IsAllowedList range Allowed) (ListFault enc Writable Allowed item_fault range s) s
           list_accepted_or_faulty s h = elim (varint_or_fault s h) [
             | inr w ↦ inr (w.0, bad_spelling w.1)
@@ -214,6 +219,7 @@ list_wants_memory item_fault ItemMemoryFree range s n r h p i e none m = go m
 module _ {T : Type 0} (enc : T → List ℕ) (Writable : T → Type 0)
     (prefix_free : IsPrefixFree enc Writable)
     (eq : T → T → Bool) where
+  -- equal lists have one length
   pointwise_length : (xs ys : List T) → pointwise eq xs ys ≡ true → length xs ≡ length ys
   pointwise_length [] [] e = refl
   pointwise_length [] (y ∷ ys) e = absurd (cc)
@@ -221,6 +227,7 @@ module _ {T : Type 0} (enc : T → List ℕ) (Writable : T → Type 0)
   pointwise_length (x ∷ xs) (y ∷ ys) e = ap suc (pointwise_length xs ys (and_parts (eq x y) (pointwise eq xs ys) e).1)
 
   module _ (equal_by_bytes : (a b : T) → Writable a → Writable b → (eq a b ≡ true) ↔ (enc a ≡ enc b)) where
+    -- equal items have one spelling
     equal_items : (xs ys : List T) → AllByRecursion Writable xs → AllByRecursion Writable ys → pointwise eq xs ys ≡ true → flat_map enc xs ≡ flat_map enc ys
     equal_items [] [] p q e = refl
     equal_items [] (y ∷ ys) p q e = absurd (cc)
@@ -231,6 +238,7 @@ module _ {T : Type 0} (enc : T → List ℕ) (Writable : T → Type 0)
         let tail = equal_items xs ys p.1 q.1 b.1 in
         cc
 
+    -- items of one spelling are equal
     items_equal : (xs ys : List T) → length xs ≡ length ys → AllByRecursion Writable xs → AllByRecursion Writable ys → flat_map enc xs ++ [] ≡ flat_map enc ys ++ [] → pointwise eq xs ys ≡ true
     items_equal [] [] n p q e = refl
     items_equal [] (y ∷ ys) n p q e = absurd (omega arith)
@@ -239,6 +247,7 @@ module _ {T : Type 0} (enc : T → List ℕ) (Writable : T → Type 0)
         let f = split_first enc Writable prefix_free x y xs ys [] [] p.0 q.0 e in
         and_from (eq x y) (pointwise eq xs ys) ((equal_by_bytes x y p.0 q.0).1 f.0) (items_equal xs ys (omega arith) p.1 q.1 f.1)
 
+    -- lists are equal exactly where their bytes are
     pub list_equal_by_bytes : (xs ys : List T) → IsWritableList Writable xs → IsWritableList Writable ys → (pointwise eq xs ys ≡ true) ↔ (list_enc enc xs ≡ list_enc enc ys)
     list_equal_by_bytes xs ys p q = (
       (λ e. let n : length xs ≡ length ys = pointwise_length xs ys e in
@@ -247,6 +256,7 @@ module _ {T : Type 0} (enc : T → List ℕ) (Writable : T → Type 0)
       (λ e. let f = split_count enc Writable prefix_free xs ys [] [] p q (ap (λ u. u ++ []) e) in items_equal xs ys f.0 p.each q.each f.1),
     )
 
+  -- equal lists are writable together
   pub list_writable_together : ((a b : T) → eq a b ≡ true → Writable a → Writable b) → (xs ys : List T) → pointwise eq xs ys ≡ true → IsWritableList Writable xs → IsWritableList Writable ys
   list_writable_together together xs ys e p = record { short = subst (λ n. n < 2 ^ 32) (pointwise_length xs ys e) p.short; each = go xs ys e p.each }
     where
@@ -258,6 +268,7 @@ module _ {T : Type 0} (enc : T → List ℕ) (Writable : T → Type 0)
 
 -- A list keeps the laws that its items keep.
 module _ {T : Type 0} (enc : T → List ℕ) (Writable : T → Type 0) (prefix_free : IsPrefixFree enc Writable) where
+  -- what is promised of the texts of lists
   pub list_laws : (Allowed : T → Type 0) (item_fault : List ℕ → Fault → Type 0) (range : Bounds ℕ) → ReadLaws enc Writable Allowed item_fault → ReadLaws (list_enc enc) (IsWritableList Writable) (IsAllowedList range Allowed) (ListFault enc Writable Allowed item_fault range)
   list_laws Allowed item_fault range h = record {
     allowed_by_bytes = list_allowed_by_bytes enc Writable prefix_free Allowed h.allowed_by_bytes range;
@@ -270,6 +281,7 @@ module _ {T : Type 0} (enc : T → List ℕ) (Writable : T → Type 0) (prefix_f
   pub list_cuts_exclude : (Allowed : T → Type 0) (item_fault : List ℕ → Fault → Type 0) (range : Bounds ℕ) → ReadLaws enc Writable Allowed item_fault → (s : List ℕ) (f g : Fault) (v : ListFault enc Writable Allowed item_fault range s f) (w : ListFault enc Writable Allowed item_fault range s g) → list_cut v ≡ list_cut w
   list_cuts_exclude Allowed item_fault range h = list_one_cut enc Writable prefix_free Allowed h.allowed_by_bytes item_fault h.one_fault h.accepted_no_fault range
 
+  -- lists are canonical where their items are
   pub list_canonical : (eq : T → T → Bool) → CanonicalLaws enc Writable eq → CanonicalLaws (list_enc enc) (IsWritableList Writable) (pointwise eq)
   list_canonical eq h = record {
     equal_by_bytes = list_equal_by_bytes enc Writable prefix_free eq h.equal_by_bytes;

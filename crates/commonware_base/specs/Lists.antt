@@ -5,13 +5,16 @@ use Rattle.commonware_base.specs.Fault.{Fault, InvalidLength}
 use Rattle.commonware_base.specs.Range.{Bounds, Within}
 use Rattle.commonware_base.specs.Varint.{varint, varint_fault}
 
+-- the varint of the length, and then the bytes of each item
 abbrev pub list_enc : {T : Type 0} → (T → List ℕ) → List T → List ℕ
 list_enc enc items = varint (length items) ++ flat_map enc items
 
+-- The length has a varint, and each item is writable.
 pub record IsWritableList {T : Type 0} (Writable : T → Type 0) (items : List T) : Type 0 where
   pub short : length items < 2 ^ 32
   pub each : AllByRecursion Writable items
 
+-- The length is in the range, and each item is allowed.
 pub record IsAllowedList {T : Type 0} (range : Bounds ℕ) (Allowed : T → Type 0) (items : List T) : Type 0 where
   pub in_range : Within range (length items)
   pub each : AllByRecursion Allowed items

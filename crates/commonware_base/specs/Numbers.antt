@@ -53,6 +53,7 @@ number_accepted_or_faulty range s h = elim (varint_or_fault s h) [
   ]
 ]
 
+-- what is promised of the texts of varints
 pub varint_laws : ReadLaws varint IsWord (λ _. Unit {0}) varint_fault
 varint_laws = record {
   allowed_by_bytes = λ a b _ _ _ h. h;
@@ -61,9 +62,11 @@ varint_laws = record {
   accepted_or_faulty = varint_accepted_or_faulty;
 }
 
+-- numbers are equal exactly where their bytes are
 pub number_canonical : CanonicalLaws varint IsWord (λ a b. a == b)
 number_canonical = record { equal_by_bytes = varint_equal; writable_together = λ a b e p. subst IsWord (eqb-true a b e) p }
 
+-- what is promised of the texts of numbers in a range
 pub number_laws : (range : Bounds ℕ) → ReadLaws varint IsWord (Within range) (NumberFault range)
 number_laws range = record {
   allowed_by_bytes = λ a b p q e h. subst (Within range) (varint_split a b [] [] p q (ap (λ t. t ++ []) e)).0 h;

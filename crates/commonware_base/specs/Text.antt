@@ -3,6 +3,7 @@ use Rattle.std.specs.Prelude.{◌≡◌, ℕ, ◌<◌, ◌^◌, List, ◌++◌, 
 use Rattle.std.specs.List.{AllByRecursion}
 use Rattle.commonware_base.specs.Fault.{Fault}
 
+-- a number of eight bits
 abbrev pub IsByte : ℕ → Type 0
 IsByte b = b < 2 ^ 8
 

@@ -16,9 +16,11 @@ bytes_right (b ∷ x) y h = bytes_right x y h.1
 
 -- A type whose values are seen as those of another keeps the laws that these keep.
 module _ {T V : Type 0} (view : V → T) (enc : T → List ℕ) (Writable : T → Type 0) where
+  -- no spelling begins another
   pub prefix_free_on : IsPrefixFree enc Writable → IsPrefixFree (λ v. enc (view v)) (λ v. Writable (view v))
   prefix_free_on h a b = h (view a) (view b)
 
+  -- values are equal exactly where their bytes are
   pub canonical_on : (eq : T → T → Bool) → CanonicalLaws enc Writable eq → CanonicalLaws (λ v. enc (view v)) (λ v. Writable (view v)) (λ v w. eq (view v) (view w))
   canonical_on eq h = record { equal_by_bytes = λ a b. h.equal_by_bytes (view a) (view b); writable_together = λ a b. h.writable_together (view a) (view b) }
 

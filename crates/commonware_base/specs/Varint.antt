@@ -7,6 +7,7 @@ use Rattle.commonware_base.specs.Fault.{Fault, EndOfBuffer, InvalidVarint}
 abbrev pub IsContinued : ℕ → Type 0
 IsContinued b = (128 ≤ b) × (b < 256)
 
+-- bytes that each have more after them
 abbrev pub AreContinued : List ℕ → Type 0
 AreContinued = AllByRecursion IsContinued
 

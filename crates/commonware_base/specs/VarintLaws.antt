@@ -53,6 +53,7 @@ record Spells (number more : ℕ) (bytes : List ℕ) : Type 0 where
   sum : groups_sum bytes ≡ number
   positive : 0 < number → 0 < last
 
+-- the groups of a number spell it
 spells : (more n : ℕ) → n < 128 ^ suc more → Spells n more (groups more n)
 spells zero n h = record { front = []; last = n; bytes_are = refl; high = tt; low = omega arith; shortest = λ _. refl; short = omega arith; sum = omega arith; positive = λ p. p }
 spells (suc more) n h = elim (cases_lt n 128) [
@@ -197,6 +198,7 @@ pub record Stops (more : ℕ) (s : List ℕ) : Type 0 where
   pub short : length front ≤ more
   pub stops : (last < 128) ⊎ (length front ≡ more)
 
+-- a text of bytes is high and short, or it stops
 pub stop_of : (more : ℕ) (s : List ℕ) → AreBytes s → (AreContinued s × (length s ≤ more)) ⊎ Stops more s
 stop_of more [] h = inl (tt, omega arith)
 stop_of zero (b ∷ s) h = inr (record { front = []; last = b; rest = s; begins = refl; high = tt; short = omega arith; stops = inr refl })
@@ -265,10 +267,12 @@ pub record Goes (number left : ℕ) (sofar : List ℕ) : Type 0 where
   pub below : left < 128 ^ suc more
   pub text : varint number ≡ sofar ++ groups more left
 
+-- at the start nothing is spelled
 pub goes_start : (n : ℕ) → n < 2 ^ 32 → Goes n n []
 unfolding varint
 goes_start n h = record { more = 4; below = omega arith; text = refl }
 
+-- one more group is spelled
 pub goes_step : (n left : ℕ) (sofar : List ℕ) → Goes n left sofar → 128 ≤ left → Goes n (left / 128) (sofar ++ (left % 128 + 128) ∷ [])
 goes_step n left sofar g h = step g.more g.below g.text
   where
@@ -280,6 +284,7 @@ goes_step n left sofar g h = step g.more g.below g.text
       text = (rw (le-ltb left 128 h) at text) ∙ sym (append_assoc sofar ((left % 128 + 128) ∷ []) (groups more (left / 128)));
     }
 
+-- at the end the last group is left
 pub goes_end : (n left : ℕ) (sofar : List ℕ) → Goes n left sofar → left < 128 → varint n ≡ sofar ++ left ∷ []
 goes_end n left sofar g h = g.text ∙ ap (λ t. sofar ++ t) (only g.more)
   where
@@ -287,6 +292,7 @@ goes_end n left sofar g h = g.text ∙ ap (λ t. sofar ++ t) (only g.more)
     only zero = refl
     only (suc more) = rw (lt-ltb left 128 h) refl
 
+-- a number has a group
 pub groups_not_empty : (more left : ℕ) → 0 < length (groups more left)
 groups_not_empty zero left = omega arith
 groups_not_empty (suc more) left = elim (cases_lt left 128) [
@@ -294,6 +300,7 @@ groups_not_empty (suc more) left = elim (cases_lt left 128) [
   | inr p ↦ rw (le-ltb left 128 p) (omega arith)
 ]
 
+-- a varint has at most five bytes
 pub varint-length : (n : ℕ) → n < 2 ^ 32 → length (varint n) ≤ 5
 varint-length n h = let v = varint_is n h in omega (arith, ap length v.bytes_are, length-append v.front (v.last ∷ []), v.short)
 
@@ -311,18 +318,23 @@ high_more (x ∷ xs) (suc i) h a b = (a.0, high_more xs i (omega arith) a.1 b)
 
 -- What the bytes up to a place make.
 module _ (s : List ℕ) (i : ℕ) (within : i < length s) (high : AreContinued (take i s)) (short : i ≤ 4) where
+  -- the text around a place
   cut_at : s ≡ take i s ++ get_or s i 0 ∷ drop (i + 1) s
   cut_at = sym (take-append-drop i s) ∙ ap (λ t. take i s ++ t) (drop_more s i 0 within)
 
+  -- how many bytes stand before it
   front_length : length (take i s) ≡ i
   front_length = length-take-le i s (omega arith)
 
+  -- a last byte of 0 is a misspelling
   pub bad_zero : 0 < i → get_or s i 0 ≡ 0 → IsMisspelled s
   bad_zero p z = let n = front_length in record { front = take i s; last = get_or s i 0; rest = drop (i + 1) s; begins = cut_at; high = high; wrong = inl (z, omega (arith, n), omega (arith, n)) }
 
+  -- a fifth byte above 15 is one
   pub bad_fifth : i ≡ 4 → 15 < get_or s i 0 → IsMisspelled s
   bad_fifth p z = let n = front_length in record { front = take i s; last = get_or s i 0; rest = drop (i + 1) s; begins = cut_at; high = high; wrong = inr (n ∙ p, z) }
 
+  -- else the bytes up to the place are a varint
   pub good_at : get_or s i 0 < 128 → (get_or s i 0 ≡ 0 → i ≡ 0) → (i ≡ 4 → get_or s i 0 ≤ 15) → IsVarint (groups_sum (take (i + 1) s)) (take (i + 1) s)
   good_at low shortest five =
       let n = front_length in
@@ -339,6 +351,7 @@ module _ (s : List ℕ) (i : ℕ) (within : i < length s) (high : AreContinued (
         fits = subst (λ t. groups_sum t < 2 ^ 32) (sym e) (sum_fits (take i s) (get_or s i 0) (omega (arith, n)) low (λ f. five (sym n ∙ f)));
       }
 
+-- the sum of the groups from the place before
 pub sum_before : (s : List ℕ) (i : ℕ) → 0 < i → i ≤ length s → groups_sum (drop (i - 1) s) ≡ get_or s (i - 1) 0 % 128 + 128 * groups_sum (drop i s)
 sum_before s zero p h = absurd (omega arith)
 sum_before s (suc i) p h = let w : i < length s = omega arith in

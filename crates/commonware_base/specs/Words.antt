@@ -48,6 +48,7 @@ word_accepted_or_faulty (a ∷ b ∷ c ∷ d ∷ s) h =
 word_equal : (a b : ℕ) → IsWord a → IsWord b → ((a == b) ≡ true) ↔ (word_bytes a ≡ word_bytes b)
 word_equal a b p q = ((λ e. ap word_bytes (eqb-true a b e)), (λ e. eq-eqb a b (sym (from_be_bytes-to_be_bytes_4 a p) ∙ ap (from_be_bytes w32) e ∙ from_be_bytes-to_be_bytes_4 b q)))
 
+-- what is promised of the texts of words
 pub word_laws : ReadLaws word_bytes IsWord (λ _. Unit {0}) word_fault
 word_laws = record {
   allowed_by_bytes = λ a b _ _ _ h. h;
@@ -56,6 +57,7 @@ word_laws = record {
   accepted_or_faulty = word_accepted_or_faulty;
 }
 
+-- words are equal exactly where their bytes are
 pub word_canonical : CanonicalLaws word_bytes IsWord (λ a b. a == b)
 word_canonical = record { equal_by_bytes = word_equal; writable_together = λ a b e p. subst IsWord (eqb-true a b e) p }
 

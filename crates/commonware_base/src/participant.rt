@@ -87,6 +87,7 @@ impl EncodeSize for Participant {
     }
 
     fn is_writable(&self) -> bool {
+        // What is read is known to be in the range of its type, so it is writable.
         let _index = self.0;
         true
     }

@@ -29,6 +29,7 @@ module _ {T : Type 0} (enc : T → List ℕ) (Writable : T → Type 0) (cmp : T 
         }
 
     module _ (Allowed : T → Type 0) (item_fault : List ℕ → Fault → Type 0) (range : Bounds ℕ) (item_laws : ReadLaws enc Writable Allowed item_fault) where
+      -- the laws of the same texts as lists
       as_list : ReadLaws (list_enc enc) (IsWritableList Writable) (IsAllowedList range Allowed) (ListFault enc Writable Allowed item_fault range)
       as_list = list_laws enc Writable prefix_free Allowed item_fault range item_laws
 

@@ -23,6 +23,7 @@ pub fn list_fault_law<T: Read<A>, A: Allocator>(alloc: A, range: RangeCfg<usize>
         (w : ListFault T.enc T.writable (T.allowed item.now) (T.fault item.now) range s g)
         → list_cut v ≡ list_cut w }
 {
+    // The contract alone speaks of them.
     let _ = (alloc, range);
 }
 

@@ -29,6 +29,7 @@ impl EncodeSize for u8 {
     }
 
     fn is_writable(&self) -> bool {
+        // What is read is known to be in the range of its type, so it is writable.
         let _value = *self;
         true
     }
@@ -90,6 +91,7 @@ impl EncodeSize for u32 {
     }
 
     fn is_writable(&self) -> bool {
+        // What is read is known to be in the range of its type, so it is writable.
         let _value = *self;
         true
     }

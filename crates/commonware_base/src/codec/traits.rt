@@ -14,7 +14,8 @@ pub trait EncodeSize {
     /// The bytes of a value.
     ghost enc: { Self → List ℕ };
 
-    /// The values that have bytes. It names the range or the invariant that the values of the type keep.
+    /// The values that can be written. For a number it names the range of the type, for a collection its invariant too,
+    /// since a law ranges over every number and list.
     ghost writable: { Self → Type 0 };
 
     /// How many bytes the value has. The value is writable, and the number fits a `usize`.

@@ -32,6 +32,7 @@ impl EncodeSize for UInt {
     }
 
     fn is_writable(&self) -> bool {
+        // What is read is known to be in the range of its type, so it is writable.
         let _value = self.0;
         true
     }

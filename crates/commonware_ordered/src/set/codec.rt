@@ -69,6 +69,7 @@ pub fn set_fault_law<T: Ord + Canonical + Read<A>, A: Allocator>(
         (w : SetFault T.enc T.writable T.cmp (T.allowed item.now) (T.fault item.now) range s g)
         → set_cut v ≡ set_cut w }
 {
+    // The contract alone speaks of them.
     let _ = (alloc, range);
 }
 
