@@ -29,16 +29,13 @@ fn writer(alloc: Global, step: usize) -> Watched<ScriptedWriter<Global>> {
     Watched::new(ScriptedWriter::new(alloc, step))
 }
 
-/// The words as the program gets them.
-fn words_of<A: Allocator + Copy>(
-    alloc: A,
-    words: &[&str],
-) -> Result<Vec<String<A>, A>, AllocError> {
-    let mut all = Vec::new(alloc);
-    for word in words {
-        all.push(String::from_str(alloc, word)?)?;
+/// The words of a line, as the program gets them.
+fn words_in<A: Allocator + Copy>(alloc: A, line: &str) -> Result<Vec<String<A>, A>, AllocError> {
+    let mut words = Vec::new(alloc);
+    for word in line.split_whitespace() {
+        words.push(String::from_str(alloc, word)?)?;
     }
-    Ok(all)
+    Ok(words)
 }
 
 /// A watched reader that gives the bytes, one a call, and then fails.

@@ -1,6 +1,5 @@
 use crate::Refusing;
-use std::alloc::{AllocError, Allocator, Global};
-use std::test::Fail;
+use std::alloc::Global;
 
 #[test]
 fn one_request_alone_is_refused(rt: HostRuntime) {
@@ -12,28 +11,13 @@ fn one_request_alone_is_refused(rt: HostRuntime) {
     assert!(rt; second.is_ok() && heap.has_refused());
 }
 
-fn push_twenty<A: Allocator>(items: &mut Vec<u32, A>) -> Result<(), AllocError> {
-    for i in 0..20u32 {
-        items.push(i)?;
-    }
-    Ok(())
-}
-
 #[test]
-fn each_request_of_pushes_can_be_refused(rt: HostRuntime) -> Result<(), Fail> {
-    let mut requests = 0;
-    for granted in 0..9u64 {
-        let heap = Refusing::after(rt.alloc(), granted);
-        let mut items = Vec::new(&heap);
-        let pushed = push_twenty(&mut items);
-        if !heap.has_refused() {
-            assert!(rt; pushed.is_ok() && items.len() == 20);
-            requests = granted;
-            break;
-        }
-        assert!(rt; pushed.is_err() && items.len() < 20, "granted {granted}");
-        push_twenty(&mut items)?;
-    }
-    assert!(rt; requests > 1, "{requests}");
-    Ok(())
+fn later_requests_are_granted_again(rt: HostRuntime) {
+    let heap = Refusing::after(rt.alloc(), 1);
+    let mut items: Vec<u32, &Refusing<Global>> = Vec::new(&heap);
+    assert!(rt; items.push(1).is_ok() && !heap.has_refused());
+    assert!(rt; items.reserve(100).is_err() && heap.has_refused());
+    assert!(rt; items.reserve(100).is_ok());
+    heap.restart(0);
+    assert!(rt; !heap.has_refused());
 }

@@ -16,11 +16,9 @@ const NEST: &[u8; 7] = b"\x03\x00\x02\x01\x02\x01\x07";
 
 fn nest(
     heap: &Refusing<Global>,
-) -> Result<Set<Set<u8, &Refusing<Global>>, &Refusing<Global>>, AllocError> {
-    let empty = Set::empty(heap);
-    let one = Set::from_iter_dedup(heap, [7u8])?;
-    let two = Set::from_iter_dedup(heap, [2u8, 1, 2])?;
-    Set::from_iter_dedup(heap, [two, one, empty])
+) -> Result<Set<Set<u8, &Refusing<Global>>, &Refusing<Global>>, Error> {
+    let any = RangeCfg::from(..);
+    Read::read_cfg(heap, &mut Source::new(NEST), &(any, (any, ())))
 }
 
 #[test]

@@ -1,5 +1,5 @@
 //! What a session writes, says and answers.
-use super::{FOUR, FOUR_REPORT, WHOLE, failing_reader, failing_writer, reader, words_of, writer};
+use super::{FOUR, FOUR_REPORT, WHOLE, failing_reader, failing_writer, reader, words_in, writer};
 use crate::{Refusing, ScriptedWriter, WriteFault};
 use committee_core::{Command, parse_args, session};
 use std::io::ErrorKind;
@@ -9,7 +9,7 @@ const USAGE: &str = "usage: committee read, or committee bounds <n>\n";
 
 #[test]
 fn a_committee_is_reported(rt: HostRuntime) -> Result<(), Fail> {
-    let words = words_of(rt.alloc(), &["read"])?;
+    let words = words_in(rt.alloc(), "read")?;
     let mut input = reader(FOUR, WHOLE);
     let mut output = writer(rt.alloc(), WHOLE);
     let mut errors: Vec<u8> = Vec::new(rt.alloc());
@@ -22,7 +22,7 @@ fn a_committee_is_reported(rt: HostRuntime) -> Result<(), Fail> {
 
 #[test]
 fn other_bytes_are_refused(rt: HostRuntime) -> Result<(), Fail> {
-    let words = words_of(rt.alloc(), &["read"])?;
+    let words = words_in(rt.alloc(), "read")?;
     for (bytes, said) in [
         (b"\x00".as_slice(), "refused: length 0\n"),
         (b"\x01\x05\x06", "refused: 1 bytes left over\n"),
@@ -62,7 +62,7 @@ fn a_committee_has_at_most_256_members(rt: HostRuntime) -> Result<(), Fail> {
         writeln!(report, "{member} {member}")?;
     }
     report.push_str("N3f1 faults 85 quorum 171\nN5f1 faults 51 quorum 205 m-quorum 103\n")?;
-    let words = words_of(alloc, &["read"])?;
+    let words = words_in(alloc, "read")?;
     let mut input = reader(&bytes, WHOLE);
     let mut output = writer(alloc, WHOLE);
     let mut errors: Vec<u8> = Vec::new(alloc);
@@ -74,32 +74,34 @@ fn a_committee_has_at_most_256_members(rt: HostRuntime) -> Result<(), Fail> {
 
 #[test]
 fn other_words_get_the_usage_line(rt: HostRuntime) -> Result<(), Fail> {
-    for words in [
-        [].as_slice(),
-        &["write"],
-        &["READ"],
-        &["read", "read"],
-        &["bounds", "10"],
-        &["bounds", "0"],
-    ] {
-        let words = words_of(rt.alloc(), words)?;
-        assert_eq!(rt; parse_args(&words), None);
+    for line in ["", "write", "READ", "read read", "bounds 10", "bounds 0"] {
+        let words = words_in(rt.alloc(), line)?;
+        assert_eq!(rt; parse_args(&words), None, "{line}");
         let mut input = reader(FOUR, WHOLE);
         let mut output = writer(rt.alloc(), WHOLE);
         let mut errors: Vec<u8> = Vec::new(rt.alloc());
         let status = session(rt.alloc(), &words, &mut input, &mut output, &mut errors);
-        assert_eq!(rt; status, 2);
-        assert_eq!(rt; errors.as_slice(), USAGE.as_bytes());
-        assert_eq!(rt; (input.inner().calls, output.inner().calls), (0, 0));
+        assert_eq!(rt; status, 2, "{line}");
+        assert_eq!(rt; errors.as_slice(), USAGE.as_bytes(), "{line}");
+        assert_eq!(rt;
+            (input.inner().calls, output.inner().calls),
+            (0, 0),
+            "{line}"
+        );
     }
-    let words = words_of(rt.alloc(), &["read"])?;
+    Ok(())
+}
+
+#[test]
+fn the_word_read_asks_for_the_command(rt: HostRuntime) -> Result<(), Fail> {
+    let words = words_in(rt.alloc(), "read")?;
     assert_eq!(rt; parse_args(&words), Some(Command::Read));
     Ok(())
 }
 
 #[test]
 fn a_failed_reader_gives_status_3(rt: HostRuntime) -> Result<(), Fail> {
-    let words = words_of(rt.alloc(), &["read"])?;
+    let words = words_in(rt.alloc(), "read")?;
     let mut input = failing_reader(b"\x04", ErrorKind::BrokenPipe);
     let mut output = writer(rt.alloc(), WHOLE);
     let mut errors: Vec<u8> = Vec::new(rt.alloc());
@@ -111,7 +113,7 @@ fn a_failed_reader_gives_status_3(rt: HostRuntime) -> Result<(), Fail> {
 
 #[test]
 fn a_failed_writer_gives_status_3(rt: HostRuntime) -> Result<(), Fail> {
-    let words = words_of(rt.alloc(), &["read"])?;
+    let words = words_in(rt.alloc(), "read")?;
     let mut input = reader(FOUR, WHOLE);
     let mut output = failing_writer(rt.alloc(), WHOLE, 0, WriteFault::TakesNothing);
     let mut errors: Vec<u8> = Vec::new(rt.alloc());
@@ -124,7 +126,7 @@ fn a_failed_writer_gives_status_3(rt: HostRuntime) -> Result<(), Fail> {
 #[test]
 fn a_refused_request_gives_status_3(rt: HostRuntime) -> Result<(), Fail> {
     let heap = Refusing::after(rt.alloc(), u64::MAX);
-    let words = words_of(&heap, &["read"])?;
+    let words = words_in(&heap, "read")?;
     let mut input = reader(FOUR, WHOLE);
     let mut output = writer(rt.alloc(), WHOLE);
     let mut errors: Vec<u8> = Vec::new(rt.alloc());
@@ -144,7 +146,7 @@ fn a_failing_standard_error_changes_no_status(rt: HostRuntime) -> Result<(), Fai
         ("read", b"\x00", 1),
         ("read", FOUR, 0),
     ] {
-        let words = words_of(alloc, &[word])?;
+        let words = words_in(alloc, word)?;
         let mut input = reader(bytes, WHOLE);
         let mut output = writer(alloc, WHOLE);
         let fault = WriteFault::Fails(ErrorKind::BrokenPipe);
@@ -157,7 +159,7 @@ fn a_failing_standard_error_changes_no_status(rt: HostRuntime) -> Result<(), Fai
 
 #[test]
 fn a_failing_standard_error_leaves_status_3(rt: HostRuntime) -> Result<(), Fail> {
-    let words = words_of(rt.alloc(), &["read"])?;
+    let words = words_in(rt.alloc(), "read")?;
     let mut input = failing_reader(b"", ErrorKind::Interrupted);
     let mut output = writer(rt.alloc(), WHOLE);
     let mut errors = ScriptedWriter::new(rt.alloc(), WHOLE).with_fault(0, WriteFault::TakesNothing);
