@@ -30,7 +30,7 @@ impl EncodeSize for u8 {
 
     fn is_writable(&self) -> bool {
         // What is read is known to be in the range of its type, so it is writable.
-        let _value = *self;
+        let _byte = *self;
         true
     }
 }
@@ -92,7 +92,7 @@ impl EncodeSize for u32 {
 
     fn is_writable(&self) -> bool {
         // What is read is known to be in the range of its type, so it is writable.
-        let _value = *self;
+        let _word = *self;
         true
     }
 }
