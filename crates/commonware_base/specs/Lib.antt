@@ -1,5 +1,6 @@
 pub mod Bytes
 pub mod Clones
+pub mod Counts
 pub mod Fault
 pub mod ListLaws
 pub mod Lists
@@ -9,6 +10,9 @@ pub mod Range
 pub mod RangeLaws
 pub mod Refusal
 pub mod Source
+pub mod SubsetLaws
+pub mod SubsetSizes
+pub mod Subsets
 pub mod Text
 pub mod TextLaws
 pub mod Varint

@@ -1,4 +1,5 @@
 pub mod First
 pub mod Placed
+pub mod Places
 pub mod SameItems
 pub mod Sorted

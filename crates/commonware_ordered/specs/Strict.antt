@@ -1,9 +1,13 @@
--- Lists in strict order.
-use Rattle.std.specs.Prelude.{◌≡◌, List, length}
-use Rattle.std.specs.List.{AllAdjacentBelow}
+-- Lists in strict order, and the place of an item in a list.
+use Rattle.std.specs.Prelude.{◌≡◌, ◌<◌, ℕ, Bool, false, true, List, length, MatchOption, Option}
+use Rattle.std.specs.List.{All, AllAdjacentBelow, HoldsAt}
 use Rattle.std.specs.declared.cmp.Ordering.{Ordering}
 use Rattle.std.specs.declared.cmp.Ordering.TheVariants.{Less}
 
 -- each item is less than the next
 abbrev pub IsStrict : {T : Type 0} → (T → T → Ordering) → List T → Type 0
 IsStrict cmp xs = AllAdjacentBelow (λ x y. cmp x y ≡ Less) xs (length xs)
+
+-- place is that of an item that equals x, or `None` where no item does
+abbrev pub IsPlaceOf : {T : Type 0} → (T → T → Bool) → List T → T → Option ℕ → Type 0
+IsPlaceOf eq xs x place = MatchOption place (All (λ y. eq y x ≡ false) xs) (λ i. (i < length xs) × HoldsAt (λ y. eq y x ≡ true) xs i)

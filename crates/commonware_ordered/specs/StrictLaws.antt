@@ -41,7 +41,7 @@ module _ {T : Type 0} (cmp : T → T → Ordering) where
 
   module _ (eq : T → T → Bool) (total : IsTotalOrder cmp) (matches_eq : (x y : T) → eq x y ≡ is_eq (cmp x y)) where
     -- equal items compare `Equal`
-    level : (x y : T) → eq x y ≡ true → cmp x y ≡ Equal
+    pub level : (x y : T) → eq x y ≡ true → cmp x y ≡ Equal
     level x y e = (Equal-is (cmp x y)).0 (sym (matches_eq x y) ∙ e)
 
     -- a list whose items equal those of a strict list, each at its place, is strict

@@ -1,6 +1,8 @@
-//! Ordered collections: sets of strictly increasing items.
+//! Ordered collections: sets of strictly increasing items, and their quorums.
 #![tactic(auto)]
 
+mod quorum;
 mod set;
 
+pub use quorum::Quorum;
 pub use set::{Set, set_fault_law};

@@ -1,5 +1,5 @@
 //! A list of strictly increasing items.
-ghost use Rattle.std.specs.Prelude.{◌≡◌, ◌↔◌, ◌<◌, ◌^◌, ◌==◌, [], IfOk, IsTrue, length, map};
+ghost use Rattle.std.specs.Prelude.{◌≡◌, ◌↔◌, ◌<◌, ◌^◌, ◌==◌, [], IfOk, IsTrue, Some, length, map, slice_get, true, ℕ};
 ghost use Rattle.std.specs.Cmp.Lexicographic.{lists_agrees, lists_equiv, lists_per, lists_po, lists_ties, lists_total, pointwise, slice_cmp, slice_partial_cmp};
 ghost use Rattle.std.specs.Hash as fed;
 ghost use Rattle.std.specs.Hash.{items_Alike};
@@ -10,7 +10,7 @@ ghost use Rattle.std.specs.Slice.{IsItemAt};
 ghost use Rattle.std.specs.Slice.Iter.{iter_rest};
 ghost use Rattle.commonware_base.specs.Clones.{equal_from_all_zip};
 ghost use Rattle.commonware_ordered.specs.Dedup.{EqualsSameItems, IsDedup};
-ghost use Rattle.commonware_ordered.specs.Strict.{IsStrict};
+ghost use Rattle.commonware_ordered.specs.Strict.{IsPlaceOf, IsStrict};
 ghost use Rattle.commonware_ordered.specs.Taken.{TakesAll};
 
 mod codec;
@@ -87,6 +87,15 @@ impl<T: Ord, A: Allocator> Set<T, A> {
         ensures runs_back { IterYieldsInReverse T }
     {
         self.as_slice().iter()
+    }
+
+    /// The place of the item that equals the one asked, or `None` where none does. The list is halved: O(log n)
+    /// comparisons.
+    pub fn position(&self, item: &T) -> Option<usize>
+        ensures place { IsPlaceOf T.eq self.now item.now result }
+        ensures only { (p : ℕ) → (result ≡ Some p) ↔ ((x : T) × (slice_get self.now p ≡ Some x) × (T.eq x item.now ≡ true)) }
+    {
+        self.as_slice().binary_search(item).ok()
     }
 }
 

@@ -3,10 +3,12 @@ ghost use Rattle.std.specs.Prelude.{IfOk, ◌≡◌, OnErr};
 
 mod clones;
 mod example;
+mod faults;
 mod labelled;
 mod lists;
 mod numbers;
 mod participants;
+mod quorums;
 mod ranges;
 mod sets;
 

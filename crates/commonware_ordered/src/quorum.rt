@@ -1,0 +1,62 @@
+//! Sets of participants as committees.
+ghost use Rattle.std.specs.Prelude.{◌≡◌, ◌+◌, ◌≤◌, ◌^◌, ◌↔◌, ℕ, List, Some, length, pos, slice_get, true};
+ghost use Rattle.std.specs.Slice.{IsItemAt};
+ghost use Rattle.commonware_base.specs.Counts.{IsCommitteeSize};
+ghost use Rattle.commonware_ordered.specs.Strict.{IsPlaceOf};
+
+use crate::set::Set;
+use commonware_base::{Faults, Participant};
+use std::alloc::Allocator;
+
+/// A committee: its members in order, each with the index that stands for it, and its numbers under a fault model.
+pub trait Quorum {
+    /// What the members are.
+    type Item: Ord;
+
+    /// The members in order.
+    ghost members: { Self → List Self.Item };
+
+    /// How many members make a quorum under the fault model. There are 1 to `u32::MAX` members.
+    fn quorum<M: Faults>(&self) -> u32
+        requires { IsCommitteeSize (pos (length (members self.now))) }
+        ensures { result + M.faults (length (members self.now)) ≡ length (members self.now) };
+
+    /// How many members may be faulty under the fault model. There are 1 to `u32::MAX` members.
+    fn max_faults<M: Faults>(&self) -> u32
+        requires { IsCommitteeSize (pos (length (members self.now))) }
+        ensures { result ≡ M.faults (length (members self.now)) };
+
+    /// The member at an index, or `None` past the last.
+    fn key(&self, index: Participant) -> Option<&Self::Item>
+        ensures { IsItemAt (members self.now) index result };
+
+    /// The index of the member that equals `key`, or `None` where none does. All indices fit a `u32`: there are at most
+    /// 4294967296 members. The member at an index equals `key` exactly where the index is the one answered.
+    fn index(&self, key: &Self::Item) -> Option<Participant>
+        requires { length (members self.now) ≤ 2 ^ 32 }
+        ensures place { IsPlaceOf Self.Item.eq (members self.now) key.now result }
+        ensures only { (p : ℕ) → (result ≡ Some p) ↔ ((x : Self.Item) × (slice_get (members self.now) p ≡ Some x) × (Self.Item.eq x key.now ≡ true)) };
+}
+
+impl<T: Ord, A: Allocator> Quorum for Set<T, A> {
+    type Item = T;
+
+    ghost members = { λ items. items };
+
+    fn quorum<M: Faults>(&self) -> u32 {
+        M::quorum(self.len())
+    }
+
+    fn max_faults<M: Faults>(&self) -> u32 {
+        M::max_faults(self.len())
+    }
+
+    fn key(&self, index: Participant) -> Option<&T> {
+        self.get(usize::from(index))
+    }
+
+    fn index(&self, key: &T) -> Option<Participant> {
+        let place = self.position(key)?;
+        Some(Participant::from_usize(place))
+    }
+}

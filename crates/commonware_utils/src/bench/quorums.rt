@@ -1,0 +1,49 @@
+//! Sets as committees: the indices of members, and the numbers of the fault models.
+use crate::ordered::{Quorum, Set};
+use crate::{N3f1, N5f1, Participant};
+use std::test::Fail;
+
+#[test]
+fn members_have_indices(rt: HostRuntime) -> Result<(), Fail> {
+    let committee = Set::from_iter_dedup(rt.alloc(), [9u32, 3, 5, 1])?;
+    assert!(rt; committee.key(Participant::new(0)) == Some(&1));
+    assert!(rt; committee.key(Participant::new(2)) == Some(&5));
+    assert!(rt; committee.key(Participant::new(4)) == None);
+    assert!(rt; committee.key(Participant::new(u32::MAX)) == None);
+    if committee.len() <= 4 {
+        assert!(rt; committee.index(&5) == Some(Participant::new(2)));
+        assert!(rt; committee.index(&9) == Some(Participant::new(3)));
+        assert!(rt; committee.index(&4) == None);
+        assert!(rt; committee.index(&10) == None);
+    }
+    assert!(rt; committee.len() == 4);
+    Ok(())
+}
+
+#[test]
+fn an_empty_set_has_no_indices(rt: HostRuntime) {
+    let committee: Set<u32, _> = Set::empty(rt.alloc());
+    assert!(rt; committee.key(Participant::new(0)) == None);
+    assert!(rt; committee.index(&0) == None);
+}
+
+#[test]
+fn a_set_has_the_numbers_of_its_length(rt: HostRuntime) -> Result<(), Fail> {
+    for (last, thirds, fifths) in [
+        (0u32, (0, 1), (0, 1)),
+        (3, (1, 3), (0, 4)),
+        (5, (1, 5), (1, 5)),
+        (20, (6, 15), (4, 17)),
+    ] {
+        let committee = Set::from_iter_dedup(rt.alloc(), 0..=last)?;
+        let is_committee = 0 < committee.len() && committee.len() <= 21;
+        assert!(rt; is_committee);
+        if is_committee {
+            let numbers = (committee.max_faults::<N3f1>(), committee.quorum::<N3f1>());
+            assert!(rt; numbers == thirds, "{last}");
+            let numbers = (committee.max_faults::<N5f1>(), committee.quorum::<N5f1>());
+            assert!(rt; numbers == fifths, "{last}");
+        }
+    }
+    Ok(())
+}
