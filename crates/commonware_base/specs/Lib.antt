@@ -9,6 +9,7 @@ pub mod Range
 pub mod RangeLaws
 pub mod Refusal
 pub mod Source
+pub mod Taken
 pub mod Text
 pub mod TextLaws
 pub mod Varint

@@ -6,5 +6,5 @@
 #[cfg(test)]
 mod bench;
 
-pub use commonware_base::{EqClone, Participant, codec};
+pub use commonware_base::{EqClone, Participant, TryCollect, TryFromIterator, codec};
 pub use commonware_ordered as ordered;
