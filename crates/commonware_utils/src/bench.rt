@@ -8,6 +8,8 @@ mod lists;
 mod numbers;
 mod participants;
 mod ranges;
+mod set_builders;
+mod set_calls;
 mod sets;
 
 use crate::codec::{EncodeSize, Error, Read, Source, Write};

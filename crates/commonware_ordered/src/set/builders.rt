@@ -76,7 +76,7 @@ impl<T: Ord + EqClone, A: Allocator + Copy> Set<T, A> {
     pub fn try_from_array<const N: usize>(alloc: A, items: [T; N]) -> Result<Self, Error>
         ensures { IsWholeSetOfClones T.eq T.cmp T.is_clone items result }
     {
-        Set::try_from_slice(alloc, items.as_slice())
+        Set::try_from_slice(alloc, &items)
     }
 
     /// The set of clones of all the items, or `DuplicateKey` where two of them are equal. It takes O(n log n)
@@ -84,7 +84,7 @@ impl<T: Ord + EqClone, A: Allocator + Copy> Set<T, A> {
     pub fn try_from_array_ref<const N: usize>(alloc: A, items: &[T; N]) -> Result<Self, Error>
         ensures { IsWholeSetOfClones T.eq T.cmp T.is_clone items.now result }
     {
-        Set::try_from_slice(alloc, items.as_slice())
+        Set::try_from_slice(alloc, items)
     }
 }
 
