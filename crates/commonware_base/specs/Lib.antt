@@ -13,6 +13,7 @@ pub mod Source
 pub mod SubsetLaws
 pub mod SubsetSizes
 pub mod Subsets
+pub mod Taken
 pub mod Text
 pub mod TextLaws
 pub mod Varint

@@ -36,14 +36,8 @@ pub trait Faults {
     ghost at_most: { (n : ℕ) → 1 ≤ n → n < 2 ^ 32 → faults n ≤ n };
 }
 
-/// The model that needs `n >= 3f + 1` participants for f faults: any two quorums share one that isn't faulty.
-///
-/// | n  | f | quorum |
-/// |----|---|--------|
-/// | 4  | 1 | 3      |
-/// | 7  | 2 | 5      |
-/// | 10 | 3 | 7      |
-/// | 13 | 4 | 9      |
+/// The model that needs `n >= 3f + 1` participants for f faults: any two quorums share one that isn't faulty. Among 6
+/// participants one may be faulty and 5 are a quorum; among 100, 33 and 67.
 #[derive(Clone, Copy, Debug, Default, PartialEq, Eq)]
 pub struct N3f1;
 
@@ -78,14 +72,8 @@ impl Faults for N3f1 {
     }
 }
 
-/// The model that needs `n >= 5f + 1` participants for f faults.
-///
-/// | n  | f | quorum, l-quorum | m-quorum |
-/// |----|---|------------------|----------|
-/// | 6  | 1 | 5                | 3        |
-/// | 11 | 2 | 9                | 5        |
-/// | 16 | 3 | 13               | 7        |
-/// | 21 | 4 | 17               | 9        |
+/// The model that needs `n >= 5f + 1` participants for f faults, with a larger and a smaller quorum. Among 10 participants
+/// one may be faulty, 9 are the larger quorum and 3 the smaller one; among 100, 19, 81 and 39.
 #[derive(Clone, Copy, Debug, Default, PartialEq, Eq)]
 pub struct N5f1;
 

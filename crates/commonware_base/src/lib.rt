@@ -1,12 +1,14 @@
 //! What the ordered collections, quorums and certificates stand on: byte forms with laws, participants, clones that
-//! equal their source.
+//! equal their source, collecting that may be refused.
 #![tactic(auto)]
 
 pub mod codec;
 mod eq_clone;
 pub mod faults;
 mod participant;
+mod try_from_iterator;
 
 pub use eq_clone::EqClone;
 pub use faults::{Faults, N3f1, N5f1};
 pub use participant::Participant;
+pub use try_from_iterator::{TryCollect, TryFromIterator};

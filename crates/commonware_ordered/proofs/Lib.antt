@@ -1,5 +1,10 @@
+pub mod Cloned
 pub mod First
 pub mod Placed
 pub mod Places
 pub mod SameItems
+pub mod Sizes
 pub mod Sorted
+pub mod Taken
+pub mod Texts
+pub mod Whole

@@ -40,7 +40,7 @@ same_items_from_IsDedup {X} {eq} laws l r d q = both_ways (list_any (eq q) r) (l
 
 module _ {X : Type 0} {cmp : X → X → Ordering} (o : IsTotalOrder cmp) where
   -- each item of a strict list is less than all that follow it
-  sorted_from_strict : (xs : List X) → IsStrict cmp xs → IsStrictlySortedBy cmp xs
+  pub sorted_from_strict : (xs : List X) → IsStrict cmp xs → IsStrictlySortedBy cmp xs
   unfolding IsStrictlySortedBy
   sorted_from_strict [] s = tt
   sorted_from_strict (x ∷ xs) s = sorted_from_all_adjacent o (x ∷ xs) x (λ k h. s k x h)

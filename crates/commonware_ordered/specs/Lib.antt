@@ -3,4 +3,4 @@ pub mod SetLaws
 pub mod Sets
 pub mod Strict
 pub mod StrictLaws
-pub mod Taken
+pub mod Whole

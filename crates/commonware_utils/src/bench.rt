@@ -10,6 +10,8 @@ mod numbers;
 mod participants;
 mod quorums;
 mod ranges;
+mod set_builders;
+mod set_calls;
 mod sets;
 
 use crate::codec::{EncodeSize, Error, Read, Source, Write};

@@ -1,16 +1,17 @@
 //! The byte form of a set, which is that of the list of its items.
-ghost use Rattle.std.specs.Prelude.{◌≡◌, ℕ, List, OnErr, IfOk, IfErr};
+ghost use Rattle.std.specs.Prelude.{◌≡◌, ◌+◌, ◌*◌, ◌<◌, ◌≤◌, ◌^◌, ℕ, List, OnErr, IfOk, IfErr, length};
 ghost use Rattle.commonware_base.specs.Fault.{Fault};
 ghost use Rattle.commonware_base.specs.Lists.{list_enc, IsAllowedList, IsListMemoryFree};
 ghost use Rattle.commonware_base.specs.ListLaws.{list_bytes};
 ghost use Rattle.commonware_base.specs.Refusal.{Refuses};
 ghost use Rattle.commonware_base.specs.Source.{rest_of, Consumes};
+ghost use Rattle.commonware_base.specs.Varint.{varint};
 ghost use Rattle.commonware_ordered.specs.Sets.{IsWritableSet, SetFault, set_cut};
 ghost use Rattle.commonware_ordered.specs.SetLaws.{set_prefix_free, set_laws, set_canonical};
 
 use super::{Set, is_strict};
 use commonware_base::codec::{
-    Canonical, EncodeSize, Error, RangeCfg, Read, Source, Write, read_list,
+    Canonical, EncodeSize, Error, MaxEncodeSize, RangeCfg, Read, Source, UInt, Write, read_list,
 };
 use std::alloc::{AllocError, Allocator};
 
@@ -56,6 +57,19 @@ impl<T: Ord + Canonical + Read<A> + Drop, A: Allocator + Copy> Read<A> for Set<T
 
 impl<T: Ord + Canonical, A: Allocator> Canonical for Set<T, A> {
     ghost canonical = { set_canonical T.enc T.writable T.cmp T.prefix_free T.eq T.total T.matches_eq T.canonical };
+}
+
+impl<T: Ord + MaxEncodeSize, A: Allocator> Set<T, A> {
+    /// The number of bytes that a set of at most `len` items can have: the size of `len` as a varint, and `len` times the
+    /// bound of an item. `len` is at most 4294967295, and the result fits a `usize`.
+    pub fn max_encode_size(len: usize) -> usize
+        requires short { len < 2 ^ 32 }
+        requires fits { length (varint len) + len * T.MAX_ENCODE_SIZE < 2 ^ 64 }
+        ensures size { result ≡ length (varint len) + len * T.MAX_ENCODE_SIZE }
+        ensures enough { (items : List T) → IsWritableSet T.writable T.cmp items → length items ≤ len → length (list_enc T.enc items) ≤ result }
+    {
+        UInt(len as u32).encode_size() + len * T::MAX_ENCODE_SIZE
+    }
 }
 
 /// The cuts at which a text is no set exclude one another: no text has a fault of the list and one of the order.

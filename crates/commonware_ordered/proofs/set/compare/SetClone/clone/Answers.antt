@@ -1,6 +1,6 @@
 use Rattle.commonware_base.specs.Clones.{equal_from_all_zip}
 use Rattle.commonware_ordered.specs.StrictLaws.{strict_same}
-use Rattle.commonware_ordered.proofs.set.SetClone.clone.Goals as goal
+use Rattle.commonware_ordered.proofs.set.compare.SetClone.clone.Goals as goal
 
 pub invariant_of-result : goal.invariant_of-result
 invariant_of-result g c =
