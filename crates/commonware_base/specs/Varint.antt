@@ -38,6 +38,10 @@ groups (suc more) n = if nat_lt n 128 then n ∷ [] else (n % 128 + 128) ∷ gro
 unfoldable pub varint : ℕ → List ℕ
 varint n = groups 4 n
 
+-- How many bytes spell a number below 2 ^ 32: the length of `varint`, which a caller at a number can compute.
+abbrev pub varint_size : ℕ → ℕ
+varint_size n = length (groups 4 n)
+
 -- at most four bytes, and more should come
 pub record IsTruncated (text : List ℕ) : Type 0 where
   pub high : AreContinued text

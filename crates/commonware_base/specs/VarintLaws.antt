@@ -8,7 +8,7 @@ use Rattle.std.proofs.Math.Seq.{drop-nil}
 use Rattle.commonware_base.specs.Fault.{Fault, EndOfBuffer, InvalidVarint, InvalidLength, Invalid}
 use Rattle.commonware_base.specs.Text.{AreBytes}
 use Rattle.commonware_base.specs.TextLaws.{bytes_append}
-use Rattle.commonware_base.specs.Varint.{IsContinued, AreContinued, groups_sum, IsVarint, groups, varint, IsTruncated, IsMisspelled, varint_fault}
+use Rattle.commonware_base.specs.Varint.{IsContinued, AreContinued, groups_sum, IsVarint, groups, varint, varint_size, IsTruncated, IsMisspelled, varint_fault}
 
 -- Two texts that agree: their high bytes in front, and the byte after them, are the same.
 pub same_front : (f g : List ℕ) (l m : ℕ) (x y : List ℕ) → AreContinued f → AreContinued g → l < 128 → m < 128 → f ++ l ∷ x ≡ g ++ m ∷ y → (f ≡ g) × (l ≡ m) × (x ≡ y)
@@ -303,6 +303,11 @@ groups_not_empty (suc more) left = elim (cases_lt left 128) [
 -- a varint has at most five bytes
 pub varint-length : (n : ℕ) → n < 2 ^ 32 → length (varint n) ≤ 5
 varint-length n h = let v = varint_is n h in omega (arith, ap length v.bytes_are, length-append v.front (v.last ∷ []), v.short)
+
+-- the size of a varint is its length
+pub varint_size_is : (n : ℕ) → length (varint n) ≡ varint_size n
+unfolding varint
+varint_size_is n = refl
 
 -- the groups from a place on
 pub groups_sum-drop : (i : ℕ) (xs : List ℕ) → groups_sum (drop i xs) ≤ groups_sum xs

@@ -1,6 +1,7 @@
 //! The program over scripted devices, and every call that takes memory with each of its requests refused.
 
 mod failing_devices;
+mod refused_builders;
 mod refused_memory;
 mod sessions;
 

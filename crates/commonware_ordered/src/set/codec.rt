@@ -5,7 +5,7 @@ ghost use Rattle.commonware_base.specs.Lists.{list_enc, IsAllowedList, IsListMem
 ghost use Rattle.commonware_base.specs.ListLaws.{list_bytes};
 ghost use Rattle.commonware_base.specs.Refusal.{Refuses};
 ghost use Rattle.commonware_base.specs.Source.{rest_of, Consumes};
-ghost use Rattle.commonware_base.specs.Varint.{varint};
+ghost use Rattle.commonware_base.specs.Varint.{varint_size};
 ghost use Rattle.commonware_ordered.specs.Sets.{IsWritableSet, SetFault, set_cut};
 ghost use Rattle.commonware_ordered.specs.SetLaws.{set_prefix_free, set_laws, set_canonical};
 
@@ -64,8 +64,8 @@ impl<T: Ord + MaxEncodeSize, A: Allocator> Set<T, A> {
     /// bound of an item. `len` is at most 4294967295, and the result fits a `usize`.
     pub fn max_encode_size(len: usize) -> usize
         requires short { len < 2 ^ 32 }
-        requires fits { length (varint len) + len * T.MAX_ENCODE_SIZE < 2 ^ 64 }
-        ensures size { result ≡ length (varint len) + len * T.MAX_ENCODE_SIZE }
+        requires fits { varint_size len + len * T.MAX_ENCODE_SIZE < 2 ^ 64 }
+        ensures size { result ≡ varint_size len + len * T.MAX_ENCODE_SIZE }
         ensures enough { (items : List T) → IsWritableSet T.writable T.cmp items → length items ≤ len → length (list_enc T.enc items) ≤ result }
     {
         UInt(len as u32).encode_size() + len * T::MAX_ENCODE_SIZE

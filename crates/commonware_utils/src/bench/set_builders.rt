@@ -57,7 +57,8 @@ fn sets_of_sets_are_built(rt: HostRuntime) -> Result<(), Fail> {
     let two = Set::try_from_array(alloc, [2u8, 1])?;
     let one = Set::try_from_array(alloc, [1u8])?;
     let nest = Set::try_from_slice(alloc, &[two.clone()?, one.clone()?])?;
-    assert!(rt; nest[0] == one && nest[1] == two && nest.len() == 2);
+    assert!(rt; nest.len() == 2);
+    assert!(rt; nest[0] == one && nest[1] == two);
     let again = Set::try_from_array(alloc, [1u8, 2])?;
     let refused = Set::try_from_iter(alloc, [two, one, again]);
     assert!(rt; refused.err() == Some(Error::DuplicateKey));

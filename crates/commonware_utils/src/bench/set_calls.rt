@@ -1,6 +1,5 @@
 //! Sets: look-ups, walks, texts and sizes.
 use crate::Participant;
-use crate::codec::EncodeSize;
 use crate::ordered::Set;
 use std::alloc::Global;
 use std::fmt;
@@ -27,6 +26,7 @@ fn equal_items_are_found(rt: HostRuntime) -> Result<(), Fail> {
 #[test]
 fn ranges_and_positions_are_read(rt: HostRuntime) -> Result<(), Fail> {
     let set = Set::from_iter_dedup(rt.alloc(), [1u8, 3, 5, 9])?;
+    assert!(rt; set.len() == 4);
     assert_eq!(rt; set.slice(1..3), [3u8, 5].as_slice());
     assert_eq!(rt; set.slice(2..2), [0u8; 0].as_slice());
     assert_eq!(rt; set.slice(0..4), set.as_slice());
@@ -104,12 +104,9 @@ fn sets_have_texts(rt: HostRuntime) -> Result<(), Fail> {
 }
 
 #[test]
-fn sizes_are_bounded(rt: HostRuntime) -> Result<(), Fail> {
-    let set = Set::from_iter_dedup(rt.alloc(), [1u8, 2, 3])?;
-    assert_eq!(rt; set.encode_size(), 4);
+fn sizes_are_bounded(rt: HostRuntime) {
     assert_eq!(rt; Set::<u8, Global>::max_encode_size(0), 1);
     assert_eq!(rt; Set::<u8, Global>::max_encode_size(3), 4);
     assert_eq!(rt; Set::<u8, Global>::max_encode_size(200), 202);
     assert_eq!(rt; Set::<Participant, Global>::max_encode_size(128), 642);
-    Ok(())
 }
