@@ -13,16 +13,20 @@ pub record WritesSoFar {W X : Type 0} (took : W → List ℕ → W → Type 0) (
   pub at : (bs : List ℕ) → debug_items text [] xs ≡ Some bs → IsPlainFormatter f
       → (done : List ℕ) × (rest : List ℕ) × HasWritten took f done g × (debug_items text lead (drop i xs) ≡ Some rest) × (done ++ rest ≡ bs)
 
+-- texts that are known and the same
 same_text : (a b : List ℕ) → Some a ≡ Some b → a ≡ b
 same_text a b e = ap (λ o. unwrap_or o []) e
 
+-- an unknown text is none that is known
 none_is_not_some : (a : List ℕ) → None ≡ Some a → ⊥
 none_is_not_some a e = cc
 
 module _ {W X : Type 0} (took : W → List ℕ → W → Type 0) (text : X → Option (List ℕ)) (xs : List X) where
+  -- before the first item nothing is written
   pub WritesSoFar_none : (f : Formatter W) → WritesSoFar took text xs 0 [] f f
   WritesSoFar_none f = record { at = λ bs whole plain. ([], bs, record { wrote = record { parts = []; calls = refl; whole = refl }; plain = plain }, whole, refl) }
 
+  -- the lead and the text of one item more
   item_more : (lead t u : List ℕ) (bs : List ℕ) (f g h k : Formatter W) (done rest : List ℕ) → HasWritten took f done g → WritesOnOk took g (Ok tt) lead h → WritesOnOk took h (Ok tt) t k
       → Some (lead ++ (t ++ u)) ≡ Some rest → done ++ rest ≡ bs → HasWritten took f (done ++ (lead ++ t)) k × ((done ++ (lead ++ t)) ++ u ≡ bs)
   item_more lead t u bs f g h k done rest wrote one two e whole =
@@ -50,6 +54,7 @@ module _ {W X : Type 0} (took : W → List ℕ → W → Type 0) (text : X → O
           let m = item_more lead t u bs f g h k b.0 b.1 b.2 wrote_lead (subst (λ o. DisplaysOnOk took h (Ok tt) o k) e wrote_item) all b.4 in
           (b.0 ++ (lead ++ t), u, m.0, r, m.1)
 
+  -- after the last item the whole text is written
   pub WritesSoFar_all : (i : ℕ) (lead : List ℕ) (f g : Formatter W) → length xs ≤ i → WritesSoFar took text xs i lead f g → DisplaysOnOk took f (Ok tt) (debug_items text [] xs) g
   WritesSoFar_all i lead f g past so_far = go (debug_items text [] xs) refl
     where

@@ -18,6 +18,9 @@ use std::ops::{Index, Range};
 use std::slice;
 
 /// Items in increasing order, each once.
+///
+/// A look-up takes O(log n) comparisons, a builder O(n log n), and every other call at most linear time. No contract
+/// says so.
 #[derive(Drop)]
 pub struct Set<T: Ord, A: Allocator> {
     items: Vec<T, A>,

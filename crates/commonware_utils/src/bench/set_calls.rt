@@ -44,7 +44,10 @@ fn a_set_is_walked_from_both_ends(rt: HostRuntime) -> Result<(), Fail> {
     let mut items = set.into_iter();
     assert_eq!(rt; (items.len(), items.next_back()), (3, Some(5)));
     assert_eq!(rt; (items.next(), items.next()), (Some(1), Some(3)));
-    assert_eq!(rt; (items.len(), items.next_back(), items.next()), (0, None, None));
+    assert_eq!(rt;
+        (items.len(), items.next_back(), items.next()),
+        (0, None, None)
+    );
     Ok(())
 }
 

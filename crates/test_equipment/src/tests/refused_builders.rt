@@ -87,8 +87,8 @@ fn sets_are_read_and_given_up_without_memory(rt: HostRuntime) -> Result<(), Fail
     let set = Set::from_iter_dedup(&heap, [5u32, 1, 3])?;
     let other = Set::from_iter_dedup(&heap, [5u32, 1])?;
     heap.restart(0);
-    assert!(rt; set.position(&5) == Some(2) && set[0] == 1);
-    assert!(rt; set.slice(1..3) == [3, 5].as_slice() && set.get(1) == Some(&3));
+    assert!(rt; set.position(&5) == Some(2) && set.len() == 3);
+    assert!(rt; set[0] == 1 && set.slice(1..3) == [3, 5].as_slice());
     assert!(rt; set < other && set != other);
     assert_eq!(rt; Set::<u32, &Refusing<Global>>::max_encode_size(128), 514);
     let items: Vec<u32, &Refusing<Global>> = set.into();

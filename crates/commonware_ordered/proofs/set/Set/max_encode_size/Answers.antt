@@ -1,4 +1,4 @@
-use Rattle.std.proofs.Common.{rules, arith, ◌≤◌, ◌*◌, ◌+◌, ◌≡◌, ◌∙◌, ◌<◌, ◌^◌, length, length-append, subst, sym}
+use Rattle.std.proofs.Common.{rules, arith, ◌*◌, ◌+◌, ◌≡◌, ◌∙◌, ◌<◌, ◌^◌, length, length-append, subst, sym}
 use Rattle.std.specs.List.{flat_map}
 use Rattle.commonware_base.specs.Varint.{varint, varint_size}
 use Rattle.commonware_base.specs.VarintLaws.{varint-length, varint_size_is}
