@@ -15,7 +15,7 @@ use Rattle.commonware_base.specs.declared.codec.error.Error.TheVariants.{EndOfBu
 use Rattle.commonware_ordered.specs.Sets.{IsWritableSet, SetFault}
 use Rattle.committee_core.specs.Report.{IsMembersReport}
 use Rattle.committee_core.specs.declared.command.Command.{Command}
-use Rattle.committee_core.specs.declared.command.Command.TheVariants.{Read}
+use Rattle.committee_core.specs.declared.command.Command.TheVariants.{Read, Bounds}
 use Rattle.committee_core.specs.declared.error.RunError.{RunError}
 use Rattle.committee_core.specs.declared.error.RunError.TheVariants.{Refused, LeftOver, Memory, ReadFailed, WriteFailed}
 
@@ -67,6 +67,7 @@ refusal_of faults.Memory = Memory
 -- the text is the report that the command asks for, where the reader gave bytes of which Given holds
 abbrev pub IsReport : (List ℕ → Type 0) → Command → List ℕ → Type 0
 IsReport Given Read text = (s : List ℕ) × Given s × (members : List ℕ) × IsCommittee s members [] × IsMembersReport members text
+IsReport Given (Bounds n) text = text ≡ []
 
 -- the exit status where no report was written: 1 where the bytes are refused, 3 where memory or a device failed
 abbrev pub status_of : RunError → ℕ
