@@ -1,5 +1,5 @@
 -- What a whole number of any type is as a number of participants.
-use Rattle.std.specs.Prelude.{ℕ, ◌^◌, ◌<◌, ◌≤◌, ℤ, pos, negsuc}
+use Rattle.std.specs.Prelude.{ℕ, ◌+◌, ◌*◌, ◌^◌, ◌<◌, ◌≤◌, ℤ, pos, negsuc}
 
 -- the number is from 0 to u32::MAX
 abbrev pub IsU32 : ℤ → Type 0
@@ -15,3 +15,8 @@ IsCommitteeSize (negsuc n) = ⊥
 abbrev pub amount : ℤ → ℕ
 amount (pos n) = n
 amount (negsuc n) = 0
+
+-- f is the greatest number for which k times f and one more is up to n
+pub record GreatestFit (k n f : ℕ) : Type 0 where
+  pub fits : k * f + 1 ≤ n
+  pub greatest : (g : ℕ) → k * g + 1 ≤ n → g ≤ f

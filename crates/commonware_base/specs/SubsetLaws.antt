@@ -75,6 +75,10 @@ LeastM-by_double n f low = record {
   least = λ k below h. omega (arith, Overlap-at_ends n (n - f) k (f + 1) (omega arith) (omega arith) h);
 }
 
+-- with the least m, and f up to n, sub-sets of at least n - f and at least m share f + 1
+pub LeastM-shares : (n f m : ℕ) → f ≤ n → LeastM n f m → OverlapAtLeast n (n - f) m (f + 1)
+LeastM-shares n f m within h = Overlap-at_least n (n - f) m (f + 1) (omega arith) h.at_most h.overlaps
+
 -- a sub-set with more members than another has one outside it
 pub beyond : (large small : List Bool) → length large ≡ length small → size small < size large → (p : ℕ) × IsIn large p × IsOutside small p
 beyond [] [] e h = absurd (omega arith)

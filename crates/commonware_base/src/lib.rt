@@ -4,7 +4,9 @@
 
 pub mod codec;
 mod eq_clone;
+pub mod faults;
 mod participant;
 
 pub use eq_clone::EqClone;
+pub use faults::{Faults, N3f1, N5f1};
 pub use participant::Participant;
