@@ -6,5 +6,5 @@
 #[cfg(test)]
 mod bench;
 
-pub use commonware_base::{EqClone, Participant, codec};
+pub use commonware_base::{EqClone, Faults, N3f1, N5f1, Participant, codec, faults};
 pub use commonware_ordered as ordered;
