@@ -4,7 +4,7 @@ use Rattle.std.specs.Fmt.{decimal}
 use Rattle.committee_core.specs.Numbers.{AreNumbers}
 use Rattle.committee_core.specs.Refutations.{ends}
 use Rattle.committee_core.specs.Report.{line_end, n3f1_line, n5f1_line}
-use Rattle.committee_core.specs.declared.Refutation.{Refutation}
+use Rattle.committee_core.specs.declared.ranges.Refutation.{Refutation}
 
 -- the line that says how many members the report is on
 unfoldable pub n_line : ℕ → List ℕ

@@ -2,7 +2,7 @@
 use Rattle.std.specs.Prelude.{ℕ, ◌-◌, Bool, List}
 use Rattle.std.specs.declared.ops.Range.{Range}
 use Rattle.commonware_base.specs.Subsets.{places, shared}
-use Rattle.committee_core.specs.declared.Refutation.{Refutation}
+use Rattle.committee_core.specs.declared.ranges.Refutation.{Refutation}
 
 -- the sub-set of n positions that a range of them is
 abbrev pub subset_of : ℕ → Range ℕ → List Bool

@@ -9,6 +9,7 @@ mod command;
 mod error;
 mod outcome;
 mod program;
+mod ranges;
 pub mod refute;
 mod report;
 mod transfer;
@@ -18,17 +19,5 @@ pub use command::{Command, parse_args};
 pub use error::RunError;
 pub use outcome::run;
 pub use program::session;
-use std::ops::Range;
+pub use ranges::Refutation;
 pub use watched::Watched;
-
-/// Two sub-sets of the positions of some members, and how many positions stand in both. Where that is too few, they
-/// refute a number of a fault model.
-#[derive(Clone, Debug, Drop, PartialEq, Eq)]
-pub struct Refutation {
-    /// The first of the positions.
-    pub first: Range<u32>,
-    /// The last of the positions.
-    pub second: Range<u32>,
-    /// How many positions stand in both.
-    pub shared: u32,
-}

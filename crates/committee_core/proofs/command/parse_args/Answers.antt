@@ -1,4 +1,4 @@
-use Rattle.std.proofs.Common.{◌≡◌, List, ℕ, map, ◌∷◌, [], rules, codes, refl, sym}
+use Rattle.std.proofs.Common.{◌≡◌, rules, codes, refl, sym}
 use Rattle.std.specs.String.{string_bytes}
 use Rattle.committee_core.proofs.Words.{one_word, two_words, no_command, one_command}
 use Rattle.committee_core.proofs.command.parse_args.Goals as goal
