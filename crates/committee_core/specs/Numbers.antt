@@ -1,18 +1,10 @@
--- The numbers of the fault models.
-use Rattle.std.specs.Prelude.{ℕ, ◌+◌, ◌*◌, ◌≤◌, ◌≡◌}
+-- The numbers of the fault models, by counting.
+use Rattle.std.specs.Prelude.{ℕ}
+use Rattle.commonware_base.specs.Subsets.{Greatest3, Greatest5, LeastM}
 
--- f is the greatest number for which 3f + 1 is at most n
-pub record IsN3f1Faults (n f : ℕ) : Type 0 where
-  pub fits : 3 * f + 1 ≤ n
-  pub greatest : (g : ℕ) → 3 * g + 1 ≤ n → g ≤ f
-
--- f is the greatest number for which 5f + 1 is at most n
-pub record IsN5f1Faults (n f : ℕ) : Type 0 where
-  pub fits : 5 * f + 1 ≤ n
-  pub greatest : (g : ℕ) → 5 * g + 1 ≤ n → g ≤ f
-
--- the numbers of n members: the faults of each model, and the smaller quorum of the second
+-- the numbers of n members: the greatest f of each model, and the least m of the second
+-- each is fixed by n: `Greatest3-unique`, `Greatest5-unique` and `LeastM-unique` say that there is one
 pub record AreNumbers (n f3 f5 m : ℕ) : Type 0 where
-  pub n3f1 : IsN3f1Faults n f3
-  pub n5f1 : IsN5f1Faults n f5
-  pub m_quorum : m ≡ 2 * f5 + 1
+  pub n3f1 : Greatest3 n f3
+  pub n5f1 : Greatest5 n f5
+  pub m_quorum : LeastM n f5 m

@@ -20,21 +20,21 @@ abbrev pub member_lines : ℕ → List ℕ → List ℕ
 member_lines position [] = []
 member_lines position (item ∷ items) = member_line position item ++ member_lines (position + 1) items
 
--- the line of the first model for n members of which so many may be faulty
+-- the line of the first model: how many may be faulty, and how many are a quorum
 unfoldable pub n3f1_line : ℕ → ℕ → List ℕ
-n3f1_line n faults = codes "N3f1 faults " ++ (decimal faults ++ (codes " quorum " ++ (decimal (n - faults) ++ line_end)))
+n3f1_line faults quorum = codes "N3f1 faults " ++ (decimal faults ++ (codes " quorum " ++ (decimal quorum ++ line_end)))
 
 -- the line of the second model, with its smaller quorum m
 unfoldable pub n5f1_line : ℕ → ℕ → ℕ → List ℕ
-n5f1_line n faults m =
-    codes "N5f1 faults " ++ (decimal faults ++ (codes " quorum " ++ (decimal (n - faults) ++ (codes " m-quorum " ++ (decimal m ++ line_end)))))
+n5f1_line faults quorum m =
+    codes "N5f1 faults " ++ (decimal faults ++ (codes " quorum " ++ (decimal quorum ++ (codes " m-quorum " ++ (decimal m ++ line_end)))))
 
 -- the report on the members, with the numbers of the fault models
 abbrev pub report_with : List ℕ → ℕ → ℕ → ℕ → List ℕ
 report_with items f3 f5 m =
     let n = length items in
-    members_line n ++ member_lines 0 items ++ n3f1_line n f3 ++ n5f1_line n f5 m
+    members_line n ++ member_lines 0 items ++ n3f1_line f3 (n - f3) ++ n5f1_line f5 (n - f5) m
 
--- the text is the report on the members
+-- the text is the report on the members: the one with their numbers, so there is one such text
 abbrev pub IsMembersReport : List ℕ → List ℕ → Type 0
 IsMembersReport items text = (f3 : ℕ) × (f5 : ℕ) × (m : ℕ) × AreNumbers (length items) f3 f5 m × (text ≡ report_with items f3 f5 m)

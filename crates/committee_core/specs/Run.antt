@@ -1,5 +1,6 @@
 -- What a run makes of the bytes that its reader gave, and the exit status where it writes no report.
 use Rattle.std.specs.Prelude.{◌≡◌, ℕ, ◌<◌, List, [], Option, Some, length, ◌⊎◌}
+use Rattle.std.specs.Int.NonZero.{non_zero_u32_get}
 use Rattle.std.specs.Io.KnownBytes.{Consumes, IsAtEnd}
 use Rattle.std.specs.Ordering.{nat_cmp}
 use Rattle.std.specs.declared.ops.Bound.TheVariants.{Included}
@@ -13,9 +14,10 @@ use Rattle.commonware_base.specs.declared.codec.error.Error.{Error}
 use Rattle.commonware_base.specs.declared.codec.error.Error.TheVariants as faults
 use Rattle.commonware_base.specs.declared.codec.error.Error.TheVariants.{EndOfBuffer, InvalidVarint, InvalidLength, Invalid}
 use Rattle.commonware_ordered.specs.Sets.{IsWritableSet, SetFault}
+use Rattle.committee_core.specs.BoundsReport.{IsBoundsReport}
 use Rattle.committee_core.specs.Report.{IsMembersReport}
 use Rattle.committee_core.specs.declared.command.Command.{Command}
-use Rattle.committee_core.specs.declared.command.Command.TheVariants.{Read}
+use Rattle.committee_core.specs.declared.command.Command.TheVariants as commands
 use Rattle.committee_core.specs.declared.error.RunError.{RunError}
 use Rattle.committee_core.specs.declared.error.RunError.TheVariants.{Refused, LeftOver, Memory, ReadFailed, WriteFailed}
 
@@ -66,7 +68,8 @@ refusal_of faults.Memory = Memory
 
 -- the text is the report that the command asks for, where the reader gave bytes of which Given holds
 abbrev pub IsReport : (List ℕ → Type 0) → Command → List ℕ → Type 0
-IsReport Given Read text = (s : List ℕ) × Given s × (members : List ℕ) × IsCommittee s members [] × IsMembersReport members text
+IsReport Given commands.Read text = (s : List ℕ) × Given s × (members : List ℕ) × IsCommittee s members [] × IsMembersReport members text
+IsReport Given (commands.Bounds n) text = IsBoundsReport (non_zero_u32_get n) text
 
 -- the exit status where no report was written: 1 where the bytes are refused, 3 where memory or a device failed
 abbrev pub status_of : RunError → ℕ

@@ -1,17 +1,21 @@
 //! What the words after the program's name ask for.
 ghost use Rattle.std.specs.Prelude.{◌≡◌, Some, map, string_bytes, IfSome, IfNone};
-ghost use Rattle.committee_core.specs.Command.{IsAskedFor};
+ghost use Rattle.committee_core.specs.Command.{IsAskedFor, IsCount};
 
 use std::alloc::Allocator;
+use std::num::NonZeroU32;
 
 /// What the program is asked to do.
 #[derive(Clone, Copy, Debug, PartialEq, Eq)]
 pub enum Command {
     /// Read a committee, and report on its members.
     Read,
+    /// Report on the numbers of the fault models for so many members, and on why no better ones hold.
+    Bounds(NonZeroU32),
 }
 
-/// The command that the words ask for: `read`, and no other word, is `Command::Read`.
+/// The command that the words ask for: `read`, and no other word, is `Command::Read`; `bounds` and a number, and no
+/// other word, is `Command::Bounds`. The number is 1 to 10 ASCII digits with a value from 1 to 4294967295.
 ///
 /// The answer is `None` exactly where the words ask for no command.
 pub fn parse_args<A: Allocator>(words: &[String<A>]) -> Option<Command>
@@ -23,6 +27,20 @@ pub fn parse_args<A: Allocator>(words: &[String<A>]) -> Option<Command>
 {
     match words {
         [word] if word.as_str() == "read" => Some(Command::Read),
+        [word, count] if word.as_str() == "bounds" => {
+            Some(Command::Bounds(parse_count(count.as_str())?))
+        }
         _ => None,
     }
+}
+
+/// The number of members that a word writes.
+fn parse_count(word: &str) -> Option<NonZeroU32>
+    ensures count { IfSome result (IsCount word.now) }
+    ensures other { IfNone result ((n : NonZeroU32) → ¬ IsCount word.now n) }
+{
+    if word.len() > 10 || !word.bytes().all(|b| b.is_ascii_digit()) {
+        return None;
+    }
+    NonZeroU32::new(word.parse::<u32>().ok()?)
 }

@@ -4,11 +4,13 @@
 //! request for memory and each failing device can be tried. The program itself only hands in the real ones.
 #![tactic(auto)]
 
+mod bounds_report;
 mod command;
 mod error;
-mod faults;
 mod outcome;
 mod program;
+mod ranges;
+pub mod refute;
 mod report;
 mod transfer;
 mod watched;
@@ -17,4 +19,5 @@ pub use command::{Command, parse_args};
 pub use error::RunError;
 pub use outcome::run;
 pub use program::session;
+pub use ranges::Refutation;
 pub use watched::Watched;

@@ -1,8 +1,9 @@
 //! A command, from the bytes that are read to the bytes that are written.
-ghost use Rattle.std.specs.Prelude.{◌≡◌, ◌≢◌, ◌↔◌, ◌^◌, ◌<◌, ◌≤◌, [], ℕ, List, length, true, false, Err, OnOk, OnErr, IfOk, IfErr};
+ghost use Rattle.std.specs.Prelude.{◌≡◌, ◌≢◌, ◌↔◌, ◌^◌, ◌<◌, ◌≤◌, ◌⊎◌, [], ℕ, List, length, true, false, Err, OnOk, OnErr, IfOk, IfErr};
 ghost use Rattle.std.specs.Io.KnownBytes.{Appends};
 ghost use Rattle.committee_core.specs.Run.{Gave, IsCommittee, IsRefusal, IsReport};
 
+use crate::bounds_report::bounds_report;
 use crate::command::Command;
 use crate::error::RunError;
 use crate::report::committee_report;
@@ -17,9 +18,11 @@ use std::io::{Read, Write};
 /// Does what the command asks for: writes its report, and flushes.
 ///
 /// With `Command::Read` the reader is read to its end. The bytes have to be the bytes of a set of 1 to 256 one-byte
-/// members, and no more: else the answer is the first fault of the bytes, or how many bytes are left over. The report
-/// is whole in memory before the first write, so nothing is written where the answer isn't `WriteFailed`; after that
-/// answer nothing is said of how much went out. No call of a device is tried again.
+/// members, and no more: else the answer is the first fault of the bytes, or how many bytes are left over. With
+/// `Command::Bounds` the reader isn't touched, and the answer is no fault of bytes.
+///
+/// The report is whole in memory before the first write, so nothing is written where the answer isn't `WriteFailed`;
+/// after that answer nothing is said of how much went out. No call of a device is tried again.
 pub fn run<A: Allocator + Copy, R: Read, W: Write>(
     alloc: A,
     command: Command,
@@ -41,6 +44,11 @@ pub fn run<A: Allocator + Copy, R: Read, W: Write>(
         → ((result ≡ Err RunError.WriteFailed) ↔ (output.new.failed ≡ true)) }
     ensures ended { command ≡ Command.Read → result ≢ Err RunError.ReadFailed
         → result ≢ Err RunError.Memory → input.new.ended ≡ true }
+
+    // With `Command::Bounds` nothing is read.
+    ensures untouched { (n : _) → command ≡ Command.Bounds n → input.new ≡ input.old }
+    ensures no_fault { (n : _) → command ≡ Command.Bounds n
+        → IfErr result (λ error. (error ≡ RunError.Memory) ⊎ (error ≡ RunError.WriteFailed)) }
 {
     let text = match command {
         Command::Read => {
@@ -48,6 +56,7 @@ pub fn run<A: Allocator + Copy, R: Read, W: Write>(
             let members = read_members(alloc, &bytes)?;
             committee_report(alloc, members.as_slice())
         }
+        Command::Bounds(n) => bounds_report(alloc, n),
     };
     match text {
         Ok(text) => write_whole(output, text.as_bytes()),

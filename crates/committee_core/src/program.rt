@@ -1,5 +1,5 @@
 //! A whole run of the program: what it says, and its exit status.
-ghost use Rattle.std.specs.Prelude.{◌≡◌, ◌↔◌, ◌≤◌, ℕ, List, map, string_bytes, true, false};
+ghost use Rattle.std.specs.Prelude.{◌≡◌, ◌≢◌, ◌↔◌, ◌≤◌, ℕ, List, map, string_bytes, true, false};
 ghost use Rattle.std.specs.Io.KnownBytes.{Appends};
 ghost use Rattle.committee_core.specs.Command.{IsAskedFor};
 ghost use Rattle.committee_core.specs.Run.{Gave, IsRefused, IsReport, status_of};
@@ -15,7 +15,7 @@ use std::io::{Read, Write};
 ///
 /// The status is 0 where the report was written, 1 where the bytes were refused, 2 where the words ask for no command,
 /// and 3 where memory, the reader or the writer failed. Unless it is 0, one line on `errors` says why. Where `errors`
-/// fails, the status is the same.
+/// fails, the status is the same. Where the words ask for `Command::Bounds`, or for no command, nothing is read.
 pub fn session<A: Allocator + Copy, R: Read, W: Write, E: Write>(
     alloc: A,
     words: &[String<A>],
@@ -31,6 +31,8 @@ pub fn session<A: Allocator + Copy, R: Read, W: Write, E: Write>(
         IsRefused (Gave (R.remaining input.old.inner) (R.remaining input.new.inner)) × (output.new ≡ output.old) }
     ensures usage { (result ≡ 2) ↔ ((command : _) → ¬ IsAskedFor (map string_bytes words.now) command) }
     ensures untouched { result ≡ 2 → (input.new ≡ input.old) × (output.new ≡ output.old) }
+    ensures bounds { (n : _) → IsAskedFor (map string_bytes words.now) (Command.Bounds n)
+        → (input.new ≡ input.old) × (result ≢ 1) }
     ensures read_failed { input.old.failed ≡ false → input.new.failed ≡ true → result ≡ 3 }
     ensures write_failed { output.old.failed ≡ false → output.new.failed ≡ true → result ≡ 3 }
     ensures statuses { result ≤ 3 }

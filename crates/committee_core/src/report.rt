@@ -5,7 +5,7 @@ ghost use Rattle.std.specs.Prelude.{◌≡◌, ◌^◌, ◌<◌, ◌≤◌, ◌+
 ghost use Rattle.committee_core.specs.Report.{IsMembersReport, members_line, member_line};
 ghost use Rattle.committee_core.specs.Report.{n3f1_line, n5f1_line};
 
-use crate::faults::{m_quorum, n3f1_faults, n5f1_faults};
+use commonware_utils::{Faults, N3f1, N5f1};
 use std::alloc::{AllocError, Allocator};
 
 /// The report on the members: how many they are, each with its position, and the numbers of the
@@ -24,11 +24,13 @@ pub(crate) fn committee_report<A: Allocator>(
         write_member(&mut text, position, *item)?;
     }
     let n = members.len() as u32;
-    let n3f1 = n3f1_faults(n);
-    write_n3f1(&mut text, n, n3f1)?;
-    let n5f1 = n5f1_faults(n);
-    let m = m_quorum(n);
-    write_n5f1(&mut text, n, n5f1, m)?;
+    write_n3f1(&mut text, N3f1::max_faults(n), N3f1::quorum(n))?;
+    write_n5f1(
+        &mut text,
+        N5f1::max_faults(n),
+        N5f1::quorum(n),
+        N5f1::m_quorum(n),
+    )?;
     Ok(text)
 }
 
@@ -51,25 +53,29 @@ fn write_member<A: Allocator>(
     writeln!(text, "{position} {item}")
 }
 
+/// The numbers of the model N3f1.
 #[tactic(auto, unfolding(crate::specs::Report::n3f1_line))]
-fn write_n3f1<A: Allocator>(text: &mut String<A>, n: u32, faults: u32) -> Result<(), AllocError>
-    requires { faults ≤ n }
-    ensures { OnOk result (string_bytes text.new ≡ string_bytes text.old ++ n3f1_line n faults) }
+pub(crate) fn write_n3f1<A: Allocator>(
+    text: &mut String<A>,
+    faults: u32,
+    quorum: u32,
+) -> Result<(), AllocError>
+    ensures { OnOk result
+        (string_bytes text.new ≡ string_bytes text.old ++ n3f1_line faults quorum) }
 {
-    let quorum = n - faults;
     writeln!(text, "N3f1 faults {faults} quorum {quorum}")
 }
 
+/// The numbers of the model N5f1.
 #[tactic(auto, unfolding(crate::specs::Report::n5f1_line))]
-fn write_n5f1<A: Allocator>(
+pub(crate) fn write_n5f1<A: Allocator>(
     text: &mut String<A>,
-    n: u32,
     faults: u32,
+    quorum: u32,
     m: u32,
 ) -> Result<(), AllocError>
-    requires { faults ≤ n }
-    ensures { OnOk result (string_bytes text.new ≡ string_bytes text.old ++ n5f1_line n faults m) }
+    ensures { OnOk result
+        (string_bytes text.new ≡ string_bytes text.old ++ n5f1_line faults quorum m) }
 {
-    let quorum = n - faults;
     writeln!(text, "N5f1 faults {faults} quorum {quorum} m-quorum {m}")
 }

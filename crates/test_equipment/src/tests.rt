@@ -1,5 +1,6 @@
 //! The program over scripted devices, and every call that takes memory with each of its requests refused.
 
+mod bounds;
 mod failing_devices;
 mod refused_builders;
 mod refused_memory;
@@ -16,6 +17,9 @@ const FOUR: &[u8; 5] = b"\x04\x01\x03\x05\x09";
 /// The report on it.
 const FOUR_REPORT: &str =
     "members 4\n0 1\n1 3\n2 5\n3 9\nN3f1 faults 1 quorum 3\nN5f1 faults 0 quorum 4 m-quorum 1\n";
+
+/// The line on standard error where the words ask for no command.
+const USAGE: &str = "usage: committee read, or committee bounds <n>\n";
 
 /// More than any report of these tests has bytes, and than any input has.
 const WHOLE: usize = 100_000;

@@ -1,11 +1,11 @@
 //! What a session writes, says and answers.
-use super::{FOUR, FOUR_REPORT, WHOLE, failing_reader, failing_writer, reader, words_in, writer};
+use super::{
+    FOUR, FOUR_REPORT, USAGE, WHOLE, failing_reader, failing_writer, reader, words_in, writer,
+};
 use crate::{Refusing, ScriptedWriter, WriteFault};
 use committee_core::{Command, parse_args, session};
 use std::io::ErrorKind;
 use std::test::Fail;
-
-const USAGE: &str = "usage: committee read, or committee bounds <n>\n";
 
 #[test]
 fn a_committee_is_reported(rt: HostRuntime) -> Result<(), Fail> {
@@ -74,7 +74,7 @@ fn a_committee_has_at_most_256_members(rt: HostRuntime) -> Result<(), Fail> {
 
 #[test]
 fn other_words_get_the_usage_line(rt: HostRuntime) -> Result<(), Fail> {
-    for line in ["", "write", "READ", "read read", "bounds 10", "bounds 0"] {
+    for line in ["", "write", "READ", "read read", "bounds", "bounds 0"] {
         let words = words_in(rt.alloc(), line)?;
         assert_eq!(rt; parse_args(&words), None, "{line}");
         let mut input = reader(FOUR, WHOLE);

@@ -1,16 +1,15 @@
-use Rattle.std.proofs.Common.{arith}
+use Rattle.std.proofs.Common.{◌+◌, ◌-◌, ◌*◌, ◌/◌, length, arith}
 use Rattle.std.proofs.lemmas.Grind.{common_steps}
+use Rattle.commonware_base.specs.SubsetLaws.{n3f1_greatest, n5f1_greatest, n5f1_least_m}
 use Rattle.committee_core.proofs.report.committee_report.Goals as goal
 
 pub returns : goal.returns
-returns g c = (
-  c.n3f1_faults-n3f1.result,
-  c.n5f1_faults-n5f1.result,
-  c.m_quorum-m.result,
-  record {
-    n3f1 = c.n3f1_faults-n3f1.ensures;
-    n5f1 = c.n5f1_faults-n5f1.ensures;
-    m_quorum = c.m_quorum-m.ensures _ c.n5f1_faults-n5f1.ensures;
-  },
-  grind (arith, common_steps),
-)
+returns g c =
+    let n = length c.args.members.now in
+    let some = c.requires.some in (
+      (n - 1) / 3,
+      (n - 1) / 5,
+      2 * ((n - 1) / 5) + 1,
+      record { n3f1 = n3f1_greatest n some; n5f1 = n5f1_greatest n some; m_quorum = n5f1_least_m n some },
+      grind (arith, common_steps),
+    )

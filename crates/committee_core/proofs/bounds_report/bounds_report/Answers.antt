@@ -1,0 +1,15 @@
+use Rattle.std.proofs.Common.{◌+◌, ◌-◌, ◌*◌, ◌/◌, arith}
+use Rattle.std.proofs.lemmas.Grind.{common_steps}
+use Rattle.commonware_base.specs.SubsetLaws.{n3f1_greatest, n5f1_greatest, n5f1_least_m}
+use Rattle.committee_core.proofs.bounds_report.bounds_report.Goals as goal
+
+pub returns : goal.returns
+returns g c =
+    let n = c.args.n.value in
+    let some = c.args.n.ok in (
+      (n - 1) / 3,
+      (n - 1) / 5,
+      2 * ((n - 1) / 5) + 1,
+      record { n3f1 = n3f1_greatest n some; n5f1 = n5f1_greatest n some; m_quorum = n5f1_least_m n some },
+      grind (arith, common_steps),
+    )
