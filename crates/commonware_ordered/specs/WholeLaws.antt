@@ -46,10 +46,13 @@ module _ {S A : Type 0} {steps : S → Option A → S → Type 0} (rest : S → 
   pub equal_items_stay : (eq : A → A → Bool) (s : S) (xs : List A) (ended : Bool) → DrainsIf steps (ended ≡ true) s xs → HasEqualItems eq xs → HasEqualItems eq (rest s)
   equal_items_stay eq s xs ended d (i, j, x, y, before, at, later, same) = (i, j, x, y, before, drawn_stays s xs ended d i x at, drawn_stays s xs ended d j y later, same)
 
-  -- where each iterator that is made of given has l left, what is answered for given is answered for l
-  pub whole_set_of_list : {Given : Type 0} (becomes : Given → S → Type 0) (given : Given) (l : List A) → ((s : S) → becomes given s → rest s ≡ l) → (eq : A → A → Bool) (cmp : A → A → Ordering) (r : Result (List A) Error)
-      → IfOk r (λ set. TakesAll becomes steps given (λ xs. IsSetOfAll eq cmp xs set)) → IfErr r (λ e. TakesSome becomes steps given (λ xs ended. IsRefusedFor eq xs e)) → IsWholeSet eq cmp l r
-  whole_set_of_list becomes given l left eq cmp (Ok set) (s, xs, made, drained, whole) refused = subst (λ ys. IsSetOfAll eq cmp ys set) (whole_list s xs drained ∙ left s made) whole
-  whole_set_of_list becomes given l left eq cmp (Err DuplicateKey) ok (s, made, (xs, ended, drawn, twice)) = subst (HasEqualItems eq) (left s made) (equal_items_stay eq s xs ended drawn twice)
-  whole_set_of_list becomes given l left eq cmp (Err DuplicateValue) ok (s, made, (xs, ended, drawn, never)) = never
-  whole_set_of_list becomes given l left eq cmp (Err Memory) ok refused = tt
+-- where each iterator that is made of given is in order and has l left, what is answered for given is answered for l
+pub whole_set_of_list : {S A Given : Type 0} {steps : S → Option A → S → Type 0} (rest : S → List A) (becomes : Given → S → Type 0) (given : Given) (l : List A) (eq : A → A → Bool) (cmp : A → A → Ordering) (r : Result (List A) Error)
+    → IfOk r (λ set. TakesAll becomes steps given (λ xs. IsSetOfAll eq cmp xs set)) → IfErr r (λ e. TakesSome becomes steps given (λ xs ended. IsRefusedFor eq xs e))
+    → ((s : S) → becomes given s → (rest s ≡ l) × YieldsInOrder steps rest) → IsWholeSet eq cmp l r
+whole_set_of_list rest becomes given l eq cmp (Ok set) (s, xs, made, drained, whole) refused known =
+    let k = known s made in subst (λ ys. IsSetOfAll eq cmp ys set) (whole_list rest k.1 s xs drained ∙ k.0) whole
+whole_set_of_list rest becomes given l eq cmp (Err DuplicateKey) ok (s, made, (xs, ended, drawn, twice)) known =
+    let k = known s made in subst (HasEqualItems eq) k.0 (equal_items_stay rest k.1 eq s xs ended drawn twice)
+whole_set_of_list rest becomes given l eq cmp (Err DuplicateValue) ok (s, made, (xs, ended, drawn, never)) known = never
+whole_set_of_list rest becomes given l eq cmp (Err Memory) ok refused known = tt
