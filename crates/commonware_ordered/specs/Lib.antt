@@ -4,3 +4,4 @@ pub mod Sets
 pub mod Strict
 pub mod StrictLaws
 pub mod Whole
+pub mod WholeLaws

@@ -1,7 +1,9 @@
 //! Sets of many items: what is built, and what is refused.
+ghost use Rattle.commonware_ordered.specs.Whole.{IsWholeSet};
+
 use crate::ordered::{Error, Set};
 use crate::{TryCollect, TryFromIterator};
-use std::alloc::Global;
+use std::alloc::{Allocator, Global};
 use std::test::Fail;
 
 /// A list with a repeat, a repeat before more items, equal neighbours alone, one item, and a list without a repeat.
@@ -82,11 +84,21 @@ fn set_try_from_duplicate(rt: HostRuntime) -> Result<(), Fail> {
     Ok(())
 }
 
+/// What the builder answers for the items of a list: what `try_from_vec` answers for it, however far it reads them.
+fn try_from_items<T: Ord + Drop, A: Allocator + Copy>(
+    alloc: A,
+    items: Vec<T, A>,
+) -> Result<Set<T, A>, Error>
+    ensures { IsWholeSet T.eq T.cmp items.items result }
+{
+    Set::try_from_iter(alloc, items)
+}
+
 /// The test of the Rust crate `test_set_try_from_iter_duplicate`.
 #[test]
 fn set_try_from_iter_duplicate(rt: HostRuntime) -> Result<(), Fail> {
     let items = vec![in rt.alloc(); 3u8, 1, 2, 2]?;
-    assert!(rt; Set::try_from_iter(rt.alloc(), items).err() == Some(Error::DuplicateKey));
+    assert!(rt; try_from_items(rt.alloc(), items).err() == Some(Error::DuplicateKey));
     Ok(())
 }
 
