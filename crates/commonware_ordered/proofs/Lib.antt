@@ -1,4 +1,5 @@
 pub mod Cloned
+pub mod Columns
 pub mod First
 pub mod Placed
 pub mod Places

@@ -1,7 +1,7 @@
 -- What was made of all the items of an iterator that is handed in.
-use Rattle.std.proofs.Common.{List, Option, Some, None, refl}
+use Rattle.std.proofs.Common.{List, Option}
 use Rattle.std.specs.Prelude.{Err, IfErr, IfOk, MatchResult, Ok, Result, true}
-use Rattle.std.specs.Iterator.{Drains, YieldsThen}
+use Rattle.std.specs.Iterator.{Drains}
 use Rattle.commonware_base.specs.Taken.{TakesAll, TakesSome}
 
 module _ {Given State Item Made Error : Type 0} (becomes : Given → State → Type 0) (steps : State → Option Item → State → Type 0) (Collects : List Item → Made → Type 0) (Refuses : List Item → Error → Type 0) where

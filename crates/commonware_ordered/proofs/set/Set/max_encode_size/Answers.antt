@@ -1,4 +1,4 @@
-use Rattle.std.proofs.Common.{rules, arith, ◌≤◌, ◌*◌, ◌+◌, ◌≡◌, length, length-append}
+use Rattle.std.proofs.Common.{arith, ◌+◌, ◌≡◌, length, length-append}
 use Rattle.std.specs.List.{flat_map}
 use Rattle.commonware_base.specs.Varint.{varint}
 use Rattle.commonware_base.specs.Lists.{list_enc}

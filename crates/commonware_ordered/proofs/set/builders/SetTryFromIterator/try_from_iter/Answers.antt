@@ -1,4 +1,4 @@
-use Rattle.std.proofs.Common.{List, subst, sym}
+use Rattle.std.proofs.Common.{subst, sym}
 use Rattle.std.specs.Iterator.{Drains}
 use Rattle.commonware_ordered.specs.Whole.{IsRefusedFor, IsSetOfAll}
 use Rattle.commonware_ordered.proofs.Taken.{made_of_all, refused_for_all}
