@@ -1,9 +1,10 @@
 -- A list of pairs as the list of the first parts and that of the second.
-use Rattle.std.proofs.Common.{◌≡◌, List, [], ◌∷◌, length, refl, ap, sym, ◌∙◌, arith}
-use Rattle.std.specs.List.{zip}
+use Rattle.std.proofs.Common.{◌≡◌, ℕ, zero, suc, List, [], ◌∷◌, length, take, refl, ap, sym, ◌∙◌, arith}
+use Rattle.std.specs.List.{slice_set, zip}
 use Rattle.std.specs.Map.{keys_of, values_of}
 use Rattle.std.proofs.lemmas.Map.Entries.{length-keys_of, length-values_of}
 use Rattle.std.proofs.lemmas.Map.Made.{keys_of-zip}
+use Rattle.commonware_ordered.specs.Lends.{set_value_at}
 
 -- the second parts of two lists of one length
 pub values_of-zip : {K V : Type 0} (ks : List K) (vs : List V) → length vs ≡ length ks → values_of (zip ks vs) ≡ vs
@@ -16,6 +17,20 @@ values_of-zip (k ∷ ks) (v ∷ vs) e = ap (λ l. v ∷ l) (values_of-zip ks vs 
 pub zip-parts : {K V : Type 0} (es : List (K × V)) → zip (keys_of es) (values_of es) ≡ es
 zip-parts [] = refl
 zip-parts (e ∷ es) = ap (λ l. e ∷ l) (zip-parts es)
+
+-- the first n of two lists, side by side
+pub zip-take : {K V : Type 0} (n : ℕ) (ks : List K) (vs : List V) → zip (take n ks) (take n vs) ≡ take n (zip ks vs)
+zip-take zero ks vs = refl
+zip-take (suc n) [] vs = refl
+zip-take (suc n) (k ∷ ks) [] = refl
+zip-take (suc n) (k ∷ ks) (v ∷ vs) = ap (λ l. (k, v) ∷ l) (zip-take n ks vs)
+
+-- another item in the second list is another value there
+pub zip-set_value_at : {K V : Type 0} (ks : List K) (vs : List V) (i : ℕ) (w : V) → zip ks (slice_set vs i w) ≡ set_value_at (zip ks vs) i w
+zip-set_value_at [] vs i w = refl
+zip-set_value_at (k ∷ ks) [] i w = refl
+zip-set_value_at (k ∷ ks) (v ∷ vs) zero w = refl
+zip-set_value_at (k ∷ ks) (v ∷ vs) (suc i) w = ap (λ l. (k, v) ∷ l) (zip-set_value_at ks vs i w)
 
 -- what the fields of a map hold
 pub record Opened {K V : Type 0} (ks : List K) (vs : List V) (es : List (K × V)) : Type 0 where

@@ -2,6 +2,7 @@ pub mod Cloned
 pub mod Columns
 pub mod First
 pub mod Placed
+pub mod Lookups
 pub mod Places
 pub mod SameItems
 pub mod Sizes
@@ -9,3 +10,4 @@ pub mod Sorted
 pub mod Taken
 pub mod Texts
 pub mod Whole
+pub mod Zipped

@@ -1,4 +1,5 @@
 pub mod Dedup
+pub mod Lends
 pub mod SetLaws
 pub mod Sets
 pub mod Strict

@@ -1,11 +1,19 @@
 //! A set of keys, and a value for each.
-ghost use Rattle.std.specs.Prelude.{◌≡◌, ◌==◌, [], length, zip};
-ghost use Rattle.std.specs.Map.{keys_of, values_of};
-ghost use Rattle.commonware_ordered.specs.Strict.{IsStrict};
+ghost use Rattle.std.specs.Prelude.{◌≡◌, ◌↔◌, ◌<◌, ◌^◌, ◌==◌, [], IfOk, IfSome, IsSome, Some, length, slice_get, take, true, zip, ℕ};
+ghost use Rattle.std.specs.Iterator.Adapters.{IterYieldsInOrder, IterYieldsInReverse};
+ghost use Rattle.std.specs.Map.{keys_of, lookup, values_of};
+ghost use Rattle.std.specs.Option.{option_copied};
+ghost use Rattle.std.specs.Slice.{IsItemAt};
+ghost use Rattle.std.specs.Slice.Iter.{iter_rest};
+ghost use Rattle.commonware_ordered.specs.Strict.{IsPlaceOf, IsStrict};
+
+mod loans;
+mod refs;
 
 use crate::Set;
-use std::alloc::Allocator;
+use std::alloc::{AllocError, Allocator};
 use std::marker::Model;
+use std::slice;
 
 /// Keys in increasing order, each once, and a value for each.
 #[derive(Drop)]
@@ -80,5 +88,95 @@ impl<K: Ord, V, A: Allocator> Map<K, V, A> {
         ensures { result.now ≡ values_of self.now }
     {
         self.values.as_slice()
+    }
+
+    /// The key at a position, or `None` past the last.
+    pub fn get(&self, index: usize) -> Option<&K>
+        ensures { IsItemAt (keys_of self.now) index result }
+    {
+        self.keys().get(index)
+    }
+
+    /// An iterator over the keys in order, from both ends.
+    pub fn iter(&self) -> slice::Iter<'_, K>
+        ensures rest { iter_rest result ≡ keys_of self.now }
+        ensures bound { length (iter_rest result) < 2 ^ 64 }
+        ensures runs { IterYieldsInOrder K }
+        ensures runs_back { IterYieldsInReverse K }
+    {
+        self.keys().iter()
+    }
+
+    /// The place of the key that equals the one asked, or `None` where none does. The keys are halved: O(log n)
+    /// comparisons.
+    pub fn position(&self, key: &K) -> Option<usize>
+        ensures place { IsPlaceOf K.eq (keys_of self.now) key.now result }
+        ensures only { (p : ℕ) → (result ≡ Some p) ↔ ((x : K) × (slice_get (keys_of self.now) p ≡ Some x) × (K.eq x key.now ≡ true)) }
+    {
+        self.keys().position(key)
+    }
+
+    /// The value at a position, or `None` past the last.
+    pub fn value(&self, index: usize) -> Option<&V>
+        ensures { IsItemAt (values_of self.now) index result }
+    {
+        self.values().get(index)
+    }
+
+    /// The value of the key that equals the one asked, or `None` where none does. The keys are halved: O(log n)
+    /// comparisons.
+    pub fn get_value(&self, key: &K) -> Option<&V>
+        ensures { option_copied result ≡ lookup (λ k. K.eq k key.now) self.now }
+    {
+        let index = self.position(key)?;
+        Some(&self.values()[index])
+    }
+}
+
+impl<K: Ord + Drop, V: Drop, A: Allocator> Map<K, V, A> {
+    /// The map of the keys, each with the value at its position, or `None` where there are not as many values as keys.
+    /// It takes no memory.
+    pub fn from_parts(keys: Set<K, A>, values: Vec<V, A>) -> Option<Self>
+        ensures whole { IsSome result ↔ (length values.items ≡ length keys) }
+        ensures pairs { IfSome result (λ m. m ≡ zip keys values.items) }
+    {
+        if values.len() == keys.len() {
+            Some(Map { keys, values })
+        } else {
+            None
+        }
+    }
+
+    /// The first `len` pairs stay, or all of them where there are no more.
+    pub fn truncate(&mut self, len: usize)
+        ensures { self.new ≡ take len self.old }
+    {
+        self.keys.truncate(len);
+        self.values.truncate(len);
+    }
+}
+
+impl<K: Ord, V: Drop, A: Allocator> Map<K, V, A> {
+    /// The keys. The values are given up. It takes no memory.
+    pub fn into_keys(self) -> Set<K, A>
+        ensures { result ≡ keys_of self }
+    {
+        let Map { keys, values: _ } = self;
+        keys
+    }
+}
+
+impl<K: Ord + Drop, V: Drop, A: Allocator + Copy> Map<K, V, A> {
+    /// All pairs in the order of their keys.
+    pub fn into_pairs(self) -> Result<Vec<(K, V), A>, AllocError>
+        ensures { IfOk result (λ pairs. pairs.items ≡ self) }
+    {
+        let alloc = *self.values.allocator();
+        let mut pairs = Vec::with_capacity(alloc, self.len())?;
+        let (keys, values) = self.into_columns();
+        for pair in keys.into_iter().zip(values) {
+            pairs.push(pair)?;
+        }
+        Ok(pairs)
     }
 }
