@@ -1,6 +1,6 @@
 -- A list of pairs as the list of the first parts and that of the second.
 use Rattle.std.proofs.Common.{◌≡◌, ℕ, zero, suc, List, [], ◌∷◌, length, take, refl, ap, sym, ◌∙◌, arith}
-use Rattle.std.specs.List.{slice_set, zip}
+use Rattle.std.specs.List.{AllZip, slice_set, zip}
 use Rattle.std.specs.Map.{keys_of, values_of}
 use Rattle.std.proofs.lemmas.Map.Entries.{length-keys_of, length-values_of}
 use Rattle.std.proofs.lemmas.Map.Made.{keys_of-zip}
@@ -46,3 +46,13 @@ opened keys values es e even =
     let ks = sym (keys_of-zip keys values even) ∙ ap keys_of e in
     let vs = sym (values_of-zip keys values even) ∙ ap values_of e in
     record { entries = e; keys = ks; values = vs; keys_length = ap length ks ∙ length-keys_of es; values_length = ap length vs ∙ length-values_of es }
+
+-- related keys beside related values are related pairs
+pub all_zip-zip : {K V : Type 0} (C : K → K → Type 0) (D : V → V → Type 0) (ks ls : List K) (vs ws : List V) → AllZip C ks ls → AllZip D vs ws → AllZip (λ p q. C p.0 q.0 × D p.1 q.1) (zip ks vs) (zip ls ws)
+all_zip-zip C D [] [] vs ws a b = tt
+all_zip-zip C D [] (l ∷ ls) vs ws a b = absurd a
+all_zip-zip C D (k ∷ ks) [] vs ws a b = absurd a
+all_zip-zip C D (k ∷ ks) (l ∷ ls) [] [] a b = tt
+all_zip-zip C D (k ∷ ks) (l ∷ ls) [] (w ∷ ws) a b = absurd b
+all_zip-zip C D (k ∷ ks) (l ∷ ls) (v ∷ vs) [] a b = absurd b
+all_zip-zip C D (k ∷ ks) (l ∷ ls) (v ∷ vs) (w ∷ ws) a b = ((a.0, b.0), all_zip-zip C D ks ls vs ws a.1 b.1)

@@ -1,12 +1,14 @@
+pub mod Adjacent
 pub mod Cloned
 pub mod Columns
 pub mod First
-pub mod Placed
 pub mod Lookups
+pub mod Placed
 pub mod Places
 pub mod SameItems
 pub mod Sizes
 pub mod Sorted
+pub mod Split
 pub mod Taken
 pub mod Texts
 pub mod Whole

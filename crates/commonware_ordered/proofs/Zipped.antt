@@ -8,7 +8,7 @@ use Rattle.std.specs.declared.iter.Zip.{Zip}
 use Rattle.std.specs.declared.vec.IntoIter.{IntoIter}
 
 -- a list of length nothing
-empty_from_len : {W : Type 0} (xs : List W) → 0 ≡ length xs → xs ≡ []
+pub empty_from_len : {W : Type 0} (xs : List W) → 0 ≡ length xs → xs ≡ []
 empty_from_len [] e = refl
 empty_from_len (x ∷ xs) e = absurd (omega arith)
 

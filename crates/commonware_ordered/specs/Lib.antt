@@ -1,5 +1,6 @@
 pub mod Dedup
 pub mod Lends
+pub mod Pairs
 pub mod SetLaws
 pub mod Sets
 pub mod Strict

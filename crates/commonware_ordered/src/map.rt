@@ -7,6 +7,8 @@ ghost use Rattle.std.specs.Slice.{IsItemAt};
 ghost use Rattle.std.specs.Slice.Iter.{iter_rest};
 ghost use Rattle.commonware_ordered.specs.Strict.{IsPlaceOf, IsStrict};
 
+mod builders;
+mod compare;
 mod loans;
 mod refs;
 

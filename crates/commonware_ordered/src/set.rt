@@ -11,6 +11,7 @@ mod compare;
 mod iterators;
 mod text;
 
+pub(crate) use builders::items_of;
 pub use codec::set_fault_law;
 use std::alloc::Allocator;
 use std::marker::Model;
@@ -99,6 +100,16 @@ impl<T: Ord, A: Allocator> Set<T, A> {
         ensures only { (p : ℕ) → (result ≡ Some p) ↔ ((x : T) × (slice_get self.now p ≡ Some x) × (T.eq x item.now ≡ true)) }
     {
         self.as_slice().binary_search(item).ok()
+    }
+}
+
+impl<T: Ord, A: Allocator> Set<T, A> {
+    /// The set of items each of which is less than the next.
+    pub(crate) fn from_strict(items: Vec<T, A>) -> Self
+        requires { IsStrict T.cmp items.items }
+        ensures { result ≡ items.items }
+    {
+        Set { items }
     }
 }
 
