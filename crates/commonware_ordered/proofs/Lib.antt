@@ -4,6 +4,7 @@ pub mod Columns
 pub mod First
 pub mod Lookups
 pub mod Placed
+pub mod MapReads
 pub mod Places
 pub mod SameItems
 pub mod Sizes

@@ -1,5 +1,7 @@
 pub mod Dedup
 pub mod Lends
+pub mod MapLaws
+pub mod Maps
 pub mod Pairs
 pub mod SetLaws
 pub mod Sets

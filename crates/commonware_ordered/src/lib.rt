@@ -8,6 +8,6 @@ mod set;
 mod text;
 
 pub use error::Error;
-pub use map::Map;
+pub use map::{Map, map_fault_law};
 pub use quorum::Quorum;
 pub use set::{Set, set_fault_law};

@@ -8,11 +8,13 @@ ghost use Rattle.std.specs.Slice.Iter.{iter_rest};
 ghost use Rattle.commonware_ordered.specs.Strict.{IsPlaceOf, IsStrict};
 
 mod builders;
+mod codec;
 mod compare;
 mod loans;
 mod refs;
 
 use crate::Set;
+pub use codec::map_fault_law;
 use std::alloc::{AllocError, Allocator};
 use std::marker::Model;
 use std::slice;

@@ -12,6 +12,7 @@ mod iterators;
 mod text;
 
 pub(crate) use builders::items_of;
+pub(crate) use codec::read_set;
 pub use codec::set_fault_law;
 use std::alloc::Allocator;
 use std::marker::Model;
