@@ -1,10 +1,12 @@
 -- A loop over two lists side by side.
-use Rattle.std.proofs.Common.{◌≡◌, List, [], ◌∷◌, ◌++◌, length, refl, ap, subst, sym, ◌∙◌, append_assoc, append-nil, arith, ⊎_elim}
+use Rattle.std.proofs.Common.{◌≡◌, Bor, List, [], ◌∷◌, ◌++◌, length, refl, ap, subst, sym, ◌∙◌, append_assoc, append-nil, arith, ⊎_elim}
 use Rattle.std.specs.Prelude.{None, Some}
 use Rattle.std.specs.List.{zip}
 use Rattle.std.specs.Iterator.Adapters.{zip_first, zip_second, zip_steps}
 use Rattle.std.specs.Vec.Iter.{into_iter_items, into_iter_len, into_iter_steps}
+use Rattle.std.specs.Slice.Iter.{iter_rest, iter_steps}
 use Rattle.std.specs.declared.iter.Zip.{Zip}
+use Rattle.std.specs.declared.slice.Iter.{Iter}
 use Rattle.std.specs.declared.vec.IntoIter.{IntoIter}
 
 -- a list of length nothing
@@ -53,3 +55,19 @@ module _ {X Y Z : Type 0} where
 
       second : (u : IntoIter Y Z) × into_iter_steps (zip_second s) None u → zip (into_iter_items (zip_first s)) (into_iter_items (zip_second s)) ≡ []
       second v = ap (λ l. zip (into_iter_items (zip_first s)) l) (empty_from_len (into_iter_items (zip_second s)) (sym v.1.0 ∙ h.second_len)) ∙ zip_nothing (into_iter_items (zip_first s))
+
+module _ {X Y : Type 0} where
+  -- the pairs that are left of two slices side by side
+  abbrev pub pairs_left : Zip (Iter X) (Iter Y) → List (X × Y)
+  pairs_left s = zip (iter_rest (zip_first s)) (iter_rest (zip_second s))
+
+  -- one pair more was shown
+  pub shown_more : (s t : Zip (Iter X) (Iter Y)) (p : Bor X × Bor Y) → zip_steps iter_steps iter_steps s (Some p) t → pairs_left s ≡ (p.0.now, p.1.now) ∷ pairs_left t
+  shown_more s t p w = λ j. zip (w.0 j) (w.1 j)
+
+  -- once either slice has ended no pairs are left
+  pub shown_none : (s t : Zip (Iter X) (Iter Y)) → zip_steps iter_steps iter_steps s None t → pairs_left s ≡ []
+  shown_none s t w = ⊎_elim
+      (λ u. ap (λ l. zip l (iter_rest (zip_second s))) (empty_from_len (iter_rest (zip_first s)) (sym u.1.0)))
+      (λ u. ap (λ l. zip (iter_rest (zip_first s)) l) (empty_from_len (iter_rest (zip_second s)) (sym u.1.0)) ∙ zip_nothing (iter_rest (zip_first s)))
+      w

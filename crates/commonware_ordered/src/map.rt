@@ -12,6 +12,7 @@ mod codec;
 mod compare;
 mod loans;
 mod refs;
+mod text;
 
 use crate::Set;
 pub use codec::map_fault_law;
