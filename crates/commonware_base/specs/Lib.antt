@@ -9,6 +9,7 @@ pub mod Numbers
 pub mod Range
 pub mod RangeLaws
 pub mod Refusal
+pub mod Sequence
 pub mod Source
 pub mod SubsetLaws
 pub mod SubsetSizes

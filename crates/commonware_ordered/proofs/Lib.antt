@@ -1,10 +1,16 @@
+pub mod Adjacent
 pub mod Cloned
+pub mod Columns
 pub mod First
+pub mod Lookups
 pub mod Placed
+pub mod MapReads
 pub mod Places
 pub mod SameItems
 pub mod Sizes
 pub mod Sorted
+pub mod Split
 pub mod Taken
 pub mod Texts
 pub mod Whole
+pub mod Zipped

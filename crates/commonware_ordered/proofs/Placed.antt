@@ -3,7 +3,6 @@ use Rattle.std.proofs.Common.{◌≡◌, ℕ, zero, suc, ◌+◌, ◌<◌, ◌�
 use Rattle.std.specs.Prelude.{Option, Some, None}
 use Rattle.std.specs.Option.{option_map}
 use Rattle.std.specs.List.{AllWithin, Contains, dedup, find, slice_get}
-use Rattle.std.specs.List.Retain.{DiffersFromLast, IsFiltered}
 use Rattle.std.specs.List.Sorted.{IsPermutation, IsSorted}
 use Rattle.std.specs.Cmp.{IsEquivalence, IsTotalOrder, Equal-is, eq_by_cmp_equiv}
 use Rattle.std.specs.Ordering.{eq_by_cmp, is_eq, is_lt, ordering_then, nat_cmp}
@@ -12,7 +11,6 @@ use Rattle.std.specs.declared.cmp.Ordering.TheVariants.{Less, Equal, Greater}
 use Rattle.std.proofs.lemmas.Cmp.{nat_cmp_total, on_total, then_total}
 use Rattle.std.proofs.lemmas.List.{get_or-map, length-map}
 use Rattle.std.proofs.lemmas.List.Elements.{Contains-append_right}
-use Rattle.std.proofs.lemmas.List.Filters.{dedup_is}
 use Rattle.std.proofs.lemmas.List.Sorted.{sorted_far, ranks_by, Contains-permutation, IsPermutation-sym}
 use Rattle.std.proofs.lemmas.Map.Keys.{ge_from_not_lt}
 use Rattle.std.proofs.lemmas.Option.{same_Some, slice_get_read, slice_get_within, slice_get-get_or}
@@ -90,11 +88,11 @@ module _ {P : Type 0} {cmp : P → P → Ordering} (o : IsTotalOrder cmp) where
 
 module _ {X : Type 0} {cmp : X → X → Ordering} (o : IsTotalOrder cmp) where
   -- pairs by their items, and then by their positions
-  abbrev by_place : X × ℕ → X × ℕ → Ordering
+  abbrev pub by_place : X × ℕ → X × ℕ → Ordering
   by_place p q = ordering_then (cmp p.0 q.0) (nat_cmp p.1 q.1)
 
   -- this order is total
-  by_place_total : IsTotalOrder by_place
+  pub by_place_total : IsTotalOrder by_place
   by_place_total = then_total (on_total (λ p. p.0) o) (on_total (λ p. p.1) nat_cmp_total)
 
   -- of pairs with equal items, the one that is not less stands no earlier
@@ -155,7 +153,7 @@ module _ {X : Type 0} {cmp : X → X → Ordering} (o : IsTotalOrder cmp) where
           sym (find_congr laws q m.0 l (found_passes (λ p. eq_by_cmp cmp q p.0) ps m e) ∙ find_from_kept laws l m.0 a.0 a.2 (before m e a.0 a.1 a.2))
 
   -- the pairs are sorted, and equal neighbours are removed from their items: what is left is the set of the list
-  pub IsDedup_by_place : {eq : X → X → Bool} → ((x y : X) → eq x y ≡ is_eq (cmp x y)) → (xs : List X) (before after : List (X × ℕ)) (items set : List X) → before ≡ placed 0 xs → IsPermutation before after → IsSorted by_place after → items ≡ map (λ p. p.0) after → IsFiltered (DiffersFromLast eq) [] items set → IsDedup eq cmp xs set
+  pub IsDedup_by_place : {eq : X → X → Bool} → ((x y : X) → eq x y ≡ is_eq (cmp x y)) → (xs : List X) (before after : List (X × ℕ)) (items set : List X) → before ≡ placed 0 xs → IsPermutation before after → IsSorted by_place after → items ≡ map (λ p. p.0) after → set ≡ dedup eq items → IsDedup eq cmp xs set
   IsDedup_by_place {eq} ties xs before after items set paired perm sorted taken left =
-      subst (IsDedup eq cmp xs) (sym (dedup_is eq items set left ∙ ap (dedup eq) taken))
+      subst (IsDedup eq cmp xs) (sym (left ∙ ap (dedup eq) taken))
       (IsDedup_from_sorted o ties xs (map (λ p. p.0) after) (find_sorted xs after (subst (λ l. IsPermutation l after) paired perm) sorted) (sorted_items after sorted))

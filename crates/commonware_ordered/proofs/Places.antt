@@ -1,5 +1,5 @@
 -- The place of an item in a strict list.
-use Rattle.std.proofs.Common.{◌≡◌, ℕ, ◌+◌, ◌<◌, Bool, true, List, length, get_or, sym, ◌∙◌, ap, arith, ⊎_elim, inl, inr, subst}
+use Rattle.std.proofs.Common.{◌≡◌, ℕ, ◌+◌, ◌<◌, Bool, true, List, length, take, get_or, sym, ◌∙◌, ap, arith, ⊎_elim, inl, inr, subst}
 use Rattle.std.specs.Prelude.{◌↔◌, Err, None, Ok, Option, Result, Some}
 use Rattle.std.specs.List.{slice_get}
 use Rattle.std.specs.List.Sorted.{IsBinarySearchResult, IsSearchInRange, IsSorted}
@@ -10,6 +10,7 @@ use Rattle.std.specs.declared.cmp.Ordering.{Ordering}
 use Rattle.std.specs.declared.cmp.Ordering.TheVariants.{Equal, Less}
 use Rattle.std.proofs.lemmas.Bool.{cases_lt}
 use Rattle.std.proofs.lemmas.Cmp.{alike_right}
+use Rattle.std.proofs.lemmas.List.{get_or-take, length-take}
 use Rattle.std.proofs.lemmas.List.Sorted.{searchable_from_sorted}
 use Rattle.std.proofs.lemmas.Map.Keys.{Less-from_sorted, sorted_from_all_adjacent}
 use Rattle.std.proofs.lemmas.Option.{get_or_from_slice_get, slice_get-get_or, slice_get_within}
@@ -54,3 +55,11 @@ module _ {X : Type 0} {cmp : X → X → Ordering} (o : IsTotalOrder cmp) where
       (λ e. absurd (cc)),
       (λ w. let n = h p x (slice_get_within xs p w.0 w.1) in let y = subst (λ z. eq z x ≡ true) (sym (get_or_from_slice_get xs p w.0 x w.1)) w.2 in absurd (cc)),
     )
+
+-- the first n of a strict list are strict
+pub strict_take : {X : Type 0} (cmp : X → X → Ordering) (n : ℕ) (xs : List X) → IsStrict cmp xs → IsStrict cmp (take n xs)
+strict_take cmp n xs s k d high =
+    let n_is = length-take n xs in
+    let below : k + 1 < n = omega (arith, n_is) in
+    let within : k + 1 < length xs = omega (arith, n_is) in
+    subst (λ y. cmp y (get_or (take n xs) (k + 1) d) ≡ Less) (sym (get_or-take n xs k d (omega arith))) (subst (λ y. cmp (get_or xs k d) y ≡ Less) (sym (get_or-take n xs (k + 1) d below)) (s k d within))

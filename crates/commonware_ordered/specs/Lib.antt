@@ -1,4 +1,8 @@
 pub mod Dedup
+pub mod Lends
+pub mod MapLaws
+pub mod Maps
+pub mod Pairs
 pub mod SetLaws
 pub mod Sets
 pub mod Strict

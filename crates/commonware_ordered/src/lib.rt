@@ -2,10 +2,12 @@
 #![tactic(auto)]
 
 mod error;
+mod map;
 mod quorum;
 mod set;
 mod text;
 
 pub use error::Error;
+pub use map::{Map, map_fault_law};
 pub use quorum::Quorum;
 pub use set::{Set, set_fault_law};

@@ -1,5 +1,5 @@
 //! A list of strictly increasing items.
-ghost use Rattle.std.specs.Prelude.{◌≡◌, ◌↔◌, ◌<◌, ◌≤◌, ◌^◌, ◌==◌, [], IsTrue, Some, length, slice_get, slice_index_or, slice_range, true, ℕ};
+ghost use Rattle.std.specs.Prelude.{◌≡◌, ◌↔◌, ◌<◌, ◌≤◌, ◌^◌, ◌==◌, [], IsTrue, Some, length, slice_get, slice_index_or, slice_range, take, true, ℕ};
 ghost use Rattle.std.specs.Iterator.Adapters.{IterYieldsInOrder, IterYieldsInReverse};
 ghost use Rattle.std.specs.Slice.{IsItemAt};
 ghost use Rattle.std.specs.Slice.Iter.{iter_rest};
@@ -11,6 +11,8 @@ mod compare;
 mod iterators;
 mod text;
 
+pub(crate) use builders::items_of;
+pub(crate) use codec::read_set;
 pub use codec::set_fault_law;
 use std::alloc::Allocator;
 use std::marker::Model;
@@ -102,6 +104,25 @@ impl<T: Ord, A: Allocator> Set<T, A> {
         ensures only { (p : ℕ) → (result ≡ Some p) ↔ ((x : T) × (slice_get self.now p ≡ Some x) × (T.eq x item.now ≡ true)) }
     {
         self.as_slice().binary_search(item).ok()
+    }
+}
+
+impl<T: Ord, A: Allocator> Set<T, A> {
+    /// The set of items each of which is less than the next.
+    pub(crate) fn from_strict(items: Vec<T, A>) -> Self
+        requires { IsStrict T.cmp items.items }
+        ensures { result ≡ items.items }
+    {
+        Set { items }
+    }
+}
+
+impl<T: Ord + Drop, A: Allocator> Set<T, A> {
+    /// The first `len` items stay, or all of them where there are no more.
+    pub(crate) fn truncate(&mut self, len: usize)
+        ensures { self.new ≡ take len self.old }
+    {
+        self.items.truncate(len);
     }
 }
 

@@ -6,6 +6,8 @@ mod example;
 mod faults;
 mod labelled;
 mod lists;
+mod map_builders;
+mod maps;
 mod numbers;
 mod participants;
 mod quorums;

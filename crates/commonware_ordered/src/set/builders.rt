@@ -89,7 +89,7 @@ impl<T: Ord + EqClone, A: Allocator + Copy> Set<T, A> {
 }
 
 /// The items of pairs of an item and its position.
-fn items_of<T: Drop, A: Allocator + Copy>(
+pub(crate) fn items_of<T: Drop, A: Allocator + Copy>(
     alloc: A,
     placed: Vec<(T, usize), A>,
 ) -> Result<Vec<T, A>, AllocError>

@@ -1,24 +1,8 @@
-use Rattle.std.proofs.Common.{◌≡◌, ◌↔◌, ◌+◌, Bool, true, false, List, [], ◌∷◌, get_or, refl, arith, rules}
-use Rattle.std.specs.Prelude.{IsTrue}
-use Rattle.std.specs.List.{IsAllAdjacentAnswer}
+use Rattle.std.proofs.Common.{rules}
 use Rattle.std.specs.Ordering.{is_lt}
-use Rattle.std.specs.declared.cmp.Ordering.{Ordering}
-use Rattle.std.specs.declared.cmp.Ordering.TheVariants.{Less, Equal, Greater}
 use Rattle.std.proofs.lemmas.List.Sorted.{answers_always}
-use Rattle.commonware_ordered.specs.Strict.{IsStrict}
+use Rattle.commonware_ordered.proofs.Adjacent.{strict_told}
 use Rattle.commonware_ordered.proofs.set.is_strict.Goals as goal
-
--- only `Less` passes the test `is_lt`
-less_from_test : (o : Ordering) → true ≡ is_lt o → o ≡ Less
-less_from_test Less e = refl
-less_from_test Equal e = cc
-less_from_test Greater e = cc
-
--- where each item was asked whether it is less than the next, the answer tells strict lists
-strict_told : {T : Type 0} (cmp : T → T → Ordering) (xs : List T) (r : Bool) → IsAllAdjacentAnswer (λ x y b. b ≡ is_lt (cmp x y)) xs r → IsTrue r ↔ IsStrict cmp xs
-strict_told cmp xs true told = (λ _ k d high. less_from_test (cmp (get_or xs k d) (get_or xs (k + 1) d)) (told k d high), λ _. refl)
-strict_told cmp [] false told = absurd (omega (arith, told.1))
-strict_told cmp (x ∷ xs) false told = (λ t. absurd (cc), λ s. let less = s told.0 x told.1 in let not_less = told.2 x in absurd (cc))
 
 pub returns : goal.returns
 returns g c =

@@ -1,4 +1,5 @@
 use Rattle.std.proofs.Common.{◌∙◌, rules}
+use Rattle.std.proofs.lemmas.List.Filters.{dedup_is}
 use Rattle.commonware_ordered.proofs.Placed.{placed_more, IsDedup_by_place}
 use Rattle.commonware_ordered.proofs.SameItems.{EqualsSameItems_from_IsDedup}
 use Rattle.commonware_ordered.proofs.set.Set.from_iter_dedup.Goals as goal
@@ -8,10 +9,10 @@ loop-item-preserved g c = c.in_ok-push.ensures.items ∙ placed_more c.loop-item
 
 pub invariant_of-result : goal.invariant_of-result
 invariant_of-result g c =
-    (IsDedup_by_place g.met.T.Ord.total g.met.T.Ord.matches_eq c.loop-item.yielded _ _ _ _ c.loop-item.invariant c.sort_unstable.ensures.permutation c.sort_unstable.ensures.sorted c.in_ok-items.ensures c.dedup.ensures.filtered).strict
+    (IsDedup_by_place g.met.T.Ord.total g.met.T.Ord.matches_eq c.loop-item.yielded _ _ _ _ c.loop-item.invariant c.sort_unstable.ensures.permutation c.sort_unstable.ensures.sorted c.in_ok-items.ensures (dedup_is _ _ _ c.dedup.ensures.filtered)).strict
 
 pub returns : goal.returns
 returns g c =
-    let whole = IsDedup_by_place g.met.T.Ord.total g.met.T.Ord.matches_eq c.loop-item.yielded _ _ _ _ c.loop-item.invariant c.sort_unstable.ensures.permutation c.sort_unstable.ensures.sorted c.in_ok-items.ensures c.dedup.ensures.filtered in
+    let whole = IsDedup_by_place g.met.T.Ord.total g.met.T.Ord.matches_eq c.loop-item.yielded _ _ _ _ c.loop-item.invariant c.sort_unstable.ensures.permutation c.sort_unstable.ensures.sorted c.in_ok-items.ensures (dedup_is _ _ _ c.dedup.ensures.filtered) in
     let law = EqualsSameItems_from_IsDedup g.met.T.Ord.total g.met.T.Ord.matches_eq c.loop-item.yielded _ whole in
     search rules
