@@ -7,6 +7,7 @@ pub mod Places
 pub mod SameItems
 pub mod Sizes
 pub mod Sorted
+pub mod Stepped
 pub mod Taken
 pub mod Texts
 pub mod Whole

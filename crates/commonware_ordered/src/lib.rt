@@ -8,6 +8,6 @@ mod set;
 mod text;
 
 pub use error::Error;
-pub use map::Map;
+pub use map::{Map, MapIntoIter, Pairs};
 pub use quorum::Quorum;
 pub use set::{Set, set_fault_law};

@@ -7,10 +7,14 @@ ghost use Rattle.std.specs.Slice.{IsItemAt};
 ghost use Rattle.std.specs.Slice.Iter.{iter_rest};
 ghost use Rattle.commonware_ordered.specs.Strict.{IsPlaceOf, IsStrict};
 
+mod into_iter;
 mod loans;
+mod pairs;
 mod refs;
 
 use crate::Set;
+pub use into_iter::MapIntoIter;
+pub use pairs::Pairs;
 use std::alloc::{AllocError, Allocator};
 use std::marker::Model;
 use std::slice;
