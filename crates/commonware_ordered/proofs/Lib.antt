@@ -1,3 +1,4 @@
+pub mod Calls
 pub mod Cloned
 pub mod Columns
 pub mod First
@@ -10,5 +11,6 @@ pub mod Sorted
 pub mod Stepped
 pub mod Taken
 pub mod Texts
+pub mod Walked
 pub mod Whole
 pub mod Zipped

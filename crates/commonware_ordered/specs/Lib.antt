@@ -4,4 +4,5 @@ pub mod SetLaws
 pub mod Sets
 pub mod Strict
 pub mod StrictLaws
+pub mod ValueMaps
 pub mod Whole

@@ -11,6 +11,7 @@ mod into_iter;
 mod loans;
 mod pairs;
 mod refs;
+mod value_maps;
 
 use crate::Set;
 pub use into_iter::MapIntoIter;
