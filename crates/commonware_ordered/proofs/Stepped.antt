@@ -3,10 +3,11 @@ use Rattle.std.proofs.Common.{◌≡◌, ◌<◌, List, [], ◌∷◌, ◌++◌,
 use Rattle.std.specs.Prelude.{Option, Some, None}
 use Rattle.std.specs.Iterator.{MakesProgress, at_most}
 use Rattle.std.specs.List.{zip}
-use Rattle.std.specs.Map.Iter.{GivesInOrder, GivesInReverse, ShowsInOrder, ShowsInReverse, TakesFirst, TakesLast}
+use Rattle.std.specs.Map.Iter.{GivesInOrder, GivesInReverse, ShowsInOrder, ShowsInReverse, TakesFirst, TakesLast, deref_pair_mut}
 use Rattle.std.proofs.iter.runs.Sources.{as_is, as_is_back, from_back, from_front}
 use Rattle.std.proofs.lemmas.List.{length_push}
 use Rattle.std.proofs.lemmas.Slice.Zip.{length-zip}
+use Rattle.commonware_ordered.specs.PairsMut.{LendsInOrder, LendsInReverse, pairs_mut_left, pairs_mut_steps, pairs_mut_steps_back}
 
 -- two lists of one length have as many pairs
 pub length_pairs : {K V : Type 0} (ks : List K) (vs : List V) → length vs ≡ length ks → length (zip ks vs) ≡ length ks
@@ -28,6 +29,19 @@ module _ {K V : Type 0} (ks before : List K) (vs values_before : List V) (k : K)
   -- and have lost their last pair
   pub last_pair : zip ks vs ≡ zip before values_before ++ (k, v) ∷ []
   last_pair = (λ j. zip (keys j) (values j)) ∙ zip-push before values_before k v even_before
+
+-- a pair less is left
+pub one_less : {K V : Type 0} (before : List (K × V)) (left : List (K × V)) (pair : K × V) → before ≡ left ++ pair ∷ [] → length left < length before
+one_less before left pair e = omega (arith, ap length e, length_push left pair)
+
+module _ {K V : Type 0} where
+  -- a run from the front lends what was left
+  pub lent_in_order : LendsInOrder K V
+  lent_in_order = from_front pairs_mut_steps deref_pair_mut pairs_mut_left (λ s t h. ap length h.0.0) (λ s x t h. h.0)
+
+  -- a run from the back lends it in reverse
+  pub lent_in_reverse : LendsInReverse K V
+  lent_in_reverse = from_back pairs_mut_steps_back deref_pair_mut pairs_mut_left (λ s t h. ap length h.0.0) (λ s x t h. h.0)
 
 -- the steps of an iterator that is seen as what it has left
 module _ {A X : Type 0} (shows : A → X) where

@@ -1,6 +1,8 @@
 pub mod Dedup
 pub mod Lends
+pub mod PairsMut
 pub mod SetLaws
+pub mod SetValues
 pub mod Sets
 pub mod Strict
 pub mod StrictLaws

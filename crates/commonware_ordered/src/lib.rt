@@ -9,7 +9,7 @@ mod set;
 mod text;
 
 pub use error::Error;
-pub use map::{Map, MapIntoIter, Pairs};
+pub use map::{Map, MapIntoIter, Pairs, PairsMut};
 pub use map_error::MapError;
 pub use quorum::Quorum;
 pub use set::{Set, set_fault_law};

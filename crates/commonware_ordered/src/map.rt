@@ -10,12 +10,14 @@ ghost use Rattle.commonware_ordered.specs.Strict.{IsPlaceOf, IsStrict};
 mod into_iter;
 mod loans;
 mod pairs;
+mod pairs_mut;
 mod refs;
 mod value_maps;
 
 use crate::Set;
 pub use into_iter::MapIntoIter;
 pub use pairs::Pairs;
+pub use pairs_mut::PairsMut;
 use std::alloc::{AllocError, Allocator};
 use std::marker::Model;
 use std::slice;
