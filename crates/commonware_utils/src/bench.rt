@@ -6,6 +6,8 @@ mod example;
 mod faults;
 mod labelled;
 mod lists;
+mod map_pairs;
+mod map_values;
 mod numbers;
 mod participants;
 mod quorums;

@@ -2,6 +2,7 @@
 
 mod failing_devices;
 mod refused_memory;
+mod refused_value_maps;
 mod sessions;
 
 use crate::{ScriptedReader, ScriptedWriter, WriteFault};
