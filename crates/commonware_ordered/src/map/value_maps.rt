@@ -9,7 +9,7 @@ use crate::MapError;
 use commonware_base::EqClone;
 use std::alloc::{AllocError, Allocator};
 
-impl<K: Ord + EqClone + Drop, V, A: Allocator + Copy> Map<K, V, A> {
+impl<K: Ord + EqClone, V, A: Allocator + Copy> Map<K, V, A> {
     /// The map with the same keys, each with what `f` answers for its pair, in the order of the keys. There is room for
     /// all values before the first call, and the keys are cloned after the last one.
     pub fn map_values<'a, U: Drop, F: FnMut(&'a K, &'a V) -> U>(
@@ -40,15 +40,15 @@ impl<K: Ord + EqClone + Drop, V, A: Allocator + Copy> Map<K, V, A> {
         ensures values { IfOk result (λ m. CallsGiveAll (λ p x u q. CalledAtRefs F.FnMut p x (Ok u) q) f self.now (values_of m)) }
         ensures error { IfErr result (λ e. IfClosure e (IsFirstError (CalledAtRefs F.FnMut) f self.now)) }
     {
-        let mut answers = Vec::with_capacity(*self.values.allocator(), self.len())?;
+        let mut tried = Vec::with_capacity(*self.values.allocator(), self.len())?;
         for (key, value) in self.iter_pairs() {
             match f(key, value) {
-                Ok(answer) => answers.push_reserved(answer),
+                Ok(answer) => tried.push_reserved(answer),
                 Err(error) => return Err(MapError::Closure(error)),
             }
         }
         let keys = self.keys().clone()?;
-        Ok(Map::from_columns(keys, answers))
+        Ok(Map::from_columns(keys, tried))
     }
 }
 
@@ -63,12 +63,12 @@ impl<K: Ord + Drop, V: Drop, A: Allocator + Copy> Map<K, V, A> {
         ensures keys { IfOk result (λ m. keys_of m ≡ keys_of self) }
         ensures values { IfOk result (λ m. CallsGiveAll (CalledAtPair F.FnMut) f self (values_of m)) }
     {
-        let mut answers = Vec::with_capacity(*self.values.allocator(), self.len())?;
+        let mut mapped = Vec::with_capacity(*self.values.allocator(), self.len())?;
         let (keys, values) = self.into_columns();
         for (key, value) in keys.iter().zip(values) {
-            answers.push_reserved(f(key, value));
+            mapped.push_reserved(f(key, value));
         }
-        Ok(Map::from_columns(keys, answers))
+        Ok(Map::from_columns(keys, mapped))
     }
 
     /// The map with these keys, each with what `f` answers for its pair, in the order of the keys, or the first error of
@@ -82,14 +82,14 @@ impl<K: Ord + Drop, V: Drop, A: Allocator + Copy> Map<K, V, A> {
         ensures values { IfOk result (λ m. CallsGiveAll (λ p x u q. CalledAtPair F.FnMut p x (Ok u) q) f self (values_of m)) }
         ensures error { IfErr result (λ e. IfClosure e (IsFirstError (CalledAtPair F.FnMut) f self)) }
     {
-        let mut answers = Vec::with_capacity(*self.values.allocator(), self.len())?;
+        let mut collected = Vec::with_capacity(*self.values.allocator(), self.len())?;
         let (keys, values) = self.into_columns();
         for (key, value) in keys.iter().zip(values) {
             match f(key, value) {
-                Ok(answer) => answers.push_reserved(answer),
+                Ok(answer) => collected.push_reserved(answer),
                 Err(error) => return Err(MapError::Closure(error)),
             }
         }
-        Ok(Map::from_columns(keys, answers))
+        Ok(Map::from_columns(keys, collected))
     }
 }

@@ -19,8 +19,8 @@ loop-key-init g c =
     let whole : pairs_left c.into_iter-key-iterator.result ≡ c.args.self =
     ap pairs_left same ∙ (λ j. zip ((ap iter_rest zipped.first ∙ c.iter.ensures.rest ∙ columns.0) j) ((zipped.second.0 ∙ columns.1) j)) ∙ zip-parts c.args.self in
     record {
-      room = omega (arith, ap length whole, c.len.ensures.len, c.in_ok-answers.ensures.len, c.in_ok-answers.ensures.exact);
-      calls = so_far_none (CalledAtPair g.F.FnMut) _ _ _ _ c.in_ok-answers.ensures.items whole;
+      room = omega (arith, ap length whole, c.len.ensures.len, c.in_ok-mapped.ensures.len, c.in_ok-mapped.ensures.exact);
+      calls = so_far_none (CalledAtPair g.F.FnMut) _ _ _ _ c.in_ok-mapped.ensures.items whole;
       counted = ap (λ s. into_iter_len (zip_second s)) same ∙ zipped.second.1 ∙ values.ok.0 ∙ sym (ap length (ap (λ s. into_iter_items (zip_second s)) same ∙ zipped.second.0));
     }
 

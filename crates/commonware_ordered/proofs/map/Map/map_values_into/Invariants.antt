@@ -7,7 +7,7 @@ use Rattle.commonware_ordered.proofs.map.Map.map_values_into.Given as goal
 
 abbrev pub invariant-loop-key : goal.invariant-loop-key
 invariant-loop-key g l = record {
-  room : vec_len l.answers + length (pairs_left l.key-iterator) ≤ vec_capacity l.answers;
-  calls : CallsSoFar (CalledAtPair g.F.FnMut) l.fn.f l.fn.self l.answers.items l.f (pairs_left l.key-iterator);
+  room : vec_len l.mapped + length (pairs_left l.key-iterator) ≤ vec_capacity l.mapped;
+  calls : CallsSoFar (CalledAtPair g.F.FnMut) l.fn.f l.fn.self l.mapped.items l.f (pairs_left l.key-iterator);
   counted : IsCounted l.key-iterator;
 }

@@ -9,9 +9,9 @@ use Rattle.commonware_ordered.proofs.map.Map.try_map_values.Goals as goal
 pub loop-key-init : goal.loop-key-init
 loop-key-init g c =
     let whole = c.into_iter-key-iterator.ensures.into_iter_gives ∙ c.iter_pairs-key-items.ensures.pairs in
-    let calls = so_far_none (λ p x u q. CalledAtRefs g.F.FnMut p x (Ok u) q) _ _ _ _ c.in_ok-answers.ensures.items whole in
+    let calls = so_far_none (λ p x u q. CalledAtRefs g.F.FnMut p x (Ok u) q) _ _ _ _ c.in_ok-tried.ensures.items whole in
     record {
-      room = omega (arith, ap length whole, c.len.ensures.len, c.in_ok-answers.ensures.len, c.in_ok-answers.ensures.exact);
+      room = omega (arith, ap length whole, c.len.ensures.len, c.in_ok-tried.ensures.len, c.in_ok-tried.ensures.exact);
       calls = calls;
       ready = ready g.F.FnMut (λ p x u q. CalledAtRefs g.F.FnMut p x (Ok u) q) _ _ _ _ _ c.requires calls;
     }
