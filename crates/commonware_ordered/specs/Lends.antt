@@ -1,6 +1,6 @@
 -- What a map is once a loan of its values has ended.
 use Rattle.std.specs.Prelude.{ℕ, zero, suc, Bool, Option, List, [], ◌∷◌, length, zip}
-use Rattle.std.specs.Borrow.{Fml, RattleType, MutBor, Array, Lends, LendsIf}
+use Rattle.std.specs.Borrow.{Fml, GName, RattleType, MutBor, Array, Lends, LendsIf, follows}
 use Rattle.std.specs.List.{refill}
 use Rattle.std.specs.Map.{keys_of, set_value, values_of}
 use Rattle.std.specs.declared.alloc.Allocator as alloc
@@ -35,3 +35,7 @@ module _ (K V A : RattleType) (cmp : K.Denot → K.Denot → Ordering) (eq : K.D
     -- the values are those last written through r
     abbrev pub LendsValues : MutBor (List V.Denot) → Fml
     LendsValues r = Lends map_row (Array V 0) m r (λ ws. set_values m.now ws)
+
+    -- the same of the loan with this name
+    abbrev pub LendsValuesTo : GName → Fml
+    LendsValuesTo name = follows map_row (Array V 0) m.ghost_name name (λ ws. set_values m.now ws)

@@ -8,6 +8,8 @@ mod labelled;
 mod lists;
 mod map_builders;
 mod maps;
+mod map_pairs;
+mod map_values;
 mod numbers;
 mod participants;
 mod quorums;

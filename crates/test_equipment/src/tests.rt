@@ -4,6 +4,7 @@ mod bounds;
 mod failing_devices;
 mod refused_builders;
 mod refused_memory;
+mod refused_value_maps;
 mod sessions;
 
 use crate::{ScriptedReader, ScriptedWriter, WriteFault};

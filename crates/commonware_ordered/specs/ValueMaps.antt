@@ -1,0 +1,70 @@
+-- What a map of the values calls, and what it answers.
+use Rattle.std.specs.Prelude.{◌≡◌, List, [], ◌∷◌, ◌++◌, Ok, Err, map, refl}
+use Rattle.std.specs.Borrow.{Bor}
+use Rattle.std.specs.Fn.{Called, Mut, Takes}
+use Rattle.std.specs.declared.result.Result.{Result}
+use Rattle.commonware_ordered.specs.declared.map_error.MapError.{MapError}
+use Rattle.commonware_ordered.specs.declared.map_error.MapError.TheVariants.{Memory, Closure}
+
+-- A call of f at references to the key and the value of a pair answered r and left f'.
+pub record CalledAtRefs {F K V R : Type 0} (calls : Mut F (Bor K × (Bor V × Unit {0})) R) (f : F) (pair : K × V) (r : R) (f' : F) : Type 0 where
+  pub key : Bor K
+  pub value : Bor V
+  pub key_is : key.now ≡ pair.0
+  pub value_is : value.now ≡ pair.1
+  pub called : Called calls f (key, (value, tt)) r f'
+
+-- A call of f at a reference to the key of a pair and at its value answered r and left f'.
+pub record CalledAtPair {F K V R : Type 0} (calls : Mut F (Bor K × (V × Unit {0})) R) (f : F) (pair : K × V) (r : R) (f' : F) : Type 0 where
+  pub key : Bor K
+  pub key_is : key.now ≡ pair.0
+  pub called : Called calls f (key, (pair.1, tt)) r f'
+
+-- f may be called at references to the key and the value of a pair.
+abbrev pub TakesRefs : {F K V R : Type 0} → Mut F (Bor K × (Bor V × Unit {0})) R → F → K × V → Type 0
+TakesRefs {F} {K} {V} calls f pair = (key : Bor K) → (value : Bor V) → key.now ≡ pair.0 → value.now ≡ pair.1 → Takes calls f (key, (value, tt))
+
+-- f may be called at a reference to the key of a pair and at its value.
+abbrev pub TakesPair : {F K V R : Type 0} → Mut F (Bor K × (V × Unit {0})) R → F → K × V → Type 0
+TakesPair {F} {K} calls f pair = (key : Bor K) → key.now ≡ pair.0 → Takes calls f (key, (pair.1, tt))
+
+module _ {F X R : Type 0} (step : F → X → R → F → Type 0) where
+  -- One call at each of xs, in order, each on the state that the call before left: they answered rs and left `last`.
+  abbrev pub CallsGive : F → List X → List R → F → Type 0
+  CallsGive f [] [] last = f ≡ last
+  CallsGive f [] (r ∷ rs) last = ⊥
+  CallsGive f (x ∷ xs) [] last = ⊥
+  CallsGive f (x ∷ xs) (r ∷ rs) last = (next : F) × step f x r next × CallsGive next xs rs last
+
+  -- Such calls answered rs.
+  pub record CallsGiveAll (f : F) (xs : List X) (rs : List R) : Type 0 where
+    pub last : F
+    pub calls : CallsGive f xs rs last
+
+-- f may be called at each of xs, as the calls before have left it.
+pub record CallableAlong {F X R : Type 0} (step : F → X → R → F → Type 0) (takes : F → X → Type 0) (f : F) (xs : List X) : Type 0 where
+  pub at : (before : List X) (x : X) (after : List X) (answers : List R) (now : F) → xs ≡ before ++ x ∷ after → CallsGive step f before answers now → takes now x
+
+-- The calls at the first of xs answered `Ok`, and the one after them answered the error e.
+pub record IsFirstError {F X R E : Type 0} (step : F → X → Result R E → F → Type 0) (f : F) (xs : List X) (e : E) : Type 0 where
+  pub before : List X
+  pub at : X
+  pub after : List X
+  pub split : xs ≡ before ++ at ∷ after
+  pub answers : List R
+  pub now : F
+  pub calls : CallsGive (λ p x r q. step p x (Ok r) q) f before answers now
+  pub last : F
+  pub failed : step now at (Err e) last
+
+-- P holds of the closure's error, where it is one.
+abbrev pub IfClosure : {E : Type 0} → MapError E → (E → Type 0) → Type 0
+IfClosure Memory P = Unit {0}
+IfClosure (Closure e) P = P e
+
+-- Where each call answers what h makes of its argument, the answers are the map of h.
+pub answers_are : {F X R : Type 0} (step : F → X → R → F → Type 0) (h : X → R) (pure : (f : F) (x : X) (r : R) (f' : F) → step f x r f' → r ≡ h x) (f : F) (xs : List X) (rs : List R) (last : F) → CallsGive step f xs rs last → rs ≡ map h xs
+answers_are step h pure f [] [] last c = refl
+answers_are step h pure f [] (r ∷ rs) last c = absurd c
+answers_are step h pure f (x ∷ xs) [] last c = absurd c
+answers_are step h pure f (x ∷ xs) (r ∷ rs) last c = λ j. pure f x r c.0 c.1 j ∷ answers_are step h pure c.0 xs rs last c.2 j

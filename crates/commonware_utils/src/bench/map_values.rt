@@ -1,0 +1,178 @@
+//! Maps of new values: every pair once in key order, first errors, results that borrow.
+use crate::ordered::{Map, MapError, Set};
+use std::alloc::Global;
+use std::test::Fail;
+
+/// {1: 10, 2: 20, 3: 30}
+fn tens(alloc: Global) -> Result<Map<u8, u8, Global>, Fail> {
+    let keys = Set::from_iter_dedup(alloc, [3u8, 1, 2])?;
+    Ok(Map::from_parts(keys, vec![in alloc; 10, 20, 30]?).ok_or("uneven")?)
+}
+
+#[test]
+fn a_counter_runs_along_the_keys(rt: HostRuntime) -> Result<(), Fail> {
+    let map = tens(rt.alloc())?;
+    let mut counter = 0u8;
+    let sums = map.map_values(|_, value| {
+        counter = counter.wrapping_add(*value);
+        counter
+    })?;
+    assert_eq!(rt; sums.values(), [10, 30, 60].as_slice());
+    assert!(rt; sums.keys() == map.keys());
+    assert_eq!(rt; counter, 60);
+    let mut taken = 0u8;
+    let sums = map.map_values_into(|_, value| {
+        taken = taken.wrapping_add(value);
+        taken
+    })?;
+    assert_eq!(rt; sums.values(), [10, 30, 60].as_slice());
+    assert_eq!(rt; taken, 60);
+    Ok(())
+}
+
+#[test]
+fn a_counter_runs_along_the_keys_that_may_fail(rt: HostRuntime) -> Result<(), Fail> {
+    let map = tens(rt.alloc())?;
+    let mut counter = 0u8;
+    let sums: Result<_, MapError<u8>> = map.try_map_values(|_, value| {
+        counter = counter.wrapping_add(*value);
+        Ok(counter)
+    });
+    assert!(rt; sums.is_ok_and(|sums| sums.values() == [10, 30, 60].as_slice()));
+    assert_eq!(rt; counter, 60);
+    let mut taken = 0u8;
+    let sums: Result<_, MapError<u8>> = map.try_map_values_into(|_, value| {
+        taken = taken.wrapping_add(value);
+        Ok(taken)
+    });
+    assert!(rt; sums.is_ok_and(|sums| sums.values() == [10, 30, 60].as_slice()));
+    assert_eq!(rt; taken, 60);
+    Ok(())
+}
+
+#[test]
+fn nothing_is_called_after_the_first_error(rt: HostRuntime) -> Result<(), Fail> {
+    let map = tens(rt.alloc())?;
+    let mut called = 0u32;
+    let failed = map.try_map_values(|key, value| {
+        called = called.wrapping_mul(10).wrapping_add(u32::from(*key));
+        if *key == 2 { Err(7u8) } else { Ok(*value) }
+    });
+    assert!(rt; failed.err() == Some(MapError::Closure(7)));
+    assert_eq!(rt; called, 12);
+    let mut calls = 0u32;
+    let failed: Result<Map<u8, u8, Global>, MapError<u8>> = map.try_map_values_into(|_, _| {
+        calls = calls.wrapping_add(1);
+        Err(5u8)
+    });
+    assert!(rt; failed.err() == Some(MapError::Closure(5)));
+    assert_eq!(rt; calls, 1);
+    Ok(())
+}
+
+#[test]
+fn texts_are_mapped_to_their_lengths(rt: HostRuntime) -> Result<(), Fail> {
+    let alloc = rt.alloc();
+    let keys = Set::from_iter_dedup(alloc, [4u8, 1])?;
+    let map = Map::from_parts(keys, vec![in alloc; "one", "four"]?).ok_or("uneven")?;
+    let lengths = map.map_values(|_, text| text.len())?;
+    assert!(rt; lengths.keys() == map.keys());
+    assert_eq!(rt; lengths.values(), [3, 4].as_slice());
+    Ok(())
+}
+
+/// A value that can't be cloned, compared or hashed.
+#[derive(Drop)]
+struct Value(u8);
+
+/// A key that can't be cloned or hashed.
+#[derive(PartialEq, Eq, PartialOrd, Ord, Drop)]
+struct Key(u8);
+
+/// The test of the Rust crate `test_map_values_borrowed`.
+#[test]
+fn map_values_borrowed(rt: HostRuntime) -> Result<(), Fail> {
+    let alloc = rt.alloc();
+    let keys = Set::from_iter_dedup(alloc, [3u8, 1, 2])?;
+    let values = vec![in alloc; Value(10), Value(20), Value(30)]?;
+    let map = Map::from_parts(keys, values).ok_or("uneven")?;
+    let expected = [(&1, &10), (&2, &20), (&3, &30)];
+    let mapped = map.map_values(|key, value| (key, &value.0))?;
+    assert!(rt; mapped.keys() == map.keys() && mapped.values() == expected.as_slice());
+    let tried: Result<_, MapError<()>> = map.try_map_values(|key, value| Ok((key, &value.0)));
+    assert!(rt; tried.is_ok_and(|tried| tried.values() == expected.as_slice()));
+    assert!(rt; map.get_value(&2).is_some_and(|value| value.0 == 20));
+    Ok(())
+}
+
+/// {1: 10, 2: 20, 3: 30}, with keys and values that can't be cloned.
+fn owned(alloc: Global) -> Result<Map<Key, Value, Global>, Fail> {
+    let keys = Set::from_iter_dedup(alloc, [Key(3), Key(1), Key(2)])?;
+    let values = vec![in alloc; Value(10), Value(20), Value(30)]?;
+    Ok(Map::from_parts(keys, values).ok_or("uneven")?)
+}
+
+/// The test of the Rust crate `test_map_values_into_reuses_keys`.
+#[test]
+fn map_values_into_reuses_keys(rt: HostRuntime) -> Result<(), Fail> {
+    let mut visited = 0u32;
+    let mapped = owned(rt.alloc())?.map_values_into(|key, value| {
+        visited = visited.wrapping_mul(10).wrapping_add(u32::from(key.0));
+        key.0.wrapping_add(value.0)
+    })?;
+    assert_eq!(rt; visited, 123);
+    assert!(rt; mapped.keys().as_slice() == [Key(1), Key(2), Key(3)].as_slice());
+    assert_eq!(rt; mapped.values(), [11, 22, 33].as_slice());
+    let tried: Result<_, MapError<()>> = owned(rt.alloc())?
+        .try_map_values_into(|key, value| Ok(key.0.wrapping_add(value.0)));
+    assert!(rt; tried.is_ok_and(|tried| tried.values() == [11, 22, 33].as_slice()));
+    Ok(())
+}
+
+/// The test of the Rust crate `test_map_values_empty`.
+#[test]
+fn map_values_empty(rt: HostRuntime) -> Result<(), Fail> {
+    let alloc = rt.alloc();
+    let map: Map<u8, u8, Global> = Map::empty(alloc);
+    let mut called = false;
+    let mapped = map.map_values(|_, _| called = true)?;
+    assert!(rt; mapped.is_empty());
+    let tried: Result<_, MapError<u8>> = map.try_map_values(|_, _| {
+        called = true;
+        Ok(0u32)
+    });
+    assert!(rt; tried.is_ok_and(|tried| tried.is_empty()));
+    let again: Map<u8, u8, Global> = Map::empty(alloc);
+    assert!(rt; again.map_values_into(|_, _| called = true)?.is_empty());
+    let tried: Result<_, MapError<u8>> = map.try_map_values_into(|_, _| {
+        called = true;
+        Ok(0u32)
+    });
+    assert!(rt; tried.is_ok_and(|tried| tried.is_empty()) && !called);
+    Ok(())
+}
+
+/// The test of the Rust crate `test_try_map_values_error`.
+#[test]
+fn try_map_values_error(rt: HostRuntime) -> Result<(), Fail> {
+    for (failed_key, expected) in [(1u8, 1u32), (2, 12), (3, 123)] {
+        let map = tens(rt.alloc())?;
+        let mut visited = 0u32;
+        let mut transform = |key: &u8| {
+            visited = visited.wrapping_mul(10).wrapping_add(u32::from(*key));
+            if *key == failed_key { Err(*key) } else { Ok(Value(*key)) }
+        };
+        let borrowed = map.try_map_values(|key, _| transform(key));
+        assert!(rt; borrowed.err() == Some(MapError::Closure(failed_key)));
+        assert_eq!(rt; visited, expected);
+        let mut visited = 0u32;
+        let mut transform = |key: &u8| {
+            visited = visited.wrapping_mul(10).wrapping_add(u32::from(*key));
+            if *key == failed_key { Err(*key) } else { Ok(Value(*key)) }
+        };
+        let taken = map.try_map_values_into(|key, _| transform(key));
+        assert!(rt; taken.err() == Some(MapError::Closure(failed_key)));
+        assert_eq!(rt; visited, expected);
+    }
+    Ok(())
+}
