@@ -5,7 +5,7 @@ ghost use Rattle.std.specs.Map.{keys_of, values_of};
 ghost use Rattle.commonware_base.specs.Fault.{Fault};
 ghost use Rattle.commonware_base.specs.Lists.{IsListMemoryFree};
 ghost use Rattle.commonware_base.specs.Sequence.{sequence_cut};
-ghost use Rattle.commonware_base.specs.Varint.{varint};
+ghost use Rattle.commonware_base.specs.Varint.{varint_size};
 ghost use Rattle.commonware_ordered.specs.MapLaws.{map_bytes, map_canonical, map_laws, map_prefix_free};
 ghost use Rattle.commonware_ordered.specs.Maps.{map_enc, IsAllowedMap, IsWritableMap, MapFault};
 ghost use Rattle.commonware_ordered.specs.Sets.{IsWritableSet};
@@ -94,8 +94,8 @@ impl<K: Ord + MaxEncodeSize, V, A: Allocator> Map<K, V, A> {
     /// 4294967295, and the result fits a `usize`.
     pub fn max_encode_size(len: usize, value: usize) -> usize
         requires short { len < 2 ^ 32 }
-        requires fits { length (varint len) + len * K.MAX_ENCODE_SIZE + (length (varint len) + len * value) < 2 ^ 64 }
-        ensures size { result ≡ length (varint len) + len * K.MAX_ENCODE_SIZE + (length (varint len) + len * value) }
+        requires fits { varint_size len + len * K.MAX_ENCODE_SIZE + (varint_size len + len * value) < 2 ^ 64 }
+        ensures size { result ≡ varint_size len + len * K.MAX_ENCODE_SIZE + (varint_size len + len * value) }
         ensures enough { (enc : V → List ℕ) (m : List (K × V)) → IsWritableSet K.writable K.cmp (keys_of m) → AllByRecursion (λ v. length (enc v) ≤ value) (values_of m) → length m ≤ len → length (map_enc K.enc enc m) ≤ result }
     {
         Set::<K, A>::max_encode_size(len) + (UInt(len as u32).encode_size() + len * value)
