@@ -95,9 +95,11 @@ fn map_from_parts(rt: HostRuntime) -> Result<(), Fail> {
     let keys = Set::try_from_array(alloc, [3u8, 1, 2])?;
     let values = Vec::from_slice(alloc, &[30u8, 10, 10])?;
     let map = Map::from_parts(keys, values);
-    assert!(rt; map.is_some_and(|map| {
-        map.as_slice() == [1, 2, 3].as_slice() && map.values() == [30, 10, 10].as_slice()
-    }));
+    assert!(rt;
+        map.is_some_and(|map| {
+            map.as_slice() == [1, 2, 3].as_slice() && map.values() == [30, 10, 10].as_slice()
+        })
+    );
     let keys = Set::try_from_array(alloc, [3u8, 1, 2])?;
     let words = Map::from_parts(keys, Vec::from_slice(alloc, &["one", "two", "three"])?);
     assert!(rt; words.is_some_and(|map| map.get_value(&2) == Some(&"two")));

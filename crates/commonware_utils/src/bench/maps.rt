@@ -173,7 +173,10 @@ fn texts_that_are_no_map_are_refused(rt: HostRuntime) {
         (b"\x02\x01\x02\x02\x0a", Error::EndOfBuffer),
         (b"\x02\x02\x01", UNSORTED),
         (b"\x01\x05\x82\x00", Error::InvalidVarint),
-        (b"\x01\x05\xff\xff\xff\xff\x0f", Error::InvalidLength(4294967295)),
+        (
+            b"\x01\x05\xff\xff\xff\xff\x0f",
+            Error::InvalidLength(4294967295),
+        ),
     ] {
         let (result, taken) = read::<Map<u8, u8, _>, _>(rt.alloc(), bytes, &any);
         assert!(rt; result.err() == Some(error) && taken == 0);
@@ -184,7 +187,11 @@ fn texts_that_are_no_map_are_refused(rt: HostRuntime) {
 fn faults_of_a_nested_set_come_in_order(rt: HostRuntime) {
     let any = RangeCfg::from(..);
     let bytes = b"\x01\x05\x01\x02\x03\x03";
-    let (result, taken) = read::<Map<u8, Set<u8, _>, _>, _>(rt.alloc(), bytes, &(any, (), (any, ())));
+    let (result, taken) = read::<Map<u8, Set<u8, _>, _>, _>(
+        rt.alloc(),
+        bytes,
+        &(any, (), (any, ())),
+    );
     assert!(rt; result.err() == Some(UNSORTED) && taken == 0);
 }
 
