@@ -150,6 +150,8 @@ fn maps_are_written_as_two_lists(rt: HostRuntime) -> Result<(), Fail> {
     map_fault_law::<u8, u8, _>(alloc, RangeCfg::from(..), &(), &());
     let two = map_of(alloc, &[(2, 20), (1, 10)])?;
     assert!(rt; is_written_as(alloc, &two, b"\x02\x01\x02\x02\x0a\x14")?);
+    let four = map_of(alloc, &[(4, 40), (1, 10), (3, 30), (2, 20)])?;
+    assert!(rt; is_written_as(alloc, &four, b"\x04\x01\x02\x03\x04\x04\x0a\x14\x1e\x28")?);
     let none = map_of(alloc, &[])?;
     assert!(rt; is_written_as(alloc, &none, b"\x00\x00")?);
     let nested = [
