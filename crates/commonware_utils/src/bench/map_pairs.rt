@@ -13,7 +13,10 @@ fn tens(alloc: Global) -> Result<Map<u8, u8, Global>, Fail> {
 fn pairs_come_from_both_ends(rt: HostRuntime) -> Result<(), Fail> {
     let map = tens(rt.alloc())?;
     let mut pairs = map.iter_pairs();
-    assert_eq!(rt; (pairs.next(), pairs.next_back()), (Some((&1, &10)), Some((&3, &30))));
+    assert_eq!(rt;
+        (pairs.next(), pairs.next_back()),
+        (Some((&1, &10)), Some((&3, &30)))
+    );
     assert_eq!(rt; pairs.next_back(), Some((&2, &20)));
     assert_eq!(rt; (pairs.next(), pairs.next_back()), (None, None));
     assert_eq!(rt; (pairs.next(), pairs.next_back()), (None, None));
@@ -54,12 +57,18 @@ fn a_loop_walks_the_pairs(rt: HostRuntime) -> Result<(), Fail> {
     let map = tens(rt.alloc())?;
     let mut walked = 0u32;
     for (key, value) in &map {
-        walked = walked.wrapping_mul(100).wrapping_add(u32::from(*key)).wrapping_add(u32::from(*value));
+        walked = walked
+            .wrapping_mul(100)
+            .wrapping_add(u32::from(*key))
+            .wrapping_add(u32::from(*value));
     }
     assert_eq!(rt; walked, 112_233);
     let mut taken = 0u32;
     for (key, value) in map {
-        taken = taken.wrapping_mul(100).wrapping_add(u32::from(key)).wrapping_add(u32::from(value));
+        taken = taken
+            .wrapping_mul(100)
+            .wrapping_add(u32::from(key))
+            .wrapping_add(u32::from(value));
     }
     assert_eq!(rt; taken, 112_233);
     Ok(())
@@ -81,11 +90,20 @@ fn pair_iterators(rt: HostRuntime) -> Result<(), Fail> {
     assert_eq!(rt; (pairs.len(), pairs.next()), (3, Some((&1, &10))));
     assert_eq!(rt; (pairs.len(), pairs.next_back()), (2, Some((&3, &30))));
     assert_eq!(rt; (pairs.len(), pairs.next_back()), (1, Some((&2, &20))));
-    assert_eq!(rt; (pairs.len(), pairs.next(), pairs.next_back()), (0, None, None));
+    assert_eq!(rt;
+        (pairs.len(), pairs.next(), pairs.next_back()),
+        (0, None, None)
+    );
     let mut pairs = map.iter_pairs_mut();
     assert_eq!(rt; (pairs.len(), add_key(pairs.next())), (3, Some((1, 10))));
-    assert_eq!(rt; (pairs.len(), add_key(pairs.next_back())), (2, Some((3, 30))));
-    assert_eq!(rt; (pairs.len(), add_key(pairs.next_back())), (1, Some((2, 20))));
+    assert_eq!(rt;
+        (pairs.len(), add_key(pairs.next_back())),
+        (2, Some((3, 30)))
+    );
+    assert_eq!(rt;
+        (pairs.len(), add_key(pairs.next_back())),
+        (1, Some((2, 20)))
+    );
     assert_eq!(rt; pairs.len(), 0);
     assert!(rt; pairs.next().is_none() && pairs.next_back().is_none());
     assert_eq!(rt; map.values(), [11, 22, 33].as_slice());

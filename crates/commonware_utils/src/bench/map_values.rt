@@ -123,8 +123,9 @@ fn map_values_into_reuses_keys(rt: HostRuntime) -> Result<(), Fail> {
     assert_eq!(rt; visited, 123);
     assert!(rt; mapped.keys().as_slice() == [Key(1), Key(2), Key(3)].as_slice());
     assert_eq!(rt; mapped.values(), [11, 22, 33].as_slice());
-    let tried: Result<_, MapError<()>> = owned(rt.alloc())?
-        .try_map_values_into(|key, value| Ok(key.0.wrapping_add(value.0)));
+    let tried: Result<_, MapError<()>> = owned(rt.alloc())?.try_map_values_into(|key, value| Ok(
+        key.0.wrapping_add(value.0),
+    ));
     assert!(rt; tried.is_ok_and(|tried| tried.values() == [11, 22, 33].as_slice()));
     Ok(())
 }
@@ -160,7 +161,11 @@ fn try_map_values_error(rt: HostRuntime) -> Result<(), Fail> {
         let mut visited = 0u32;
         let mut transform = |key: &u8| {
             visited = visited.wrapping_mul(10).wrapping_add(u32::from(*key));
-            if *key == failed_key { Err(*key) } else { Ok(Value(*key)) }
+            if *key == failed_key {
+                Err(*key)
+            } else {
+                Ok(Value(*key))
+            }
         };
         let borrowed = map.try_map_values(|key, _| transform(key));
         assert!(rt; borrowed.err() == Some(MapError::Closure(failed_key)));
@@ -168,7 +173,11 @@ fn try_map_values_error(rt: HostRuntime) -> Result<(), Fail> {
         let mut visited = 0u32;
         let mut transform = |key: &u8| {
             visited = visited.wrapping_mul(10).wrapping_add(u32::from(*key));
-            if *key == failed_key { Err(*key) } else { Ok(Value(*key)) }
+            if *key == failed_key {
+                Err(*key)
+            } else {
+                Ok(Value(*key))
+            }
         };
         let taken = map.try_map_values_into(|key, _| transform(key));
         assert!(rt; taken.err() == Some(MapError::Closure(failed_key)));

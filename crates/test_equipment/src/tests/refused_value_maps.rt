@@ -6,9 +6,7 @@ use std::alloc::{AllocError, Global};
 use std::test::Fail;
 
 /// {1: 10, 2: 20, 3: 30}
-fn tens(
-    heap: &Refusing<Global>,
-) -> Result<Option<Map<u8, u8, &Refusing<Global>>>, AllocError> {
+fn tens(heap: &Refusing<Global>) -> Result<Option<Map<u8, u8, &Refusing<Global>>>, AllocError> {
     let keys = Set::from_iter_dedup(heap, [1u8, 2, 3])?;
     Ok(Map::from_parts(keys, vec![in heap; 10, 20, 30]?))
 }
