@@ -1,4 +1,4 @@
-use Rattle.std.proofs.Common.{length, ap, refl, sym, ◌∙◌, ◌≡◌, ◌∷◌, arith}
+use Rattle.std.proofs.Common.{length, ap, refl, sym, ◌∙◌, ◌≡◌, arith}
 use Rattle.std.proofs.lemmas.Map.Entries.{length-keys_of}
 use Rattle.std.specs.Iterator.Adapters.{zip_second}
 use Rattle.std.specs.List.{zip}

@@ -1,4 +1,4 @@
-use Rattle.std.proofs.Common.{length, ◌+◌, ◌≤◌, vec_len, Ok}
+use Rattle.std.proofs.Common.{length, ◌+◌, ◌≤◌, vec_len}
 use Rattle.std.specs.Vec.{vec_capacity}
 use Rattle.commonware_ordered.specs.ValueMaps.{CalledAtPair}
 use Rattle.commonware_ordered.proofs.Calls.{CallsSoFar}

@@ -1,4 +1,4 @@
-use Rattle.std.proofs.Common.{Ok, length, ap, refl, sym, subst, ◌∙◌, ◌≡◌, ◌∷◌, arith}
+use Rattle.std.proofs.Common.{Ok, length, ap, refl, sym, subst, ◌∙◌, ◌≡◌, arith}
 use Rattle.std.proofs.lemmas.Map.Entries.{length-keys_of}
 use Rattle.std.specs.Fn.{Called}
 use Rattle.std.specs.Iterator.Adapters.{zip_second}

@@ -1,5 +1,4 @@
 use Rattle.std.proofs.Common.{sym, ◌∙◌}
-use Rattle.std.proofs.lemmas.Option.{MatchOption-at_some}
 use Rattle.std.specs.Map.Iter.{deref_pair}
 use Rattle.commonware_ordered.proofs.Stepped.{last_pair, last_progress}
 use Rattle.commonware_ordered.proofs.map.pairs.PairsDoubleEndedIterator.next_back.Goals as goal
