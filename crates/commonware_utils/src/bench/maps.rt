@@ -217,10 +217,13 @@ fn map_decode(rt: HostRuntime) {
 
 #[test]
 fn what_is_written_is_read(rt: HostRuntime) -> Result<(), Fail> {
-    let map = map_of(rt.alloc(), &[(2, 20), (1, 10), (9, 20)])?;
+    let alloc = rt.alloc();
     let any = (RangeCfg::from(..), (), ());
-    let (again, left) = round_trip(rt.alloc(), &map, b"\xff", &any)?;
-    assert!(rt; again == map && left == 1);
+    let bytes = b"\x03\x01\x02\x09\x03\x0a\x14\x14";
+    let (map, taken) = read::<Map<u8, u8, _>, _>(alloc, bytes, &any);
+    let map = map?;
+    let (again, left) = round_trip(alloc, &map, b"\xff", &any)?;
+    assert!(rt; again == map && left == 1 && taken == 8);
     Ok(())
 }
 
