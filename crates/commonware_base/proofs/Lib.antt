@@ -2,3 +2,4 @@ pub mod ListSteps
 pub mod ReadSteps
 pub mod RoundTrip
 pub mod SourceLemmas
+pub mod UnionLemmas

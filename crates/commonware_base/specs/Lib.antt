@@ -1,4 +1,5 @@
 pub mod Bytes
+pub mod Calls
 pub mod Clones
 pub mod Counts
 pub mod Fault
@@ -17,6 +18,7 @@ pub mod Subsets
 pub mod Taken
 pub mod Text
 pub mod TextLaws
+pub mod Unions
 pub mod Varint
 pub mod VarintLaws
 pub mod Words

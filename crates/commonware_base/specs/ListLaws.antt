@@ -220,7 +220,7 @@ module _ {T : Type 0} (enc : T → List ℕ) (Writable : T → Type 0)
     (prefix_free : IsPrefixFree enc Writable)
     (eq : T → T → Bool) where
   -- equal lists have one length
-  pointwise_length : (xs ys : List T) → pointwise eq xs ys ≡ true → length xs ≡ length ys
+  pub pointwise_length : (xs ys : List T) → pointwise eq xs ys ≡ true → length xs ≡ length ys
   pointwise_length [] [] e = refl
   pointwise_length [] (y ∷ ys) e = absurd (cc)
   pointwise_length (x ∷ xs) [] e = absurd (cc)

@@ -5,10 +5,18 @@
 pub mod codec;
 mod eq_clone;
 pub mod faults;
+mod golden_ratio;
 mod participant;
+mod sizes;
 mod try_from_iterator;
+mod unions;
+mod widen;
 
 pub use eq_clone::EqClone;
 pub use faults::{Faults, N3f1, N5f1};
+pub use golden_ratio::{GOLDEN_RATIO, golden_ratio_law};
 pub use participant::Participant;
+pub use sizes::{MAX_ALLOCATION_BYTES, max};
 pub use try_from_iterator::{TryCollect, TryFromIterator};
+pub use unions::{union, union_unique};
+pub use widen::Widen;

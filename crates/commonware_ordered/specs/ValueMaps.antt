@@ -1,8 +1,9 @@
 -- What a map of the values calls, and what it answers.
-use Rattle.std.specs.Prelude.{◌≡◌, List, [], ◌∷◌, ◌++◌, Ok, Err, map, refl}
+use Rattle.std.specs.Prelude.{◌≡◌, List, ◌∷◌, ◌++◌, Ok, Err}
 use Rattle.std.specs.Borrow.{Bor}
 use Rattle.std.specs.Fn.{Called, Mut, Takes}
 use Rattle.std.specs.declared.result.Result.{Result}
+use Rattle.commonware_base.specs.Calls.{CallsGive}
 use Rattle.commonware_ordered.specs.declared.map_error.MapError.{MapError}
 use Rattle.commonware_ordered.specs.declared.map_error.MapError.TheVariants.{Memory, Closure}
 
@@ -28,23 +29,6 @@ TakesRefs {F} {K} {V} calls f pair = (key : Bor K) → (value : Bor V) → key.n
 abbrev pub TakesPair : {F K V R : Type 0} → Mut F (Bor K × (V × Unit {0})) R → F → K × V → Type 0
 TakesPair {F} {K} calls f pair = (key : Bor K) → key.now ≡ pair.0 → Takes calls f (key, (pair.1, tt))
 
-module _ {F X R : Type 0} (step : F → X → R → F → Type 0) where
-  -- One call at each of xs, in order, each on the state that the call before left: they answered rs and left `last`.
-  abbrev pub CallsGive : F → List X → List R → F → Type 0
-  CallsGive f [] [] last = f ≡ last
-  CallsGive f [] (r ∷ rs) last = ⊥
-  CallsGive f (x ∷ xs) [] last = ⊥
-  CallsGive f (x ∷ xs) (r ∷ rs) last = (next : F) × step f x r next × CallsGive next xs rs last
-
-  -- Such calls answered rs.
-  pub record CallsGiveAll (f : F) (xs : List X) (rs : List R) : Type 0 where
-    pub last : F
-    pub calls : CallsGive f xs rs last
-
--- f may be called at each of xs, as the calls before have left it.
-pub record CallableAlong {F X R : Type 0} (step : F → X → R → F → Type 0) (takes : F → X → Type 0) (f : F) (xs : List X) : Type 0 where
-  pub at : (before : List X) (x : X) (after : List X) (answers : List R) (now : F) → xs ≡ before ++ x ∷ after → CallsGive step f before answers now → takes now x
-
 -- The calls at the first of xs answered `Ok`, and the one after them answered the error e.
 pub record IsFirstError {F X R E : Type 0} (step : F → X → Result R E → F → Type 0) (f : F) (xs : List X) (e : E) : Type 0 where
   pub before : List X
@@ -61,10 +45,3 @@ pub record IsFirstError {F X R E : Type 0} (step : F → X → Result R E → F 
 abbrev pub IfClosure : {E : Type 0} → MapError E → (E → Type 0) → Type 0
 IfClosure Memory P = Unit {0}
 IfClosure (Closure e) P = P e
-
--- Where each call answers what h makes of its argument, the answers are the map of h.
-pub answers_are : {F X R : Type 0} (step : F → X → R → F → Type 0) (h : X → R) (pure : (f : F) (x : X) (r : R) (f' : F) → step f x r f' → r ≡ h x) (f : F) (xs : List X) (rs : List R) (last : F) → CallsGive step f xs rs last → rs ≡ map h xs
-answers_are step h pure f [] [] last c = refl
-answers_are step h pure f [] (r ∷ rs) last c = absurd c
-answers_are step h pure f (x ∷ xs) [] last c = absurd c
-answers_are step h pure f (x ∷ xs) (r ∷ rs) last c = λ j. pure f x r c.0 c.1 j ∷ answers_are step h pure c.0 xs rs last c.2 j

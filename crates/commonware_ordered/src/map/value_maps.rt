@@ -2,7 +2,8 @@
 ghost use Rattle.std.specs.Prelude.{◌≡◌, IfErr, IfOk, Ok};
 ghost use Rattle.std.specs.List.{AllZip};
 ghost use Rattle.std.specs.Map.{keys_of, values_of};
-ghost use Rattle.commonware_ordered.specs.ValueMaps.{CallableAlong, CalledAtPair, CalledAtRefs, CallsGiveAll, IfClosure, IsFirstError, TakesPair, TakesRefs};
+ghost use Rattle.commonware_base.specs.Calls.{CallableAlong, CallsGiveAll};
+ghost use Rattle.commonware_ordered.specs.ValueMaps.{CalledAtPair, CalledAtRefs, IfClosure, IsFirstError, TakesPair, TakesRefs};
 
 use super::Map;
 use crate::MapError;

@@ -1,8 +1,9 @@
 use Rattle.std.proofs.Common.{length, ap, refl, sym, subst, ◌∙◌, ◌≡◌, ◌∷◌, arith}
 use Rattle.std.specs.List.{AllZip}
 use Rattle.std.specs.Map.{keys_of}
+use Rattle.commonware_base.specs.Calls.{so_far_all, so_far_more, so_far_none}
 use Rattle.commonware_ordered.specs.ValueMaps.{CalledAtRefs}
-use Rattle.commonware_ordered.proofs.Calls.{as_many, keys_are, length_clones, ready, so_far_all, so_far_more, so_far_none, values_are}
+use Rattle.commonware_ordered.proofs.Calls.{as_many, keys_are, length_clones, ready, values_are}
 use Rattle.commonware_ordered.proofs.map.Map.map_values.Goals as goal
 
 pub loop-key-init : goal.loop-key-init

@@ -1,7 +1,7 @@
 use Rattle.std.proofs.Common.{length, ◌+◌, ◌≤◌, vec_len}
 use Rattle.std.specs.Vec.{vec_capacity}
+use Rattle.commonware_base.specs.Calls.{CallsSoFar}
 use Rattle.commonware_ordered.specs.ValueMaps.{CalledAtPair}
-use Rattle.commonware_ordered.proofs.Calls.{CallsSoFar}
 use Rattle.commonware_ordered.proofs.Walked.{IsCounted, pairs_left}
 use Rattle.commonware_ordered.proofs.map.Map.map_values_into.Given as goal
 

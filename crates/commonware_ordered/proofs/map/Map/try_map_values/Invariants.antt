@@ -1,7 +1,8 @@
 use Rattle.std.proofs.Common.{Ok, length, ◌+◌, ◌≤◌, vec_len}
 use Rattle.std.specs.Vec.{vec_capacity}
+use Rattle.commonware_base.specs.Calls.{CallsSoFar}
 use Rattle.commonware_ordered.specs.ValueMaps.{CalledAtRefs}
-use Rattle.commonware_ordered.proofs.Calls.{CallsSoFar, IsReady}
+use Rattle.commonware_ordered.proofs.Calls.{IsReady}
 use Rattle.commonware_ordered.proofs.map.Map.try_map_values.Given as goal
 
 abbrev pub invariant-loop-key : goal.invariant-loop-key

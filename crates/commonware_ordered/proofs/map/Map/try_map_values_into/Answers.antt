@@ -5,8 +5,9 @@ use Rattle.std.specs.Iterator.Adapters.{zip_second}
 use Rattle.std.specs.List.{zip}
 use Rattle.std.specs.Vec.Iter.{into_iter_items, into_iter_len}
 use Rattle.std.specs.Slice.Iter.{iter_rest}
+use Rattle.commonware_base.specs.Calls.{so_far_all, so_far_more, so_far_none, takes_next}
 use Rattle.commonware_ordered.specs.ValueMaps.{CalledAtPair, TakesPair}
-use Rattle.commonware_ordered.proofs.Calls.{as_many, first_error, keys_are, so_far_all, so_far_more, so_far_none, takes_next, values_are}
+use Rattle.commonware_ordered.proofs.Calls.{as_many, first_error, keys_are, values_are}
 use Rattle.commonware_ordered.proofs.Columns.{zip-parts}
 use Rattle.commonware_ordered.proofs.Walked.{counted_still, pairs_left, walked_all, walked_one}
 use Rattle.commonware_ordered.proofs.map.Map.try_map_values_into.Goals as goal

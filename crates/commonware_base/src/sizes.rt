@@ -1,0 +1,13 @@
+//! Sizes: the larger of two, and the largest of an allocation.
+ghost use Rattle.std.specs.Prelude.{◌≡◌};
+ghost use Rattle.std.specs.Prelude.{max as larger};
+
+/// The most bytes that one allocation can have.
+pub const MAX_ALLOCATION_BYTES: usize = isize::MAX as usize;
+
+/// The larger of two sizes.
+pub fn max(a: usize, b: usize) -> usize
+    ensures { result ≡ larger a b }
+{
+    if a > b { a } else { b }
+}
