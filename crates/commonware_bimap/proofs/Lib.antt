@@ -1,0 +1,4 @@
+pub mod BiMapReads
+pub mod Keys
+pub mod NoneEqual
+pub mod Refused

@@ -1,0 +1,203 @@
+//! A map whose values are pairwise unequal.
+ghost use Rattle.std.specs.Prelude.{◌≡◌, ◌↔◌, ◌<◌, ◌^◌, ◌==◌, [], IfOk, IsOk, IsSomeAnd, IsTrue, MatchResult, Some, length, slice_get, true, ℕ};
+ghost use Rattle.std.specs.Iterator.Adapters.{IterYieldsInOrder, IterYieldsInReverse};
+ghost use Rattle.std.specs.Map.{keys_of, lookup, values_of};
+ghost use Rattle.std.specs.Map.Iter.{ShowsInOrder, ShowsInReverse, deref_pair};
+ghost use Rattle.std.specs.Option.{option_copied};
+ghost use Rattle.std.specs.Slice.{IsItemAt};
+ghost use Rattle.std.specs.Slice.Iter.{iter_rest};
+ghost use Rattle.commonware_ordered.specs.Strict.{IsPlaceOf, IsStrict};
+ghost use Rattle.commonware_ordered.specs.Whole.{HasEqualItems, MatchError};
+ghost use Rattle.commonware_bimap.specs.Swapped.{swapped};
+
+mod builders;
+mod codec;
+mod compare;
+mod iterators;
+mod refs;
+mod text;
+
+pub use codec::bimap_fault_law;
+use commonware_ordered::{Error, Map, Pairs, Set};
+use std::alloc::{AllocError, Allocator};
+use std::hash::Hash;
+use std::marker::Model;
+use std::slice;
+
+/// Keys in increasing order, each once, and a value for each, no two of which are equal.
+#[derive(Drop)]
+pub struct BiMap<K: Ord, V: Eq + Hash, A: Allocator> {
+    map: Map<K, V, A>,
+}
+
+impl<K: Ord, V: Eq + Hash, A: Allocator> Model for BiMap<K, V, A> {
+    ghost use Rattle.std.specs.Prelude.{List};
+    ghost use Rattle.std.specs.Map.{values_of};
+    ghost use Rattle.commonware_ordered.specs.Whole.{HasEqualItems};
+
+    ghost Value = { List (K × V) };
+
+    ghost view = { λ b. b.map };
+
+    ghost invariant = { λ b. ¬ HasEqualItems V.eq (values_of b.map) };
+}
+
+impl<K: Ord, V: Eq + Hash, A: Allocator + Copy> BiMap<K, V, A> {
+    /// The bimap without pairs. It takes no memory.
+    pub fn empty(alloc: A) -> Self
+        ensures { result ≡ [] }
+    {
+        BiMap {
+            map: Map::empty(alloc),
+        }
+    }
+}
+
+impl<K: Ord + Drop, V: Eq + Hash + Drop, A: Allocator + Copy> BiMap<K, V, A> {
+    /// The bimap of the pairs of a map, or `DuplicateValue` where two of its values are equal. A map without pairs is
+    /// never refused. Every two values are compared: O(n²) comparisons.
+    pub fn try_from_map(map: Map<K, V, A>) -> Result<Self, Error>
+        ensures whole { MatchResult result (λ b. (b ≡ map) × (¬ HasEqualItems V.eq (values_of map))) (λ error. MatchError error ⊥ (HasEqualItems V.eq (values_of map))) }
+        ensures empty { map ≡ [] → IsOk result }
+    {
+        if has_equal_values(map.values()) {
+            Err(Error::DuplicateValue)
+        } else {
+            Ok(BiMap { map })
+        }
+    }
+}
+
+/// Whether two positions hold equal values.
+fn has_equal_values<V: Eq>(values: &[V]) -> bool
+    ensures { IsTrue result ↔ HasEqualItems V.eq values.now }
+{
+    for (index, value) in values.iter().enumerate() {
+        if values[..index].contains(value) {
+            return true;
+        }
+    }
+    false
+}
+
+impl<K: Ord, V: Eq + Hash, A: Allocator> BiMap<K, V, A> {
+    /// How many pairs there are.
+    pub fn len(&self) -> usize
+        ensures len { result ≡ length self.now }
+        ensures strict { IsStrict K.cmp (keys_of self.now) }
+        ensures distinct { ¬ HasEqualItems V.eq (values_of self.now) }
+    {
+        self.map.len()
+    }
+
+    /// Whether there are no pairs.
+    pub fn is_empty(&self) -> bool
+        ensures { result ≡ (length self.now == 0) }
+    {
+        self.map.is_empty()
+    }
+
+    /// The keys.
+    pub fn keys(&self) -> &Set<K, A>
+        ensures { result.now ≡ keys_of self.now }
+    {
+        self.map.keys()
+    }
+
+    /// The values in the order of their keys. No two are equal.
+    pub fn values(&self) -> &[V]
+        ensures values { result.now ≡ values_of self.now }
+        ensures distinct { ¬ HasEqualItems V.eq (values_of self.now) }
+    {
+        self.map.values()
+    }
+
+    /// The key at a position, or `None` past the last.
+    pub fn get(&self, index: usize) -> Option<&K>
+        ensures { IsItemAt (keys_of self.now) index result }
+    {
+        self.map.get(index)
+    }
+
+    /// An iterator over the keys in order, from both ends.
+    pub fn iter(&self) -> slice::Iter<'_, K>
+        ensures rest { iter_rest result ≡ keys_of self.now }
+        ensures bound { length (iter_rest result) < 2 ^ 64 }
+        ensures runs { IterYieldsInOrder K }
+        ensures runs_back { IterYieldsInReverse K }
+    {
+        self.map.iter()
+    }
+
+    /// The pairs in the order of their keys, from both ends, with the exact number left.
+    pub fn iter_pairs(&self) -> Pairs<'_, K, V>
+        ensures pairs { result ≡ self.now }
+        ensures bound { length self.now < 2 ^ 64 }
+        ensures runs { ShowsInOrder (deref_pair {K = K} {X = V}) }
+        ensures runs_back { ShowsInReverse (deref_pair {K = K} {X = V}) }
+    {
+        self.map.iter_pairs()
+    }
+
+    /// The place of the key that equals the one asked, or `None` where none does. The keys are halved: O(log n)
+    /// comparisons.
+    pub fn position(&self, key: &K) -> Option<usize>
+        ensures place { IsPlaceOf K.eq (keys_of self.now) key.now result }
+        ensures only { (p : ℕ) → (result ≡ Some p) ↔ ((x : K) × (slice_get (keys_of self.now) p ≡ Some x) × (K.eq x key.now ≡ true)) }
+    {
+        self.map.position(key)
+    }
+
+    /// The value at a position, or `None` past the last.
+    pub fn value(&self, index: usize) -> Option<&V>
+        ensures { IsItemAt (values_of self.now) index result }
+    {
+        self.map.value(index)
+    }
+
+    /// The value of the key that equals the one asked, or `None` where none does. The keys are halved: O(log n)
+    /// comparisons.
+    pub fn get_value(&self, key: &K) -> Option<&V>
+        ensures { option_copied result ≡ lookup (λ k. K.eq k key.now) self.now }
+    {
+        self.map.get_value(key)
+    }
+
+    /// The key whose value equals the one asked, or `None` where none does. It equals a key exactly where that key's
+    /// value equals the one asked. The values are compared one by one.
+    pub fn get_key(&self, value: &V) -> Option<&K>
+        ensures key { option_copied result ≡ lookup (λ v. V.eq v value.now) (swapped self.now) }
+        ensures law { (k : K) → IsSomeAnd (option_copied result) (λ q. K.eq q k ≡ true) ↔ IsSomeAnd (lookup (λ q. K.eq q k) self.now) (λ v. V.eq v value.now ≡ true) }
+    {
+        let keys = self.map.keys().as_slice();
+        let index = place_of(self.map.values(), value)?;
+        Some(&keys[index])
+    }
+}
+
+/// The place of a value that equals the one asked, or `None` where none does.
+fn place_of<V: Eq>(values: &[V], value: &V) -> Option<usize>
+    ensures { IsPlaceOf V.eq values.now value.now result }
+{
+    values.iter().position(|v| *v == *value)
+}
+
+impl<K: Ord, V: Eq + Hash + Drop, A: Allocator> BiMap<K, V, A> {
+    /// The keys. The values are given up. It takes no memory.
+    pub fn into_keys(self) -> Set<K, A>
+        ensures { result ≡ keys_of self }
+    {
+        let BiMap { map } = self;
+        map.into_keys()
+    }
+}
+
+impl<K: Ord + Drop, V: Eq + Hash + Drop, A: Allocator + Copy> BiMap<K, V, A> {
+    /// All pairs in the order of their keys.
+    pub fn into_pairs(self) -> Result<Vec<(K, V), A>, AllocError>
+        ensures { IfOk result (λ pairs. pairs.items ≡ self) }
+    {
+        let BiMap { map } = self;
+        map.into_pairs()
+    }
+}

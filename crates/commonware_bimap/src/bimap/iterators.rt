@@ -1,0 +1,35 @@
+//! The pairs of a bimap, lent or given, one by one.
+ghost use Rattle.std.specs.Prelude.{◌≡◌, ◌<◌, ◌^◌, length};
+ghost use Rattle.std.specs.Map.Iter.{GivesInOrder, GivesInReverse, ShowsInOrder, ShowsInReverse, deref_pair};
+
+use super::BiMap;
+use commonware_ordered::{MapIntoIter, Pairs};
+use std::alloc::Allocator;
+use std::hash::Hash;
+
+impl<K: Ord + Drop, V: Eq + Hash + Drop, A: Allocator> IntoIterator for BiMap<K, V, A> {
+    type Item = (K, V);
+
+    type IntoIter = MapIntoIter<K, V, A>;
+
+    ghost into_iter_gives = { λ map pairs. (pairs ≡ map) × (length map < 2 ^ 64) × GivesInOrder (K × V) × GivesInReverse (K × V) };
+
+    /// The pairs in the order of their keys, from both ends, with the exact number left. It takes no memory.
+    fn into_iter(self) -> MapIntoIter<K, V, A> {
+        let BiMap { map } = self;
+        map.into_iter()
+    }
+}
+
+impl<'a, K: Ord, V: Eq + Hash, A: Allocator> IntoIterator for &'a BiMap<K, V, A> {
+    type Item = (&'a K, &'a V);
+
+    type IntoIter = Pairs<'a, K, V>;
+
+    ghost into_iter_gives = { λ map pairs. (pairs ≡ map.now) × (length map.now < 2 ^ 64) × ShowsInOrder (deref_pair {K = K} {X = V}) × ShowsInReverse (deref_pair {K = K} {X = V}) };
+
+    /// The pairs in the order of their keys, from both ends, with the exact number left.
+    fn into_iter(self) -> Pairs<'a, K, V> {
+        self.iter_pairs()
+    }
+}
