@@ -1,0 +1,7 @@
+pub mod Closures
+pub mod Lends
+pub mod Mutate
+pub mod NonEmpty
+pub mod NonEmptyLaws
+pub mod Refusals
+pub mod Rings

@@ -1,0 +1,196 @@
+//! A list with at least one item.
+ghost use Rattle.std.specs.Prelude.{◌≡◌, ◌≤◌, ◌<◌, ◌-◌, ◌++◌, ◌∷◌, ◌==◌, [], MatchOption, MatchResult, Some, length, slice_get, slice_index_or};
+ghost use Rattle.std.specs.Borrow.{sem};
+ghost use Rattle.std.specs.Int.NonZero.{non_zero_usize_get};
+ghost use Rattle.std.specs.List.{insert, remove};
+ghost use Rattle.commonware_vec.specs.Lends.{LendsItemAt, LendsItems};
+
+mod builders;
+mod closures;
+mod codec;
+mod compare;
+mod iterators;
+mod sizes;
+
+pub use codec::non_empty_fault_law;
+use std::alloc::Allocator;
+use std::convert::AsRef;
+use std::marker::Model;
+use std::num::NonZeroUsize;
+use std::ops::Index;
+
+/// A list with at least one item.
+#[derive(Drop)]
+pub struct NonEmptyVec<T, A: Allocator> {
+    items: Vec<T, A>,
+}
+
+impl<T, A: Allocator> Model for NonEmptyVec<T, A> {
+    ghost use Rattle.std.specs.Prelude.{◌≤◌, List, length};
+
+    ghost Value = { List T };
+
+    ghost view = { λ v. v.items.items };
+
+    ghost invariant = { λ v. 1 ≤ length v.items.items };
+}
+
+impl<T, A: Allocator> NonEmptyVec<T, A> {
+    /// The list of the items of a vector, which isn't empty. It takes no memory.
+    pub fn from_unchecked(items: Vec<T, A>) -> Self
+        requires { 1 ≤ length items.items }
+        ensures { result ≡ items.items }
+    {
+        NonEmptyVec { items }
+    }
+
+    /// How many items there are.
+    pub fn len(&self) -> NonZeroUsize
+        ensures { non_zero_usize_get result ≡ length self.now }
+    {
+        NonZeroUsize::new(self.items.len()).unwrap()
+    }
+
+    /// Whether there is one item alone.
+    pub fn is_singleton(&self) -> bool
+        ensures { result ≡ (length self.now == 1) }
+    {
+        self.items.len() == 1
+    }
+
+    /// The items in order.
+    pub fn as_slice(&self) -> &[T]
+        ensures items { result.now ≡ self.now }
+        ensures some { 1 ≤ length self.now }
+    {
+        self.items.as_slice()
+    }
+
+    /// The items in order, to be written.
+    pub fn as_mut_slice(&mut self) -> &mut [T]
+        ensures* writes_back { sem 𝓛 (LendsItems T.row A.row A.Allocator self.entry result) }
+        ensures items { result.now ≡ self.old }
+        ensures some { 1 ≤ length self.old }
+    {
+        self.items.as_mut_slice()
+    }
+
+    /// The first item.
+    pub fn first(&self) -> &T
+        ensures { slice_get self.now 0 ≡ Some result.now }
+    {
+        &self.items[0]
+    }
+
+    /// The last item.
+    pub fn last(&self) -> &T
+        ensures { slice_get self.now (length self.now - 1) ≡ Some result.now }
+    {
+        &self.items[self.items.len() - 1]
+    }
+
+    /// The first item, to be written.
+    pub fn first_mut(&mut self) -> &mut T
+        ensures* writes_back { sem 𝓛 (LendsItemAt T.row A.row A.Allocator self.entry 0 result) }
+        ensures value { slice_get self.old 0 ≡ Some result.now }
+    {
+        &mut self.items[0]
+    }
+
+    /// The last item, to be written.
+    pub fn last_mut(&mut self) -> &mut T
+        ensures* writes_back { sem 𝓛 (LendsItemAt T.row A.row A.Allocator self.entry (length self.old - 1) result) }
+        ensures value { slice_get self.old (length self.old - 1) ≡ Some result.now }
+    {
+        let last = self.items.len() - 1;
+        &mut self.items[last]
+    }
+
+    /// Puts an item last. Where memory is refused, the item comes back, and the list is as it was.
+    pub fn push(&mut self, value: T) -> Result<(), T>
+        ensures { MatchResult result (λ _. self.new ≡ self.old ++ value ∷ []) (λ back. (back ≡ value) × (self.new ≡ self.old)) }
+    {
+        match self.items.push(value) {
+            Ok(()) => Ok(()),
+            Err(refused) => Err(refused.value),
+        }
+    }
+
+    /// Puts an item before the one at a position, which is at most the length; there it comes last. Where memory is
+    /// refused, the item comes back, and the list is as it was.
+    pub fn insert(&mut self, index: usize, value: T) -> Result<(), T>
+        requires { index ≤ length self.old }
+        ensures { MatchResult result (λ _. self.new ≡ insert self.old index value) (λ back. (back ≡ value) × (self.new ≡ self.old)) }
+    {
+        match self.items.insert(index, value) {
+            Ok(()) => Ok(()),
+            Err(refused) => Err(refused.value),
+        }
+    }
+
+    /// Takes the last item out, or answers `None` where it is the only one, which stays.
+    pub fn pop(&mut self) -> Option<T>
+        ensures last { MatchOption result ((length self.old ≡ 1) × (self.new ≡ self.old)) (λ last. (1 < length self.old) × (self.old ≡ self.new ++ last ∷ [])) }
+        ensures some { 1 ≤ length self.new }
+    {
+        if self.is_singleton() {
+            None
+        } else {
+            self.items.pop()
+        }
+    }
+
+    /// Takes the item at a position out, which is inside, or answers `None` where it is the only one, which stays.
+    pub fn remove(&mut self, index: usize) -> Option<T>
+        requires { index < length self.old }
+        ensures item { MatchOption result ((length self.old ≡ 1) × (self.new ≡ self.old)) (λ item. (1 < length self.old) × (slice_get self.old index ≡ Some item) × (self.new ≡ remove self.old index)) }
+        ensures some { 1 ≤ length self.new }
+    {
+        if self.items.len() > 1 {
+            Some(self.items.remove(index))
+        } else {
+            None
+        }
+    }
+
+    /// The vector of the items. It takes no memory.
+    pub fn into_vec(self) -> Vec<T, A>
+        ensures items { result.items ≡ self }
+        ensures some { 1 ≤ length self }
+    {
+        let NonEmptyVec { items } = self;
+        items
+    }
+}
+
+impl<T, A: Allocator> AsRef<Vec<T, A>> for NonEmptyVec<T, A> {
+    /// The vector of the items.
+    fn as_ref(&self) -> &Vec<T, A>
+        ensures items { result.now.items ≡ self.now }
+        ensures some { 1 ≤ length self.now }
+    {
+        &self.items
+    }
+}
+
+impl<T, A: Allocator> From<NonEmptyVec<T, A>> for Vec<T, A> {
+    ghost from_gives = { λ v items. (items.items ≡ v) × (1 ≤ length v) };
+
+    /// The vector of the items. It takes no memory.
+    fn from(list: NonEmptyVec<T, A>) -> Vec<T, A> {
+        list.into_vec()
+    }
+}
+
+impl<T, A: Allocator> Index<usize> for NonEmptyVec<T, A> {
+    type Output = T;
+
+    ghost can_index = { λ v i. i < length v };
+
+    ghost index_gives = { λ v i item. item ≡ slice_index_or v i item };
+
+    /// The item at a position, which is inside.
+    fn index(&self, index: usize) -> &T {
+        &self.items[index]
+    }
+}

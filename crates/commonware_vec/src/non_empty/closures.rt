@@ -1,0 +1,83 @@
+//! Lists that are never empty, whose items a closure makes.
+ghost use Rattle.std.specs.Prelude.{◌≡◌, ◌+◌, ◌-◌, ◌≤◌, ◌++◌, IfErr, IfOk, IsOk, List, OnOk, length, replicate, take};
+ghost use Rattle.std.specs.Fn.{CalledAt, TakesAt};
+ghost use Rattle.std.specs.Int.NonZero.{non_zero_usize_get};
+ghost use Rattle.std.specs.Vec.{vec_capacity, vec_len};
+ghost use Rattle.commonware_base.specs.Calls.{CallableAlong, CallsGiveAll};
+ghost use Rattle.commonware_vec.specs.Closures.{CalledWith, CalledWithNothing, TakesNothing, TakesWith};
+ghost use Rattle.commonware_vec.specs.declared.error.Error.TheVariants.{Memory};
+
+use super::NonEmptyVec;
+use crate::Error;
+use std::alloc::Allocator;
+use std::num::NonZeroUsize;
+
+impl<T, A: Allocator + Copy> NonEmptyVec<T, A> {
+    /// The list of what `f` answers for each item, in order. There is room for all answers before the first call. It is
+    /// refused for want of memory alone, and then nothing was called.
+    pub fn map<U, F: FnMut(&T) -> U>(&self, mut f: F) -> Result<NonEmptyVec<U, A>, Error>
+        requires { CallableAlong (CalledAt F.FnMut) (TakesAt F.FnMut) f self.now }
+        ensures items { IfOk result (λ v. CallsGiveAll (CalledAt F.FnMut) f self.now v) }
+        ensures err { IfErr result (λ error. error ≡ Memory) }
+    {
+        let mut answers = Vec::with_capacity(*self.items.allocator(), self.items.len())?;
+        for item in self {
+            answers.push_reserved(f(item));
+        }
+        Ok(NonEmptyVec { items: answers })
+    }
+
+    /// The list of what `f` answers for each item, in order. There is room for all answers before the first call. It is
+    /// refused for want of memory alone, and then nothing was called, and the items are given up.
+    pub fn map_into<U, F: FnMut(T) -> U>(self, mut f: F) -> Result<NonEmptyVec<U, A>, Error>
+    where
+        T: Drop,
+        requires { CallableAlong (CalledWith F.FnMut) (TakesWith F.FnMut) f self }
+        ensures items { IfOk result (λ v. CallsGiveAll (CalledWith F.FnMut) f self v) }
+        ensures err { IfErr result (λ error. error ≡ Memory) }
+    {
+        let NonEmptyVec { items } = self;
+        let mut mapped = Vec::with_capacity(*items.allocator(), items.len())?;
+        for item in items {
+            mapped.push_reserved(f(item));
+        }
+        Ok(NonEmptyVec { items: mapped })
+    }
+}
+
+impl<T: Drop, A: Allocator> NonEmptyVec<T, A> {
+    /// Makes the list `len` items long: the first ones stay, and what `f` answers, called once for each place that is
+    /// new, comes after them. Where it gets no longer, nothing is called, and it isn't refused; else there is room for
+    /// all answers before the first call. It is refused for want of memory alone, and then nothing was called, and the
+    /// list is as it was.
+    pub fn resize_with<F: FnMut() -> T>(&mut self, len: NonZeroUsize, f: F) -> Result<(), Error>
+        requires { CallableAlong (CalledWithNothing F.FnMut) (TakesNothing F.FnMut) f (replicate (non_zero_usize_get len - length self.old) tt) }
+        ensures items { OnOk result ((answers : List T) × (self.new ≡ take (non_zero_usize_get len) self.old ++ answers) × CallsGiveAll (CalledWithNothing F.FnMut) f (replicate (non_zero_usize_get len - length self.old) tt) answers) }
+        ensures len { OnOk result (length self.new ≡ non_zero_usize_get len) }
+        ensures shorter { non_zero_usize_get len ≤ length self.old → IsOk result }
+        ensures err { IfErr result (λ error. (error ≡ Memory) × (self.new ≡ self.old)) }
+    {
+        let len = len.get();
+        let before = self.items.len();
+        if len <= before {
+            self.items.truncate(len);
+            return Ok(());
+        }
+        self.items.reserve(len - before)?;
+        push_answers(&mut self.items, len - before, f);
+        Ok(())
+    }
+}
+
+/// Puts what `f` answers last, called so many times. There is room.
+fn push_answers<T, A: Allocator, F: FnMut() -> T>(items: &mut Vec<T, A>, count: usize, mut f: F)
+    requires room { vec_len items.old + count ≤ vec_capacity items.old }
+    requires callable { CallableAlong (CalledWithNothing F.FnMut) (TakesNothing F.FnMut) f (replicate count tt) }
+    ensures { (answers : List T) × (items.new.items ≡ items.old.items ++ answers) × CallsGiveAll (CalledWithNothing F.FnMut) f (replicate count tt) answers }
+{
+    let mut left = count;
+    while left > 0 {
+        items.push_reserved(f());
+        left -= 1;
+    }
+}

@@ -1,0 +1,50 @@
+//! Lists that are never empty, made longer and shorter.
+ghost use Rattle.std.specs.Prelude.{◌≡◌, ◌≤◌, ◌++◌, IfErr, IsOk, OnOk, length, take};
+ghost use Rattle.std.specs.Int.NonZero.{non_zero_usize_get};
+ghost use Rattle.std.specs.Iterator.{IsFiniteIterable};
+ghost use Rattle.std.specs.List.{AppendsClonesOf};
+ghost use Rattle.commonware_base.specs.Taken.{TakesAll};
+ghost use Rattle.commonware_vec.specs.declared.error.Error.TheVariants.{Memory};
+
+use super::NonEmptyVec;
+use crate::Error;
+use std::alloc::Allocator;
+use std::num::NonZeroUsize;
+use std::vec::VecCloneMethods;
+
+impl<T: Drop, A: Allocator> NonEmptyVec<T, A> {
+    /// Puts the items that an iterator gives last. It is refused for want of memory alone, and then the list is as it was.
+    pub fn extend<I: IntoIterator<Item = T>>(&mut self, iter: I) -> Result<(), Error>
+        requires { IsFiniteIterable I.into_iter_gives I.IntoIter.can_next I.IntoIter.remaining iter }
+        ensures ok { OnOk result (TakesAll I.into_iter_gives I.IntoIter.next_gives iter (λ xs. self.new ≡ self.old ++ xs)) }
+        ensures err { IfErr result (λ error. (error ≡ Memory) × (self.new ≡ self.old)) }
+    {
+        let before = self.items.len();
+        match self.items.extend(iter) {
+            Ok(()) => Ok(()),
+            Err(_) => {
+                self.items.truncate(before);
+                Err(Error::Memory)
+            }
+        }
+    }
+}
+
+impl<T: Clone, A: Allocator> NonEmptyVec<T, A> {
+    /// Makes the list `len` items long: the first ones stay, and clones of `value` come after them, or `value` itself.
+    /// Where it gets no longer, it isn't refused. It is refused for want of memory alone, and then the list is as it was.
+    pub fn resize(&mut self, len: NonZeroUsize, value: T) -> Result<(), Error>
+        ensures items { OnOk result (AppendsClonesOf T.is_clone (take (non_zero_usize_get len) self.old) self.new value) }
+        ensures len { OnOk result (length self.new ≡ non_zero_usize_get len) }
+        ensures shorter { non_zero_usize_get len ≤ length self.old → IsOk result }
+        ensures err { IfErr result (λ error. (error ≡ Memory) × (self.new ≡ self.old)) }
+    {
+        let len = len.get();
+        if len <= self.items.len() {
+            self.items.truncate(len);
+            return Ok(());
+        }
+        VecCloneMethods::resize(&mut self.items, len, value)?;
+        Ok(())
+    }
+}
