@@ -1,12 +1,15 @@
 //! Ordered collections and quorums for consensus: one order of participants, one byte form of each collection.
 //!
-//! The crate gives its two lower crates again, so that a user names it alone.
+//! The crate gives its lower crates again, so that a user names it alone.
 #![tactic(auto)]
 
 #[cfg(test)]
 mod bench;
+mod macros;
+pub mod ordered;
+pub mod vec;
 
 pub use commonware_base::{
-    EqClone, Faults, N3f1, N5f1, Participant, TryCollect, TryFromIterator, codec, faults,
+    EqClone, Faults, GOLDEN_RATIO, MAX_ALLOCATION_BYTES, N3f1, N5f1, Participant, TryCollect,
+    TryFromIterator, Widen, codec, faults, golden_ratio_law, max, union, union_unique,
 };
-pub use commonware_ordered as ordered;

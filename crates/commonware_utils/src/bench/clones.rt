@@ -2,8 +2,8 @@
 ghost use Rattle.std.specs.Prelude.{◌≡◌, true, IfOk};
 
 use crate::codec::UInt;
-use crate::ordered::Set;
-use crate::{EqClone, Participant};
+use crate::ordered::{BiMap, Set};
+use crate::{EqClone, Participant, TryFromIterator};
 use std::alloc::{AllocError, Allocator};
 use std::test::Fail;
 
@@ -18,13 +18,25 @@ fn clones_equal<T: EqClone>(value: &T) -> Result<bool, AllocError>
 #[test]
 fn numbers_and_texts_equal_their_clones(rt: HostRuntime) -> Result<(), Fail> {
     let alloc = rt.alloc();
-    assert!(rt; clones_equal(&1u8)? && clones_equal(&2u16)? && clones_equal(&3u32)?);
-    assert!(rt; clones_equal(&4u64)? && clones_equal(&5u128)? && clones_equal(&6usize)?);
-    assert!(rt; clones_equal(&-1i8)? && clones_equal(&-2i16)? && clones_equal(&-3i32)?);
-    assert!(rt; clones_equal(&-4i64)? && clones_equal(&-5i128)? && clones_equal(&-6isize)?);
-    assert!(rt; clones_equal(&'c')? && clones_equal(&"text")?);
-    assert!(rt; clones_equal(&String::from_str(alloc, "text")?)?);
-    assert!(rt; clones_equal(&UInt(300))? && clones_equal(&Participant::new(300))?);
+    assert!(rt;
+        clones_equal(&1u8)?
+            && clones_equal(&2u16)?
+            && clones_equal(&3u32)?
+            && clones_equal(&4u64)?
+            && clones_equal(&5u128)?
+            && clones_equal(&6usize)?
+            && clones_equal(&-1i8)?
+            && clones_equal(&-2i16)?
+            && clones_equal(&-3i32)?
+            && clones_equal(&-4i64)?
+            && clones_equal(&-5i128)?
+            && clones_equal(&-6isize)?
+            && clones_equal(&'c')?
+            && clones_equal(&"text")?
+            && clones_equal(&String::from_str(alloc, "text")?)?
+            && clones_equal(&UInt(300))?
+            && clones_equal(&Participant::new(300))?
+    );
     Ok(())
 }
 
@@ -35,5 +47,7 @@ fn collections_equal_their_clones(rt: HostRuntime) -> Result<(), Fail> {
     let two = Set::from_iter_dedup(alloc, [2u8, 1])?;
     let nest = Set::from_iter_dedup(alloc, [two, Set::empty(alloc)])?;
     assert!(rt; clones_equal(&nest)?);
+    let pairs = BiMap::try_from_iter(alloc, [(2u8, 'b'), (1, 'a')])?;
+    assert!(rt; clones_equal(&pairs)?);
     Ok(())
 }

@@ -56,44 +56,72 @@ fn quorums_of(n: u32) -> Option<(u32, u32, u32)> {
 #[test]
 fn the_numbers_of_both_models(rt: HostRuntime) {
     for (n, thirds, (faults, larger, smaller)) in NUMBERS {
-        assert!(rt; numbers_of::<N3f1>(n) == Some(thirds), "{n}");
-        assert!(rt; numbers_of::<N5f1>(n) == Some((faults, larger)), "{n}");
-        assert!(rt; quorums_of(n) == Some((faults, larger, smaller)), "{n}");
+        assert!(rt;
+            numbers_of::<N3f1>(n) == Some(thirds)
+                && numbers_of::<N5f1>(n) == Some((faults, larger))
+                && quorums_of(n) == Some((faults, larger, smaller))
+        );
     }
 }
 
 /// The test of the Rust crate `test_generic_integer_types`, with every type.
 #[test]
 fn generic_integer_types(rt: HostRuntime) {
-    assert!(rt; N3f1::max_faults(10u8) == 3 && N3f1::quorum(10u8) == 7);
-    assert!(rt; N3f1::max_faults(10u16) == 3 && N3f1::quorum(10u16) == 7);
-    assert!(rt; N3f1::max_faults(10u32) == 3 && N3f1::quorum(10u64) == 7);
-    assert!(rt; N3f1::max_faults(10u64) == 3 && N3f1::max_faults(10u128) == 3);
-    assert!(rt; N3f1::max_faults(10usize) == 3 && N3f1::quorum(10usize) == 7);
-    assert!(rt; N3f1::max_faults(10i8) == 3 && N3f1::quorum(10i16) == 7);
-    assert!(rt; N3f1::max_faults(10i32) == 3 && N3f1::quorum(10i32) == 7);
-    assert!(rt; N3f1::max_faults(10i64) == 3 && N3f1::quorum(10i64) == 7);
-    assert!(rt; N3f1::max_faults(10isize) == 3 && N3f1::quorum(10i128) == 7);
-    assert!(rt; N5f1::max_faults(10u64) == 1 && N5f1::quorum(10usize) == 9);
-    assert!(rt; N5f1::m_quorum(10i32) == 3 && N5f1::l_quorum(10i64) == 9);
+    assert!(rt;
+        N3f1::max_faults(10u8) == 3
+            && N3f1::quorum(10u8) == 7
+            && N3f1::max_faults(10u16) == 3
+            && N3f1::quorum(10u16) == 7
+            && N3f1::max_faults(10u32) == 3
+            && N3f1::quorum(10u64) == 7
+            && N3f1::max_faults(10u64) == 3
+            && N3f1::max_faults(10u128) == 3
+            && N3f1::max_faults(10usize) == 3
+            && N3f1::quorum(10usize) == 7
+            && N3f1::max_faults(10i8) == 3
+            && N3f1::quorum(10i16) == 7
+            && N3f1::max_faults(10i32) == 3
+            && N3f1::quorum(10i32) == 7
+            && N3f1::max_faults(10i64) == 3
+            && N3f1::quorum(10i64) == 7
+            && N3f1::max_faults(10isize) == 3
+            && N3f1::quorum(10i128) == 7
+            && N5f1::max_faults(10u64) == 1
+            && N5f1::quorum(10usize) == 9
+            && N5f1::m_quorum(10i32) == 3
+            && N5f1::l_quorum(10i64) == 9
+    );
 }
 
 #[test]
 fn counts_are_the_numbers_that_fit(rt: HostRuntime) {
-    assert!(rt; 255u8.to_u32() == Some(255) && 65535u16.to_u32() == Some(65535));
-    assert!(rt; 0u32.to_u32() == Some(0) && u32::MAX.to_u32() == Some(4294967295));
-    assert!(rt; 4294967295u64.to_u32() == Some(4294967295) && 4294967296u64.to_u32() == None);
-    assert!(rt; 4294967295usize.to_u32() == Some(4294967295) && usize::MAX.to_u32() == None);
-    assert!(rt; 4294967295u128.to_u32() == Some(4294967295) && 4294967296u128.to_u32() == None);
-    assert!(rt; 127i8.to_u32() == Some(127) && (-1i8).to_u32() == None);
-    assert!(rt; 32767i16.to_u32() == Some(32767) && (-1i16).to_u32() == None);
-    assert!(rt; i32::MAX.to_u32() == Some(2147483647) && i32::MIN.to_u32() == None);
-    assert!(rt; 4294967295i64.to_u32() == Some(4294967295) && 4294967296i64.to_u32() == None);
     assert!(rt;
-        (-1i64).to_u32() == None && 0isize.to_u32() == Some(0) && (-1isize).to_u32() == None
+        255u8.to_u32() == Some(255)
+            && 65535u16.to_u32() == Some(65535)
+            && 0u32.to_u32() == Some(0)
+            && u32::MAX.to_u32() == Some(4294967295)
+            && 4294967295u64.to_u32() == Some(4294967295)
+            && 4294967296u64.to_u32() == None
+            && 4294967295usize.to_u32() == Some(4294967295)
+            && usize::MAX.to_u32() == None
+            && 4294967295u128.to_u32() == Some(4294967295)
+            && 4294967296u128.to_u32() == None
+            && 127i8.to_u32() == Some(127)
+            && (-1i8).to_u32() == None
+            && 32767i16.to_u32() == Some(32767)
+            && (-1i16).to_u32() == None
+            && i32::MAX.to_u32() == Some(2147483647)
+            && i32::MIN.to_u32() == None
+            && 4294967295i64.to_u32() == Some(4294967295)
+            && 4294967296i64.to_u32() == None
+            && (-1i64).to_u32() == None
+            && 0isize.to_u32() == Some(0)
+            && (-1isize).to_u32() == None
+            && 4294967295i128.to_u32() == Some(4294967295)
+            && 4294967296i128.to_u32() == None
+            && (-4294967295i128).to_u32() == None
+            && u128::MAX.to_u32() == None
     );
-    assert!(rt; 4294967295i128.to_u32() == Some(4294967295) && 4294967296i128.to_u32() == None);
-    assert!(rt; (-4294967295i128).to_u32() == None && u128::MAX.to_u32() == None);
 }
 
 /// The test of the Rust crate `test_n5f1_quorum_relationships`, at every value that it draws from.
@@ -101,7 +129,7 @@ fn counts_are_the_numbers_that_fit(rt: HostRuntime) {
 fn n5f1_quorum_relationships(rt: HostRuntime) {
     for n in 6..10_000u32 {
         let (larger, smaller) = (N5f1::l_quorum(n), N5f1::m_quorum(n));
-        assert!(rt; smaller < larger && larger <= n, "{n}");
+        assert!(rt; smaller < larger && larger <= n);
     }
 }
 
@@ -110,17 +138,21 @@ fn n5f1_quorum_relationships(rt: HostRuntime) {
 fn bft_model_safety_property(rt: HostRuntime) {
     for n in 1..10_000u32 {
         let (of_thirds, of_fifths) = (N3f1::quorum(n), N5f1::quorum(n));
-        assert!(rt; 2 * of_thirds > n + N3f1::max_faults(n), "{n}");
-        assert!(rt; 2 * of_fifths > n + N5f1::max_faults(n), "{n}");
+        assert!(rt;
+            2 * of_thirds > n + N3f1::max_faults(n) && 2 * of_fifths > n + N5f1::max_faults(n)
+        );
     }
 }
 
 #[test]
 fn models_are_shown_by_their_names(rt: HostRuntime) -> Result<(), Fail> {
     let (thirds, fifths) = (N3f1, N5f1::default());
-    assert_eq!(rt; format!(in rt.alloc(); "{thirds:?}")?.as_str(), "N3f1");
-    assert_eq!(rt; format!(in rt.alloc(); "{fifths:?}")?.as_str(), "N5f1");
-    assert!(rt; thirds == N3f1::default() && fifths == fifths.clone()?);
+    assert!(rt;
+        format!(in rt.alloc(); "{thirds:?}")?.as_str() == "N3f1"
+            && format!(in rt.alloc(); "{fifths:?}")?.as_str() == "N5f1"
+            && thirds == N3f1::default()
+            && fifths == fifths.clone()?
+    );
     Ok(())
 }
 
@@ -139,6 +171,9 @@ impl Faults for Trusting {
 
 #[test]
 fn a_model_of_ones_own(rt: HostRuntime) {
-    assert!(rt; numbers_of::<Trusting>(7) == Some((0, 7)));
-    assert!(rt; Trusting::quorum(255u8) == 255 && Trusting::quorum(1i64) == 1);
+    assert!(rt;
+        numbers_of::<Trusting>(7) == Some((0, 7))
+            && Trusting::quorum(255u8) == 255
+            && Trusting::quorum(1i64) == 1
+    );
 }

@@ -8,11 +8,11 @@ ghost use Rattle.commonware_base.specs.Text.{IsByte};
 ghost use Rattle.commonware_base.specs.TextLaws.{canonical_on, laws_on, prefix_free_on};
 
 use super::read;
-use crate::EqClone;
 use crate::codec::{
     Canonical, EncodeSize, Error, MaxEncodeSize, RangeCfg, Read, Source, Write, round_trip,
 };
-use crate::ordered::Set;
+use crate::ordered::{self, BiMap, Set};
+use crate::{EqClone, TryFromIterator};
 use std::alloc::{AllocError, Allocator};
 use std::test::Fail;
 
@@ -93,14 +93,10 @@ const fn item(number: u8, label: char) -> Labelled {
 fn the_first_of_equals_stays(rt: HostRuntime) -> Result<(), Fail> {
     let items = [item(2, 'x'), item(1, 'y'), item(2, 'z')];
     let set = Set::from_iter_dedup(rt.alloc(), items)?;
-    assert_eq!(rt; set.len(), 2);
-    assert_eq!(rt;
-        set.get(0).map(|item| (item.number, item.label)),
-        Some((1, 'y'))
-    );
-    assert_eq!(rt;
-        set.get(1).map(|item| (item.number, item.label)),
-        Some((2, 'x'))
+    assert!(rt;
+        set.len() == 2
+            && set.get(0).map(|item| (item.number, item.label)) == Some((1, 'y'))
+            && set.get(1).map(|item| (item.number, item.label)) == Some((2, 'x'))
     );
     Ok(())
 }
@@ -113,16 +109,16 @@ fn equal_sets_of_labelled_items_have_equal_bytes(rt: HostRuntime) -> Result<(), 
     assert!(rt; set.is_writable());
     let (read_set, taken) = read::<Set<Labelled, _>, _>(alloc, b"\x02\x01\x02", &(any, ()));
     let read_set = read_set?;
-    assert_eq!(rt; taken, 3);
-    assert_eq!(rt; read_set.get(0).map(|item| item.label), Some('r'));
-    assert!(rt; read_set == set);
+    assert!(rt;
+        taken == 3 && read_set.get(0).map(|item| item.label) == Some('r') && read_set == set
+    );
     for written in [&set, &read_set] {
         let mut sink = Vec::new(alloc);
         assert!(rt; written.is_writable());
         written.write(&mut sink)?;
-        assert_eq!(rt; sink.as_slice(), b"\x02\x01\x02".as_slice());
+        assert!(rt; sink.as_slice() == b"\x02\x01\x02".as_slice());
     }
-    assert_eq!(rt; Labelled::MAX_ENCODE_SIZE, 1);
+    assert!(rt; Labelled::MAX_ENCODE_SIZE == 1);
     Ok(())
 }
 
@@ -131,7 +127,16 @@ fn a_labelled_item_is_read_back_equal(rt: HostRuntime) -> Result<(), Fail> {
     let item = item(7, 'x');
     assert!(rt; item.is_writable());
     let (again, left) = round_trip(rt.alloc(), &item, b"\x01\x02", &())?;
-    assert!(rt; again == item);
-    assert_eq!(rt; (again.label, left), ('r', 2));
+    assert!(rt; again == item && again.label == 'r' && left == 2);
+    Ok(())
+}
+
+#[test]
+fn values_are_equal_whatever_their_labels(rt: HostRuntime) -> Result<(), Fail> {
+    let alloc = rt.alloc();
+    let repeated = BiMap::try_from_iter(alloc, [(1u8, item(5, 'x')), (2, item(5, 'y'))]);
+    assert!(rt; repeated.err() == Some(ordered::Error::DuplicateValue));
+    let bimap = BiMap::try_from_iter(alloc, [(1u8, item(5, 'x')), (2, item(6, 'x'))])?;
+    assert!(rt; bimap.get_key(&item(6, 'y')) == Some(&2));
     Ok(())
 }

@@ -11,12 +11,13 @@ fn lists_are_written_and_read(rt: HostRuntime) -> Result<(), Fail> {
     let list = vec![in alloc; 1u8, 3, 2, 4]?;
     let mut sink = Vec::new(alloc);
     list.write(&mut sink)?;
-    assert_eq!(rt; sink.as_slice(), b"\x04\x01\x03\x02\x04".as_slice());
-    assert_eq!(rt; list.encode_size(), 5);
-    assert!(rt; list.is_writable());
+    assert!(rt;
+        sink.as_slice() == b"\x04\x01\x03\x02\x04".as_slice()
+            && list.encode_size() == 5
+            && list.is_writable()
+    );
     let (again, taken) = read::<Vec<u8>, _>(alloc, &sink, &(any, ()));
-    assert_eq!(rt; again?.as_slice(), list.as_slice());
-    assert_eq!(rt; taken, 5);
+    assert!(rt; again?.as_slice() == list.as_slice() && taken == 5);
     Ok(())
 }
 
@@ -27,11 +28,12 @@ fn lists_nest(rt: HostRuntime) -> Result<(), Fail> {
     let bytes = b"\x02\x01\x02\x08\x09\x00\x05";
     let (lists, taken) = read::<Vec<Vec<Vec<u8>>>, _>(alloc, bytes, &(any, (any, (any, ()))));
     let lists = lists?;
-    assert_eq!(rt; (lists.len(), taken), (2, 6));
+    assert!(rt; lists.len() == 2 && taken == 6);
     let mut sink = Vec::new(alloc);
     lists.write(&mut sink)?;
-    assert_eq!(rt; sink.as_slice(), b"\x02\x01\x02\x08\x09\x00".as_slice());
-    assert_eq!(rt; lists.encode_size(), 6);
+    assert!(rt;
+        sink.as_slice() == b"\x02\x01\x02\x08\x09\x00".as_slice() && lists.encode_size() == 6
+    );
     Ok(())
 }
 
@@ -41,19 +43,21 @@ fn nothing_is_reserved_for_a_stated_length(rt: HostRuntime) {
     let any = RangeCfg::from(..);
     let bytes = b"\xff\xff\xff\xff\x0f\x00";
     let (result, taken) = read::<Vec<Vec<u8>>, _>(rt.alloc(), bytes, &(any, (any, ())));
-    assert_eq!(rt; (result.err(), taken), (Some(Error::EndOfBuffer), 0));
+    assert!(rt; result.err() == Some(Error::EndOfBuffer) && taken == 0);
 }
 
 #[test]
 fn a_list_is_read_under_its_range(rt: HostRuntime) -> Result<(), Fail> {
     let mut src = Source::new(b"\x03\x07\x08\x09\xff");
     let refused = read_list::<u8, _>(rt.alloc(), &mut src, RangeCfg::from(..=2), &());
-    assert_eq!(rt; refused.err(), Some(Error::InvalidLength(3)));
-    assert_eq!(rt; (src.position(), src.remaining()), (0, 5));
+    assert!(rt;
+        refused.err() == Some(Error::InvalidLength(3))
+            && src.position() == 0
+            && src.remaining() == 5
+    );
     let list = read_list::<u8, _>(rt.alloc(), &mut src, RangeCfg::from(..=3), &())?;
-    assert_eq!(rt; list.as_slice(), [7, 8, 9].as_slice());
-    assert_eq!(rt; src.rest(), b"\xff".as_slice());
+    assert!(rt; list.as_slice() == [7, 8, 9].as_slice() && src.rest() == b"\xff".as_slice());
     src.advance(1);
-    assert_eq!(rt; src.remaining(), 0);
+    assert!(rt; src.remaining() == 0);
     Ok(())
 }

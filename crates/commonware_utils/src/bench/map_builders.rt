@@ -22,18 +22,25 @@ fn answers(answer: &Result<Map<u8, char, Global>, Error>, parts: Option<(&[u8], 
 fn map_from_iter_dedup(rt: HostRuntime) -> Result<(), Fail> {
     let items = [(3u8, 'c'), (1, 'a'), (2, 'b'), (1, 'd')];
     let map = Map::from_iter_dedup(rt.alloc(), items)?;
-    assert!(rt; map.len() == 3 && !map.is_empty());
-    assert!(rt; map.as_slice() == [1, 2, 3].as_slice());
-    assert!(rt; map.get_value(&1) == Some(&'a') && map.get_value(&4) == None);
-    assert!(rt; map.value(1) == Some(&'b') && map.value(3) == None);
+    assert!(rt;
+        map.len() == 3
+            && !map.is_empty()
+            && map.as_slice() == [1, 2, 3].as_slice()
+            && map.get_value(&1) == Some(&'a')
+            && map.get_value(&4) == None
+            && map.value(1) == Some(&'b')
+            && map.value(3) == None
+    );
     Ok(())
 }
 
 #[test]
 fn the_first_pair_of_a_key_stays(rt: HostRuntime) -> Result<(), Fail> {
     let map = Map::from_iter_dedup(rt.alloc(), (0..100u8).map(|i| (i % 10, i)))?;
-    assert!(rt; map.as_slice() == [0, 1, 2, 3, 4, 5, 6, 7, 8, 9].as_slice());
-    assert!(rt; map.values() == [0, 1, 2, 3, 4, 5, 6, 7, 8, 9].as_slice());
+    assert!(rt;
+        map.as_slice() == [0, 1, 2, 3, 4, 5, 6, 7, 8, 9].as_slice()
+            && map.values() == [0, 1, 2, 3, 4, 5, 6, 7, 8, 9].as_slice()
+    );
     Ok(())
 }
 
@@ -54,16 +61,18 @@ fn map_try_from(rt: HostRuntime) -> Result<(), Fail> {
     let pairs = [(3u8, 'c'), (1, 'a'), (2, 'b')];
     let repeated = [(2u8, 'a'), (1, 'b'), (2, 'c')];
     let parts: Option<(&[u8], &[char])> = Some((&[1, 2, 3], &['a', 'b', 'c']));
-    assert!(rt; answers(&Map::try_from_vec(Vec::from_slice(alloc, &pairs)?), parts));
-    assert!(rt; answers(&Map::try_from_vec(Vec::from_slice(alloc, &repeated)?), None));
-    assert!(rt; answers(&Map::try_from_iter(alloc, pairs), parts));
-    assert!(rt; answers(&Map::try_from_iter(alloc, repeated), None));
-    assert!(rt; answers(&Map::try_from_slice(alloc, &pairs), parts));
-    assert!(rt; answers(&Map::try_from_slice(alloc, &repeated), None));
-    assert!(rt; answers(&Map::try_from_array_ref(alloc, &pairs), parts));
-    assert!(rt; answers(&Map::try_from_array_ref(alloc, &repeated), None));
-    assert!(rt; answers(&Map::try_from_array(alloc, pairs), parts));
-    assert!(rt; answers(&Map::try_from_array(alloc, repeated), None));
+    assert!(rt;
+        answers(&Map::try_from_vec(Vec::from_slice(alloc, &pairs)?), parts)
+            && answers(&Map::try_from_vec(Vec::from_slice(alloc, &repeated)?), None)
+            && answers(&Map::try_from_iter(alloc, pairs), parts)
+            && answers(&Map::try_from_iter(alloc, repeated), None)
+            && answers(&Map::try_from_slice(alloc, &pairs), parts)
+            && answers(&Map::try_from_slice(alloc, &repeated), None)
+            && answers(&Map::try_from_array_ref(alloc, &pairs), parts)
+            && answers(&Map::try_from_array_ref(alloc, &repeated), None)
+            && answers(&Map::try_from_array(alloc, pairs), parts)
+            && answers(&Map::try_from_array(alloc, repeated), None)
+    );
     Ok(())
 }
 

@@ -13,13 +13,15 @@ fn tens(alloc: Global) -> Result<Map<u8, u8, Global>, Fail> {
 fn pairs_come_from_both_ends(rt: HostRuntime) -> Result<(), Fail> {
     let map = tens(rt.alloc())?;
     let mut pairs = map.iter_pairs();
-    assert_eq!(rt;
-        (pairs.next(), pairs.next_back()),
-        (Some((&1, &10)), Some((&3, &30)))
+    assert!(rt;
+        pairs.next() == Some((&1, &10))
+            && pairs.next_back() == Some((&3, &30))
+            && pairs.next_back() == Some((&2, &20))
+            && pairs.next() == None
+            && pairs.next_back() == None
+            && pairs.next() == None
+            && pairs.next_back() == None
     );
-    assert_eq!(rt; pairs.next_back(), Some((&2, &20)));
-    assert_eq!(rt; (pairs.next(), pairs.next_back()), (None, None));
-    assert_eq!(rt; (pairs.next(), pairs.next_back()), (None, None));
     Ok(())
 }
 
@@ -29,10 +31,15 @@ fn pairs_are_given_from_both_ends(rt: HostRuntime) -> Result<(), Fail> {
     let keys = Set::from_iter_dedup(alloc, [1u8, 2])?;
     let map = Map::from_parts(keys, vec![in alloc; 10u8, 20]?).ok_or("uneven")?;
     let mut pairs = map.into_iter();
-    assert_eq!(rt; (pairs.len(), pairs.next_back()), (2, Some((2, 20))));
-    assert_eq!(rt; pairs.next(), Some((1, 10)));
-    assert_eq!(rt; (pairs.next(), pairs.next_back()), (None, None));
-    assert_eq!(rt; (pairs.len(), pairs.next()), (0, None));
+    assert!(rt;
+        pairs.len() == 2
+            && pairs.next_back() == Some((2, 20))
+            && pairs.next() == Some((1, 10))
+            && pairs.next() == None
+            && pairs.next_back() == None
+            && pairs.len() == 0
+            && pairs.next() == None
+    );
     Ok(())
 }
 
@@ -40,15 +47,15 @@ fn pairs_are_given_from_both_ends(rt: HostRuntime) -> Result<(), Fail> {
 fn the_number_left_is_told(rt: HostRuntime) -> Result<(), Fail> {
     let mut map = tens(rt.alloc())?;
     let mut pairs = map.iter_pairs();
-    assert_eq!(rt; (pairs.len(), pairs.size_hint()), (3, (3, Some(3))));
+    assert!(rt; pairs.len() == 3 && pairs.size_hint() == (3, Some(3)));
     let _ = pairs.next_back();
-    assert_eq!(rt; (pairs.len(), pairs.size_hint()), (2, (2, Some(2))));
+    assert!(rt; pairs.len() == 2 && pairs.size_hint() == (2, Some(2)));
     let mut lent = map.iter_pairs_mut();
     let _ = lent.next();
-    assert_eq!(rt; (lent.len(), lent.size_hint()), (2, (2, Some(2))));
+    assert!(rt; lent.len() == 2 && lent.size_hint() == (2, Some(2)));
     let mut given = map.into_iter();
     let _ = given.next();
-    assert_eq!(rt; (given.len(), given.size_hint()), (2, (2, Some(2))));
+    assert!(rt; given.len() == 2 && given.size_hint() == (2, Some(2)));
     Ok(())
 }
 
@@ -62,7 +69,7 @@ fn a_loop_walks_the_pairs(rt: HostRuntime) -> Result<(), Fail> {
             .wrapping_add(u32::from(*key))
             .wrapping_add(u32::from(*value));
     }
-    assert_eq!(rt; walked, 112_233);
+    assert!(rt; walked == 112_233);
     let mut taken = 0u32;
     for (key, value) in map {
         taken = taken
@@ -70,7 +77,7 @@ fn a_loop_walks_the_pairs(rt: HostRuntime) -> Result<(), Fail> {
             .wrapping_add(u32::from(key))
             .wrapping_add(u32::from(value));
     }
-    assert_eq!(rt; taken, 112_233);
+    assert!(rt; taken == 112_233);
     Ok(())
 }
 
@@ -87,26 +94,30 @@ fn add_key(pair: Option<(&u8, &mut u8)>) -> Option<(u8, u8)> {
 fn pair_iterators(rt: HostRuntime) -> Result<(), Fail> {
     let mut map = tens(rt.alloc())?;
     let mut pairs = map.iter_pairs();
-    assert_eq!(rt; (pairs.len(), pairs.next()), (3, Some((&1, &10))));
-    assert_eq!(rt; (pairs.len(), pairs.next_back()), (2, Some((&3, &30))));
-    assert_eq!(rt; (pairs.len(), pairs.next_back()), (1, Some((&2, &20))));
-    assert_eq!(rt;
-        (pairs.len(), pairs.next(), pairs.next_back()),
-        (0, None, None)
+    assert!(rt;
+        pairs.len() == 3
+            && pairs.next() == Some((&1, &10))
+            && pairs.len() == 2
+            && pairs.next_back() == Some((&3, &30))
+            && pairs.len() == 1
+            && pairs.next_back() == Some((&2, &20))
+            && pairs.len() == 0
+            && pairs.next() == None
+            && pairs.next_back() == None
     );
     let mut pairs = map.iter_pairs_mut();
-    assert_eq!(rt; (pairs.len(), add_key(pairs.next())), (3, Some((1, 10))));
-    assert_eq!(rt;
-        (pairs.len(), add_key(pairs.next_back())),
-        (2, Some((3, 30)))
+    assert!(rt;
+        pairs.len() == 3
+            && add_key(pairs.next()) == Some((1, 10))
+            && pairs.len() == 2
+            && add_key(pairs.next_back()) == Some((3, 30))
+            && pairs.len() == 1
+            && add_key(pairs.next_back()) == Some((2, 20))
+            && pairs.len() == 0
+            && pairs.next().is_none()
+            && pairs.next_back().is_none()
+            && map.values() == [11, 22, 33].as_slice()
     );
-    assert_eq!(rt;
-        (pairs.len(), add_key(pairs.next_back())),
-        (1, Some((2, 20)))
-    );
-    assert_eq!(rt; pairs.len(), 0);
-    assert!(rt; pairs.next().is_none() && pairs.next_back().is_none());
-    assert_eq!(rt; map.values(), [11, 22, 33].as_slice());
     Ok(())
 }
 
@@ -116,7 +127,8 @@ fn values_are_written_in_a_loop(rt: HostRuntime) -> Result<(), Fail> {
     for (key, value) in map.iter_pairs_mut() {
         *value = value.wrapping_add(*key);
     }
-    assert_eq!(rt; map.values(), [11, 22, 33].as_slice());
-    assert_eq!(rt; map.keys().as_slice(), [1, 2, 3].as_slice());
+    assert!(rt;
+        map.values() == [11, 22, 33].as_slice() && map.keys().as_slice() == [1, 2, 3].as_slice()
+    );
     Ok(())
 }

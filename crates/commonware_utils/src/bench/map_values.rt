@@ -17,16 +17,15 @@ fn a_counter_runs_along_the_keys(rt: HostRuntime) -> Result<(), Fail> {
         counter = counter.wrapping_add(*value);
         counter
     })?;
-    assert_eq!(rt; sums.values(), [10, 30, 60].as_slice());
-    assert!(rt; sums.keys() == map.keys());
-    assert_eq!(rt; counter, 60);
+    assert!(rt;
+        sums.values() == [10, 30, 60].as_slice() && sums.keys() == map.keys() && counter == 60
+    );
     let mut taken = 0u8;
     let sums = map.map_values_into(|_, value| {
         taken = taken.wrapping_add(value);
         taken
     })?;
-    assert_eq!(rt; sums.values(), [10, 30, 60].as_slice());
-    assert_eq!(rt; taken, 60);
+    assert!(rt; sums.values() == [10, 30, 60].as_slice() && taken == 60);
     Ok(())
 }
 
@@ -38,15 +37,13 @@ fn a_counter_runs_along_the_keys_that_may_fail(rt: HostRuntime) -> Result<(), Fa
         counter = counter.wrapping_add(*value);
         Ok(counter)
     });
-    assert!(rt; sums.is_ok_and(|sums| sums.values() == [10, 30, 60].as_slice()));
-    assert_eq!(rt; counter, 60);
+    assert!(rt; sums.is_ok_and(|sums| sums.values() == [10, 30, 60].as_slice()) && counter == 60);
     let mut taken = 0u8;
     let sums: Result<_, MapError<u8>> = map.try_map_values_into(|_, value| {
         taken = taken.wrapping_add(value);
         Ok(taken)
     });
-    assert!(rt; sums.is_ok_and(|sums| sums.values() == [10, 30, 60].as_slice()));
-    assert_eq!(rt; taken, 60);
+    assert!(rt; sums.is_ok_and(|sums| sums.values() == [10, 30, 60].as_slice()) && taken == 60);
     Ok(())
 }
 
@@ -58,15 +55,13 @@ fn nothing_is_called_after_the_first_error(rt: HostRuntime) -> Result<(), Fail> 
         called = called.wrapping_mul(10).wrapping_add(u32::from(*key));
         if *key == 2 { Err(7u8) } else { Ok(*value) }
     });
-    assert!(rt; failed.err() == Some(MapError::Closure(7)));
-    assert_eq!(rt; called, 12);
+    assert!(rt; failed.err() == Some(MapError::Closure(7)) && called == 12);
     let mut calls = 0u32;
     let failed: Result<Map<u8, u8, Global>, MapError<u8>> = map.try_map_values_into(|_, _| {
         calls = calls.wrapping_add(1);
         Err(5u8)
     });
-    assert!(rt; failed.err() == Some(MapError::Closure(5)));
-    assert_eq!(rt; calls, 1);
+    assert!(rt; failed.err() == Some(MapError::Closure(5)) && calls == 1);
     Ok(())
 }
 
@@ -76,8 +71,7 @@ fn texts_are_mapped_to_their_lengths(rt: HostRuntime) -> Result<(), Fail> {
     let keys = Set::from_iter_dedup(alloc, [4u8, 1])?;
     let map = Map::from_parts(keys, vec![in alloc; "one", "four"]?).ok_or("uneven")?;
     let lengths = map.map_values(|_, text| text.len())?;
-    assert!(rt; lengths.keys() == map.keys());
-    assert_eq!(rt; lengths.values(), [3, 4].as_slice());
+    assert!(rt; lengths.keys() == map.keys() && lengths.values() == [3, 4].as_slice());
     Ok(())
 }
 
@@ -100,8 +94,10 @@ fn map_values_borrowed(rt: HostRuntime) -> Result<(), Fail> {
     let mapped = map.map_values(|key, value| (key, &value.0))?;
     assert!(rt; mapped.keys() == map.keys() && mapped.values() == expected.as_slice());
     let tried: Result<_, MapError<()>> = map.try_map_values(|key, value| Ok((key, &value.0)));
-    assert!(rt; tried.is_ok_and(|tried| tried.values() == expected.as_slice()));
-    assert!(rt; map.get_value(&2).is_some_and(|value| value.0 == 20));
+    assert!(rt;
+        tried.is_ok_and(|tried| tried.values() == expected.as_slice())
+            && map.get_value(&2).is_some_and(|value| value.0 == 20)
+    );
     Ok(())
 }
 
@@ -120,9 +116,11 @@ fn map_values_into_reuses_keys(rt: HostRuntime) -> Result<(), Fail> {
         visited = visited.wrapping_mul(10).wrapping_add(u32::from(key.0));
         key.0.wrapping_add(value.0)
     })?;
-    assert_eq!(rt; visited, 123);
-    assert!(rt; mapped.keys().as_slice() == [Key(1), Key(2), Key(3)].as_slice());
-    assert_eq!(rt; mapped.values(), [11, 22, 33].as_slice());
+    assert!(rt;
+        visited == 123
+            && mapped.keys().as_slice() == [Key(1), Key(2), Key(3)].as_slice()
+            && mapped.values() == [11, 22, 33].as_slice()
+    );
     let tried: Result<_, MapError<()>> = owned(rt.alloc())?.try_map_values_into(|key, value| Ok(
         key.0.wrapping_add(value.0),
     ));
@@ -168,8 +166,7 @@ fn try_map_values_error(rt: HostRuntime) -> Result<(), Fail> {
             }
         };
         let borrowed = map.try_map_values(|key, _| transform(key));
-        assert!(rt; borrowed.err() == Some(MapError::Closure(failed_key)));
-        assert_eq!(rt; visited, expected);
+        assert!(rt; borrowed.err() == Some(MapError::Closure(failed_key)) && visited == expected);
         let mut visited = 0u32;
         let mut transform = |key: &u8| {
             visited = visited.wrapping_mul(10).wrapping_add(u32::from(*key));
@@ -180,8 +177,7 @@ fn try_map_values_error(rt: HostRuntime) -> Result<(), Fail> {
             }
         };
         let taken = map.try_map_values_into(|key, _| transform(key));
-        assert!(rt; taken.err() == Some(MapError::Closure(failed_key)));
-        assert_eq!(rt; visited, expected);
+        assert!(rt; taken.err() == Some(MapError::Closure(failed_key)) && visited == expected);
     }
     Ok(())
 }

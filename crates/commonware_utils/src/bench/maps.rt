@@ -1,10 +1,9 @@
 //! Maps: look-ups, edits, texts, and what is written and read.
-use super::read;
+use super::{hash_of, is_written_as, read};
 use crate::Participant;
-use crate::codec::{EncodeSize, Error, RangeCfg, Write, round_trip};
+use crate::codec::{Error, RangeCfg, round_trip};
 use crate::ordered::{Map, Set, map_fault_law};
-use std::alloc::{AllocError, Allocator, Global};
-use std::hash::{DefaultHasher, Hash, Hasher};
+use std::alloc::Global;
 use std::test::Fail;
 
 const UNSORTED: Error = Error::Invalid("Set", "items must be sorted and unique");
@@ -30,8 +29,12 @@ fn keys_are_found(rt: HostRuntime) -> Result<(), Fail> {
     ] {
         assert!(rt; map.position(&key) == place && map.get_value(&key) == value);
     }
-    assert!(rt; map.get(2) == Some(&9) && map.get(3) == None);
-    assert!(rt; map.value(2) == Some(&90) && map.value(3) == None);
+    assert!(rt;
+        map.get(2) == Some(&9)
+            && map.get(3) == None
+            && map.value(2) == Some(&90)
+            && map.value(3) == None
+    );
     Ok(())
 }
 
@@ -52,8 +55,11 @@ fn map_deref_to_set(rt: HostRuntime) -> Result<(), Fail> {
 #[test]
 fn map_into_keys(rt: HostRuntime) -> Result<(), Fail> {
     let map = map_of(rt.alloc(), &[(3, 7), (1, 7), (2, 8)])?;
-    assert!(rt; map.get_value(&1) == Some(&7) && map.get_value(&3) == Some(&7));
-    assert!(rt; map.into_keys().as_slice() == [1, 2, 3].as_slice());
+    assert!(rt;
+        map.get_value(&1) == Some(&7)
+            && map.get_value(&3) == Some(&7)
+            && map.into_keys().as_slice() == [1, 2, 3].as_slice()
+    );
     Ok(())
 }
 
@@ -80,8 +86,7 @@ fn the_value_of_a_key_is_written(rt: HostRuntime) -> Result<(), Fail> {
     if let Some(value) = map.get_value_mut(&2) {
         *value = 7;
     }
-    assert!(rt; map.get_value_mut(&3) == None);
-    assert!(rt; holds(&map, &[1, 2], &[10, 7]));
+    assert!(rt; map.get_value_mut(&3) == None && holds(&map, &[1, 2], &[10, 7]));
     Ok(())
 }
 
@@ -107,16 +112,12 @@ fn maps_are_shown(rt: HostRuntime) -> Result<(), Fail> {
         format!(in alloc; "{none}")?,
         format!(in alloc; "{one:?}")?,
     );
-    assert!(rt; long.as_str() == "[(1, 10), (2, 20)]" && short.as_str() == "[]");
-    assert!(rt; debug.as_str() == "Map([(1, 10)])");
+    assert!(rt;
+        long.as_str() == "[(1, 10), (2, 20)]"
+            && short.as_str() == "[]"
+            && debug.as_str() == "Map([(1, 10)])"
+    );
     Ok(())
-}
-
-/// The value's hash by the standard hasher.
-fn hash_of<T: Hash>(value: &T) -> u64 {
-    let mut hasher = DefaultHasher::new();
-    value.hash(&mut hasher);
-    hasher.finish()
 }
 
 #[test]
@@ -128,20 +129,6 @@ fn equal_maps_hash_alike(rt: HostRuntime) -> Result<(), Fail> {
         assert!(rt; map != map_of(rt.alloc(), &other)?);
     }
     Ok(())
-}
-
-/// Whether the value is written as these bytes, and its size is their number.
-fn is_written_as<T: Write<A>, A: Allocator>(
-    alloc: A,
-    value: &T,
-    bytes: &[u8],
-) -> Result<bool, AllocError> {
-    let mut sink = Vec::new(alloc);
-    if !value.is_writable() {
-        return Ok(false);
-    }
-    value.write(&mut sink)?;
-    Ok(sink.as_slice() == bytes && value.encode_size() == bytes.len())
 }
 
 #[test]
@@ -204,8 +191,9 @@ fn map_decode(rt: HostRuntime) {
     let short = (RangeCfg::from(0..=10), (), ());
     let valid = b"\x04\x01\x02\x03\x04\x04\x0a\x14\x1e\x28\xff";
     let (result, taken) = read::<Map<u8, u8, _>, _>(rt.alloc(), valid, &short);
-    assert!(rt; taken == 10);
-    assert!(rt; result.is_ok_and(|map| holds(&map, &[1, 2, 3, 4], &[10, 20, 30, 40])));
+    assert!(rt;
+        taken == 10 && result.is_ok_and(|map| holds(&map, &[1, 2, 3, 4], &[10, 20, 30, 40]))
+    );
     for bytes in [
         b"\x04\x01\x02\x02\x03\x04\x0a\x14\x1e\x28",
         b"\x04\x01\x03\x02\x04\x04\x0a\x14\x1e\x28",
@@ -229,6 +217,8 @@ fn what_is_written_is_read(rt: HostRuntime) -> Result<(), Fail> {
 
 #[test]
 fn sizes_are_bounded(rt: HostRuntime) {
-    assert!(rt; Map::<u32, Participant, Global>::max_encode_size(10, 8) == 122);
-    assert!(rt; Map::<u8, u8, Global>::max_encode_size(0, 8) == 2);
+    assert!(rt;
+        Map::<u32, Participant, Global>::max_encode_size(10, 8) == 122
+            && Map::<u8, u8, Global>::max_encode_size(0, 8) == 2
+    );
 }

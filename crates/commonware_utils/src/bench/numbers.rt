@@ -28,11 +28,9 @@ fn varints_are_written_and_read(rt: HostRuntime) -> Result<(), Fail> {
     for (number, bytes) in VARINTS {
         let mut sink = Vec::new(rt.alloc());
         UInt(number).write(&mut sink)?;
-        assert_eq!(rt; sink.as_slice(), bytes, "{number}");
-        assert_eq!(rt; UInt(number).encode_size(), bytes.len(), "{number}");
+        assert!(rt; sink.as_slice() == bytes && UInt(number).encode_size() == bytes.len());
         let (result, taken) = read::<UInt, _>(rt.alloc(), bytes, &());
-        assert_eq!(rt; result?, UInt(number));
-        assert_eq!(rt; taken, bytes.len(), "{number}");
+        assert!(rt; result? == UInt(number) && taken == bytes.len());
     }
     Ok(())
 }
@@ -41,8 +39,7 @@ fn varints_are_written_and_read(rt: HostRuntime) -> Result<(), Fail> {
 fn other_spellings_are_refused(rt: HostRuntime) {
     for bytes in [b"".as_slice(), b"\x80", b"\x80\x80\x80\x80"] {
         let (result, taken) = read::<UInt, _>(rt.alloc(), bytes, &());
-        assert_eq!(rt; result, Err(Error::EndOfBuffer), "{bytes:?}");
-        assert_eq!(rt; taken, 0);
+        assert!(rt; result == Err(Error::EndOfBuffer) && taken == 0);
     }
     for bytes in [
         b"\x80\x00".as_slice(),
@@ -52,17 +49,16 @@ fn other_spellings_are_refused(rt: HostRuntime) {
         b"\x80\x80\x80\x80\x80",
     ] {
         let (result, taken) = read::<UInt, _>(rt.alloc(), bytes, &());
-        assert_eq!(rt; result, Err(Error::InvalidVarint), "{bytes:?}");
-        assert_eq!(rt; taken, 0);
+        assert!(rt; result == Err(Error::InvalidVarint) && taken == 0);
     }
 }
 
 #[test]
 fn what_follows_a_number_is_left(rt: HostRuntime) -> Result<(), Fail> {
     let (result, taken) = read::<UInt, _>(rt.alloc(), b"\x00\x07", &());
-    assert_eq!(rt; (result?, taken), (UInt(0), 1));
+    assert!(rt; result? == UInt(0) && taken == 1);
     let (result, taken) = read::<UInt, _>(rt.alloc(), b"\x80\x80\x80\x80\x0f", &());
-    assert_eq!(rt; (result?, taken), (UInt(4026531840), 5));
+    assert!(rt; result? == UInt(4026531840) && taken == 5);
     Ok(())
 }
 
@@ -72,49 +68,27 @@ fn words_and_numbers_in_a_range(rt: HostRuntime) -> Result<(), Fail> {
     258u32.write(&mut sink)?;
     300usize.write(&mut sink)?;
     7u8.write(&mut sink)?;
-    assert_eq!(rt; sink.as_slice(), b"\x00\x00\x01\x02\xac\x02\x07".as_slice());
-    assert!(rt; 300usize.is_writable());
-    assert_eq!(rt;
-        (
-            7u8.encode_size(),
-            258u32.encode_size(),
-            300usize.encode_size()
-        ),
-        (1, 4, 2)
-    );
-    assert_eq!(rt;
-        read::<u32, _>(rt.alloc(), b"\x00\x00\x01\x02", &()),
-        (Ok(258), 4)
-    );
-    assert_eq!(rt;
-        read::<u32, _>(rt.alloc(), b"\x00\x00\x01", &()),
-        (Err(Error::EndOfBuffer), 0)
-    );
-    assert_eq!(rt; read::<u8, _>(rt.alloc(), b"\x07", &()), (Ok(7), 1));
-    assert_eq!(rt;
-        read::<u8, _>(rt.alloc(), b"", &()),
-        (Err(Error::EndOfBuffer), 0)
+    assert!(rt;
+        sink.as_slice() == b"\x00\x00\x01\x02\xac\x02\x07".as_slice()
+            && 300usize.is_writable()
+            && 7u8.encode_size() == 1
+            && 258u32.encode_size() == 4
+            && 300usize.encode_size() == 2
+            && read::<u32, _>(rt.alloc(), b"\x00\x00\x01\x02", &()) == (Ok(258), 4)
+            && read::<u32, _>(rt.alloc(), b"\x00\x00\x01", &()) == (Err(Error::EndOfBuffer), 0)
+            && read::<u8, _>(rt.alloc(), b"\x07", &()) == (Ok(7), 1)
+            && read::<u8, _>(rt.alloc(), b"", &()) == (Err(Error::EndOfBuffer), 0)
     );
     let up_to_ten = RangeCfg::from(..=10);
-    assert_eq!(rt;
-        read::<usize, _>(rt.alloc(), b"\x0a", &up_to_ten),
-        (Ok(10), 1)
-    );
-    assert_eq!(rt;
-        read::<usize, _>(rt.alloc(), b"\x0b", &up_to_ten),
-        (Err(Error::InvalidLength(11)), 0)
-    );
-    assert_eq!(rt;
-        (4294967295usize.is_writable(), 4294967296usize.is_writable()),
-        (true, false)
-    );
-    assert_eq!(rt;
-        (
-            u8::MAX_ENCODE_SIZE,
-            u32::MAX_ENCODE_SIZE,
-            UInt::MAX_ENCODE_SIZE
-        ),
-        (1, 4, 5)
+    assert!(rt;
+        read::<usize, _>(rt.alloc(), b"\x0a", &up_to_ten) == (Ok(10), 1)
+            && read::<usize, _>(rt.alloc(), b"\x0b", &up_to_ten)
+                == (Err(Error::InvalidLength(11)), 0)
+            && 4294967295usize.is_writable() == true
+            && 4294967296usize.is_writable() == false
+            && u8::MAX_ENCODE_SIZE == 1
+            && u32::MAX_ENCODE_SIZE == 4
+            && UInt::MAX_ENCODE_SIZE == 5
     );
     Ok(())
 }
@@ -128,7 +102,7 @@ fn errors_say_what_is_wrong(rt: HostRuntime) -> Result<(), Fail> {
         (Error::Invalid("Set", "a rule"), "Set: a rule"),
         (Error::Memory, "out of memory"),
     ] {
-        assert_eq!(rt; format!(in rt.alloc(); "{error}")?.as_str(), text);
+        assert!(rt; format!(in rt.alloc(); "{error}")?.as_str() == text);
     }
     Ok(())
 }

@@ -8,14 +8,13 @@ use std::test::Fail;
 #[test]
 fn participants_are_their_index(rt: HostRuntime) {
     for index in [0, 1, 42, u32::MAX] {
-        assert_eq!(rt; Participant::new(index).get(), index);
-        assert_eq!(rt;
-            Participant::from_usize(index as usize),
-            Participant::new(index)
+        assert!(rt;
+            Participant::new(index).get() == index
+                && Participant::from_usize(index as usize) == Participant::new(index)
+                && usize::from(Participant::new(index)) == index as usize
         );
-        assert_eq!(rt; usize::from(Participant::new(index)), index as usize);
     }
-    assert_eq!(rt; Participant::default().get(), 0);
+    assert!(rt; Participant::default().get() == 0);
 }
 
 /// With the test of the Rust crate `test_participant_display`.
@@ -29,10 +28,10 @@ fn participants_are_shown_in_decimal(rt: HostRuntime) -> Result<(), Fail> {
         (4294967295, "4294967295"),
     ] {
         let participant = Participant::new(index);
-        assert_eq!(rt; format!(in alloc; "{participant}")?.as_str(), text);
+        assert!(rt; format!(in alloc; "{participant}")?.as_str() == text);
     }
     let five = Participant::new(5);
-    assert_eq!(rt; format!(in alloc; "{five:?}")?.as_str(), "Participant(5)");
+    assert!(rt; format!(in alloc; "{five:?}")?.as_str() == "Participant(5)");
     Ok(())
 }
 
@@ -48,17 +47,15 @@ fn participants_are_written_as_varints(rt: HostRuntime) -> Result<(), Fail> {
         let participant = Participant::new(index);
         let mut sink = Vec::new(rt.alloc());
         participant.write(&mut sink)?;
-        assert_eq!(rt; sink.as_slice(), bytes, "{index}");
-        assert_eq!(rt; participant.encode_size(), bytes.len(), "{index}");
-        assert!(rt; participant.is_writable());
-        let (again, taken) = read::<Participant, _>(rt.alloc(), bytes, &());
         assert!(rt;
-            matches!(again, Ok(again) if again == participant),
-            "{index}"
+            sink.as_slice() == bytes
+                && participant.encode_size() == bytes.len()
+                && participant.is_writable()
         );
-        assert_eq!(rt; taken, bytes.len());
+        let (again, taken) = read::<Participant, _>(rt.alloc(), bytes, &());
+        assert!(rt; matches!(again, Ok(again) if again == participant) && taken == bytes.len());
     }
-    assert_eq!(rt; Participant::MAX_ENCODE_SIZE, 5);
+    assert!(rt; Participant::MAX_ENCODE_SIZE == 5);
     Ok(())
 }
 
@@ -70,13 +67,9 @@ fn participant_encode_decode(rt: HostRuntime) -> Result<(), Fail> {
         assert!(rt; participant.is_writable());
         let mut encoded = Vec::new(rt.alloc());
         participant.write(&mut encoded)?;
-        assert_eq!(rt; encoded.len(), participant.encode_size(), "{value}");
+        assert!(rt; encoded.len() == participant.encode_size());
         let (decoded, taken) = read::<Participant, _>(rt.alloc(), &encoded, &());
-        assert!(rt;
-            matches!(decoded, Ok(again) if again == participant),
-            "{value}"
-        );
-        assert_eq!(rt; taken, encoded.len(), "{value}");
+        assert!(rt; matches!(decoded, Ok(again) if again == participant) && taken == encoded.len());
     }
     Ok(())
 }
@@ -84,8 +77,10 @@ fn participant_encode_decode(rt: HostRuntime) -> Result<(), Fail> {
 /// The test of the Rust crate `test_participant_ordering`.
 #[test]
 fn participant_ordering(rt: HostRuntime) {
-    assert!(rt; Participant::new(0) < Participant::new(1));
-    assert!(rt; Participant::new(5) < Participant::new(10));
-    assert!(rt; Participant::new(10) > Participant::new(5));
-    assert_eq!(rt; Participant::new(42), Participant::new(42));
+    assert!(rt;
+        Participant::new(0) < Participant::new(1)
+            && Participant::new(5) < Participant::new(10)
+            && Participant::new(10) > Participant::new(5)
+            && Participant::new(42) == Participant::new(42)
+    );
 }

@@ -6,15 +6,19 @@ use std::test::Fail;
 #[test]
 fn members_have_indices(rt: HostRuntime) -> Result<(), Fail> {
     let committee = Set::from_iter_dedup(rt.alloc(), [9u32, 3, 5, 1])?;
-    assert!(rt; committee.key(Participant::new(0)) == Some(&1));
-    assert!(rt; committee.key(Participant::new(2)) == Some(&5));
-    assert!(rt; committee.key(Participant::new(4)) == None);
-    assert!(rt; committee.key(Participant::new(u32::MAX)) == None);
+    assert!(rt;
+        committee.key(Participant::new(0)) == Some(&1)
+            && committee.key(Participant::new(2)) == Some(&5)
+            && committee.key(Participant::new(4)) == None
+            && committee.key(Participant::new(u32::MAX)) == None
+    );
     if committee.len() <= 4 {
-        assert!(rt; committee.index(&5) == Some(Participant::new(2)));
-        assert!(rt; committee.index(&9) == Some(Participant::new(3)));
-        assert!(rt; committee.index(&4) == None);
-        assert!(rt; committee.index(&10) == None);
+        assert!(rt;
+            committee.index(&5) == Some(Participant::new(2))
+                && committee.index(&9) == Some(Participant::new(3))
+                && committee.index(&4) == None
+                && committee.index(&10) == None
+        );
     }
     assert!(rt; committee.len() == 4);
     Ok(())
@@ -23,8 +27,7 @@ fn members_have_indices(rt: HostRuntime) -> Result<(), Fail> {
 #[test]
 fn an_empty_set_has_no_indices(rt: HostRuntime) {
     let committee: Set<u32, _> = Set::empty(rt.alloc());
-    assert!(rt; committee.key(Participant::new(0)) == None);
-    assert!(rt; committee.index(&0) == None);
+    assert!(rt; committee.key(Participant::new(0)) == None && committee.index(&0) == None);
 }
 
 #[test]
@@ -40,9 +43,9 @@ fn a_set_has_the_numbers_of_its_length(rt: HostRuntime) -> Result<(), Fail> {
         assert!(rt; is_committee);
         if is_committee {
             let numbers = (committee.max_faults::<N3f1>(), committee.quorum::<N3f1>());
-            assert!(rt; numbers == thirds, "{last}");
+            assert!(rt; numbers == thirds);
             let numbers = (committee.max_faults::<N5f1>(), committee.quorum::<N5f1>());
-            assert!(rt; numbers == fifths, "{last}");
+            assert!(rt; numbers == fifths);
         }
     }
     Ok(())

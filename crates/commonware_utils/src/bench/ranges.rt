@@ -21,10 +21,10 @@ fn ranges_hold_what_is_between_their_bounds(rt: HostRuntime) {
         (RangeCfg::<usize>::exact(2), &[2], &[1, 3]),
     ] {
         for number in held {
-            assert!(rt; range.contains(number), "{range:?} {number}");
+            assert!(rt; range.contains(number));
         }
         for number in others {
-            assert!(rt; !range.contains(number), "{range:?} {number}");
+            assert!(rt; !range.contains(number));
         }
     }
 }
@@ -39,9 +39,14 @@ fn ranges_that_leave_zero_out_keep_their_bounds(rt: HostRuntime) -> Result<(), F
     assert!(rt; numbers.contains(&0) && numbers.contains(&9) && !numbers.contains(&10));
     let from_one: RangeCfg<NonZeroUsize> = RangeCfg::from(one..ten);
     let numbers = RangeCfg::<usize>::from(from_one);
-    assert!(rt; numbers.contains(&1) && numbers.contains(&9));
-    assert!(rt; !numbers.contains(&0) && !numbers.contains(&10));
-    assert!(rt; from_one.contains(&two) && !from_one.contains(&ten));
+    assert!(rt;
+        numbers.contains(&1)
+            && numbers.contains(&9)
+            && !numbers.contains(&0)
+            && !numbers.contains(&10)
+            && from_one.contains(&two)
+            && !from_one.contains(&ten)
+    );
     let exactly_two = RangeCfg::<NonZeroUsize>::exact(two);
     assert!(rt; exactly_two.contains(&two) && !exactly_two.contains(&one));
     Ok(())

@@ -30,13 +30,13 @@ fn repeats_are_refused_by_each_builder(rt: HostRuntime) -> Result<(), Fail> {
     let alloc = rt.alloc();
     for (list, items) in LISTS {
         let iterated = Set::try_from_iter(alloc, list.iter().copied());
-        assert!(rt; answers(&iterated, items), "{list:?}");
+        assert!(rt; answers(&iterated, items));
         let of_vec = Set::try_from_vec(Vec::from_slice(alloc, list)?);
-        assert!(rt; answers(&of_vec, items), "{list:?}");
+        assert!(rt; answers(&of_vec, items));
         let of_slice = Set::try_from_slice(alloc, list);
-        assert!(rt; answers(&of_slice, items), "{list:?}");
+        assert!(rt; answers(&of_slice, items));
         let collected = TryCollect::try_collect(list.iter().copied(), alloc);
-        assert!(rt; answers(&collected, items), "{list:?}");
+        assert!(rt; answers(&collected, items));
     }
     Ok(())
 }
@@ -45,12 +45,14 @@ fn repeats_are_refused_by_each_builder(rt: HostRuntime) -> Result<(), Fail> {
 fn arrays_are_cloned_into_sets(rt: HostRuntime) {
     let alloc = rt.alloc();
     let (repeated, distinct, none) = ([3u8, 1, 2, 2], [3u8, 1, 2], [0u8; 0]);
-    assert!(rt; answers(&Set::try_from_array_ref(alloc, &repeated), None));
-    assert!(rt; answers(&Set::try_from_array_ref(alloc, &distinct), Some(&[1, 2, 3])));
-    assert!(rt; answers(&Set::try_from_array_ref(alloc, &none), Some(&[])));
-    assert!(rt; answers(&Set::try_from_array(alloc, repeated), None));
-    assert!(rt; answers(&Set::try_from_array(alloc, distinct), Some(&[1, 2, 3])));
-    assert!(rt; answers(&Set::try_from_array(alloc, none), Some(&[])));
+    assert!(rt;
+        answers(&Set::try_from_array_ref(alloc, &repeated), None)
+            && answers(&Set::try_from_array_ref(alloc, &distinct), Some(&[1, 2, 3]))
+            && answers(&Set::try_from_array_ref(alloc, &none), Some(&[]))
+            && answers(&Set::try_from_array(alloc, repeated), None)
+            && answers(&Set::try_from_array(alloc, distinct), Some(&[1, 2, 3]))
+            && answers(&Set::try_from_array(alloc, none), Some(&[]))
+    );
 }
 
 #[test]
@@ -59,8 +61,7 @@ fn sets_of_sets_are_built(rt: HostRuntime) -> Result<(), Fail> {
     let two = Set::try_from_array(alloc, [2u8, 1])?;
     let one = Set::try_from_array(alloc, [1u8])?;
     let nest = Set::try_from_slice(alloc, &[two.clone()?, one.clone()?])?;
-    assert!(rt; nest.len() == 2);
-    assert!(rt; nest[0] == one && nest[1] == two);
+    assert!(rt; nest.len() == 2 && nest[0] == one && nest[1] == two);
     let again = Set::try_from_array(alloc, [1u8, 2])?;
     let refused = Set::try_from_iter(alloc, [two, one, again]);
     assert!(rt; refused.err() == Some(Error::DuplicateKey));
@@ -72,7 +73,7 @@ fn sets_of_sets_are_built(rt: HostRuntime) -> Result<(), Fail> {
 fn set_from_iter_dedup(rt: HostRuntime) -> Result<(), Fail> {
     let set = Set::from_iter_dedup(rt.alloc(), [3u8, 1, 2, 2])?;
     let items: Vec<u8> = set.iter().copied().collect(rt.alloc())?;
-    assert_eq!(rt; items.as_slice(), [1, 2, 3].as_slice());
+    assert!(rt; items.as_slice() == [1, 2, 3].as_slice());
     Ok(())
 }
 
@@ -109,7 +110,7 @@ fn refusals_have_messages(rt: HostRuntime) -> Result<(), Fail> {
         (Error::DuplicateValue, "duplicate value"),
         (Error::Memory, "out of memory"),
     ] {
-        assert_eq!(rt; format!(in rt.alloc(); "{error}")?.as_str(), message);
+        assert!(rt; format!(in rt.alloc(); "{error}")?.as_str() == message);
     }
     Ok(())
 }

@@ -16,21 +16,25 @@ fn equal_items_are_found(rt: HostRuntime) -> Result<(), Fail> {
         (10, None),
         (0, None),
     ] {
-        assert_eq!(rt; set.position(&item), place, "{item}");
+        assert!(rt; set.position(&item) == place);
     }
     let none: Set<u8, Global> = Set::empty(rt.alloc());
-    assert_eq!(rt; none.position(&0), None);
+    assert!(rt; none.position(&0) == None);
     Ok(())
 }
 
 #[test]
 fn ranges_and_positions_are_read(rt: HostRuntime) -> Result<(), Fail> {
     let set = Set::from_iter_dedup(rt.alloc(), [1u8, 3, 5, 9])?;
-    assert!(rt; set.len() == 4);
-    assert_eq!(rt; set.slice(1..3), [3u8, 5].as_slice());
-    assert_eq!(rt; set.slice(2..2), [0u8; 0].as_slice());
-    assert_eq!(rt; set.slice(0..4), set.as_slice());
-    assert_eq!(rt; (set[0], set[2], set[3]), (1, 5, 9));
+    assert!(rt;
+        set.len() == 4
+            && set.slice(1..3) == [3u8, 5].as_slice()
+            && set.slice(2..2) == [0u8; 0].as_slice()
+            && set.slice(0..4) == set.as_slice()
+            && set[0] == 1
+            && set[2] == 5
+            && set[3] == 9
+    );
     Ok(())
 }
 
@@ -38,15 +42,23 @@ fn ranges_and_positions_are_read(rt: HostRuntime) -> Result<(), Fail> {
 fn a_set_is_walked_from_both_ends(rt: HostRuntime) -> Result<(), Fail> {
     let set = Set::from_iter_dedup(rt.alloc(), [5u8, 1, 3])?;
     let mut borrowed = (&set).into_iter();
-    assert_eq!(rt; (borrowed.len(), borrowed.next_back()), (3, Some(&5)));
-    assert_eq!(rt; (borrowed.next(), borrowed.next()), (Some(&1), Some(&3)));
-    assert_eq!(rt; (borrowed.next_back(), borrowed.next()), (None, None));
+    assert!(rt;
+        borrowed.len() == 3
+            && borrowed.next_back() == Some(&5)
+            && borrowed.next() == Some(&1)
+            && borrowed.next() == Some(&3)
+            && borrowed.next_back() == None
+            && borrowed.next() == None
+    );
     let mut items = set.into_iter();
-    assert_eq!(rt; (items.len(), items.next_back()), (3, Some(5)));
-    assert_eq!(rt; (items.next(), items.next()), (Some(1), Some(3)));
-    assert_eq!(rt;
-        (items.len(), items.next_back(), items.next()),
-        (0, None, None)
+    assert!(rt;
+        items.len() == 3
+            && items.next_back() == Some(5)
+            && items.next() == Some(1)
+            && items.next() == Some(3)
+            && items.len() == 0
+            && items.next_back() == None
+            && items.next() == None
     );
     Ok(())
 }
@@ -58,9 +70,9 @@ fn sorted_unique_construct_unseal(rt: HostRuntime) -> Result<(), Fail> {
     let expected = [1u8, 2, 3, 4, 5, 6, 7, 8, 9];
     let sorted = Set::from_iter_dedup(rt.alloc(), case)?;
     let walked: Vec<u8> = sorted.iter().copied().collect(rt.alloc())?;
-    assert_eq!(rt; walked.as_slice(), expected.as_slice());
+    assert!(rt; walked.as_slice() == expected.as_slice());
     let unsealed: Vec<u8> = sorted.into();
-    assert_eq!(rt; unsealed.as_slice(), expected.as_slice());
+    assert!(rt; unsealed.as_slice() == expected.as_slice());
     Ok(())
 }
 
@@ -80,9 +92,9 @@ impl fmt::Display for Example {
 fn sorted_unique_display(rt: HostRuntime) -> Result<(), Fail> {
     let alloc = rt.alloc();
     let sorted = Set::from_iter_dedup(alloc, (1..=9u8).map(Example))?;
-    assert_eq!(rt;
-        format!(in alloc; "{sorted}")?.as_str(),
-        "[ex(1), ex(2), ex(3), ex(4), ex(5), ex(6), ex(7), ex(8), ex(9)]"
+    assert!(rt;
+        format!(in alloc; "{sorted}")?.as_str()
+            == "[ex(1), ex(2), ex(3), ex(4), ex(5), ex(6), ex(7), ex(8), ex(9)]"
     );
     Ok(())
 }
@@ -91,25 +103,21 @@ fn sorted_unique_display(rt: HostRuntime) -> Result<(), Fail> {
 fn sets_have_texts(rt: HostRuntime) -> Result<(), Fail> {
     let alloc = rt.alloc();
     let three = Set::from_iter_dedup(alloc, (1..=3u8).map(Example))?;
-    assert_eq!(rt;
-        format!(in alloc; "{three}")?.as_str(),
-        "[ex(1), ex(2), ex(3)]"
-    );
+    assert!(rt; format!(in alloc; "{three}")?.as_str() == "[ex(1), ex(2), ex(3)]");
     let none: Set<u8, Global> = Set::empty(alloc);
-    assert_eq!(rt;
-        format!(in alloc; "{none} {none:?}")?.as_str(),
-        "[] Set([])"
-    );
+    assert!(rt; format!(in alloc; "{none} {none:?}")?.as_str() == "[] Set([])");
     let one = Set::from_iter_dedup(alloc, [Participant::new(1000)])?;
     let nest = Set::from_iter_dedup(alloc, [one, Set::empty(alloc)])?;
-    assert_eq!(rt; format!(in alloc; "{nest}")?.as_str(), "[[], [1000]]");
+    assert!(rt; format!(in alloc; "{nest}")?.as_str() == "[[], [1000]]");
     Ok(())
 }
 
 #[test]
 fn sizes_are_bounded(rt: HostRuntime) {
-    assert_eq!(rt; Set::<u8, Global>::max_encode_size(0), 1);
-    assert_eq!(rt; Set::<u8, Global>::max_encode_size(3), 4);
-    assert_eq!(rt; Set::<u8, Global>::max_encode_size(200), 202);
-    assert_eq!(rt; Set::<Participant, Global>::max_encode_size(128), 642);
+    assert!(rt;
+        Set::<u8, Global>::max_encode_size(0) == 1
+            && Set::<u8, Global>::max_encode_size(3) == 4
+            && Set::<u8, Global>::max_encode_size(200) == 202
+            && Set::<Participant, Global>::max_encode_size(128) == 642
+    );
 }

@@ -1,11 +1,9 @@
 //! Sets: what is built, written and read.
-use super::read;
+use super::{hash_of, is_written_as, read};
 use crate::Participant;
 use crate::codec::{EncodeSize, Error, RangeCfg, Write, round_trip};
 use crate::ordered::{Set, set_fault_law};
-use std::alloc::{AllocError, Allocator};
 use std::cmp::Ordering;
-use std::hash::{DefaultHasher, Hash, Hasher};
 use std::test::Fail;
 
 const UNSORTED: Error = Error::Invalid("Set", "items must be sorted and unique");
@@ -13,40 +11,26 @@ const UNSORTED: Error = Error::Invalid("Set", "items must be sorted and unique")
 #[test]
 fn equal_items_count_once(rt: HostRuntime) -> Result<(), Fail> {
     let set = Set::from_iter_dedup(rt.alloc(), [1u32, 3, 2, 5, 4, 3, 1, 7, 9, 6, 8, 4])?;
-    assert_eq!(rt; set.as_slice(), [1, 2, 3, 4, 5, 6, 7, 8, 9].as_slice());
-    assert_eq!(rt; set.len(), 9);
-    assert!(rt; !set.is_empty());
-    assert_eq!(rt;
-        (set.get(0), set.get(8), set.get(9)),
-        (Some(&1), Some(&9), None)
+    assert!(rt;
+        set.as_slice() == [1, 2, 3, 4, 5, 6, 7, 8, 9].as_slice()
+            && set.len() == 9
+            && !set.is_empty()
+            && set.get(0) == Some(&1)
+            && set.get(8) == Some(&9)
+            && set.get(9) == None
     );
     let mut sum = 0u32;
     for item in set.iter() {
         sum = sum.saturating_add(*item);
     }
-    assert_eq!(rt; sum, 45);
+    assert!(rt; sum == 45);
     Ok(())
 }
 
 #[test]
 fn the_empty_set_holds_nothing(rt: HostRuntime) {
     let set: Set<u8, _> = Set::empty(rt.alloc());
-    assert!(rt; set.is_empty());
-    assert_eq!(rt; (set.len(), set.get(0)), (0, None));
-}
-
-/// Whether the value is written as these bytes, and its size is their number.
-fn is_written_as<T: Write<A>, A: Allocator>(
-    alloc: A,
-    value: &T,
-    bytes: &[u8],
-) -> Result<bool, AllocError> {
-    let mut sink = Vec::new(alloc);
-    if !value.is_writable() {
-        return Ok(false);
-    }
-    value.write(&mut sink)?;
-    Ok(sink.as_slice() == bytes && value.encode_size() == bytes.len())
+    assert!(rt; set.is_empty() && set.len() == 0 && set.get(0) == None);
 }
 
 #[test]
@@ -75,8 +59,7 @@ fn texts_that_are_no_set_are_refused(rt: HostRuntime) {
     ] {
         let any = RangeCfg::from(..);
         let (result, taken) = read::<Set<u8, _>, _>(rt.alloc(), bytes, &(any, ()));
-        assert_eq!(rt; result.err(), Some(error), "{bytes:?}");
-        assert_eq!(rt; taken, 0, "{bytes:?}");
+        assert!(rt; result.err() == Some(error) && taken == 0);
     }
     for (bytes, error) in [
         (b"\x04\x01\x03\x02\x04".as_slice(), UNSORTED),
@@ -86,21 +69,18 @@ fn texts_that_are_no_set_are_refused(rt: HostRuntime) {
     ] {
         let few = RangeCfg::from(0..=10);
         let (result, taken) = read::<Set<u8, _>, _>(rt.alloc(), bytes, &(few, ()));
-        assert_eq!(rt; result.err(), Some(error), "{bytes:?}");
-        assert_eq!(rt; taken, 0, "{bytes:?}");
+        assert!(rt; result.err() == Some(error) && taken == 0);
     }
     let none = RangeCfg::from(3..2);
     let (result, taken) = read::<Set<u8, _>, _>(rt.alloc(), b"\x00", &(none, ()));
-    assert_eq!(rt; result.err(), Some(Error::InvalidLength(0)));
-    assert_eq!(rt; taken, 0);
+    assert!(rt; result.err() == Some(Error::InvalidLength(0)) && taken == 0);
 }
 
 #[test]
 fn what_follows_a_set_is_left(rt: HostRuntime) -> Result<(), Fail> {
     let any = RangeCfg::from(..);
     let (set, taken) = read::<Set<u8, _>, _>(rt.alloc(), b"\x02\x05\x09\xff\xff", &(any, ()));
-    assert_eq!(rt; set?.as_slice(), [5, 9].as_slice());
-    assert_eq!(rt; taken, 3);
+    assert!(rt; set?.as_slice() == [5, 9].as_slice() && taken == 3);
     Ok(())
 }
 
@@ -116,8 +96,7 @@ fn sets_of_sets_are_written_and_read(rt: HostRuntime) -> Result<(), Fail> {
     let bytes = b"\x04\x00\x01\x01\x02\x01\x02\x01\x02";
     assert!(rt; is_written_as(alloc, &nest, bytes)?);
     let (again, taken) = read::<Set<Set<u8, _>, _>, _>(alloc, bytes, &(any, (any, ())));
-    assert!(rt; again? == nest);
-    assert_eq!(rt; taken, 9);
+    assert!(rt; again? == nest && taken == 9);
     Ok(())
 }
 
@@ -131,13 +110,11 @@ fn the_first_fault_of_a_nest_is_named(rt: HostRuntime) {
     ] {
         let cfg = (any, (any, ()));
         let (result, taken) = read::<Set<Set<u8, _>, _>, _>(rt.alloc(), bytes, &cfg);
-        assert_eq!(rt; result.err(), Some(UNSORTED), "{bytes:?}");
-        assert_eq!(rt; taken, 0, "{bytes:?}");
+        assert!(rt; result.err() == Some(UNSORTED) && taken == 0);
     }
     let cfg = (any, (RangeCfg::from(..=1), ()));
     let (result, taken) = read::<Set<Set<u8, _>, _>, _>(rt.alloc(), b"\x02\x00\x02", &cfg);
-    assert_eq!(rt; result.err(), Some(Error::InvalidLength(2)));
-    assert_eq!(rt; taken, 0);
+    assert!(rt; result.err() == Some(Error::InvalidLength(2)) && taken == 0);
 }
 
 #[test]
@@ -148,10 +125,9 @@ fn sets_nest_three_deep(rt: HostRuntime) -> Result<(), Fail> {
     let cfg = (any, (any, (any, ())));
     let (nest, taken) = read::<Set<Set<Set<u8, _>, _>, _>, _>(alloc, bytes, &cfg);
     let nest = nest?;
-    assert_eq!(rt; (nest.len(), taken), (2, 6));
+    assert!(rt; nest.len() == 2 && taken == 6);
     let (again, left) = round_trip(alloc, &nest, b"\xff", &cfg)?;
-    assert!(rt; again == nest);
-    assert_eq!(rt; left, 1);
+    assert!(rt; again == nest && left == 1);
     Ok(())
 }
 
@@ -160,28 +136,20 @@ fn sets_are_ordered_as_their_lists(rt: HostRuntime) -> Result<(), Fail> {
     let alloc = rt.alloc();
     let short = Set::from_iter_dedup(alloc, [1u8, 2])?;
     let long = Set::from_iter_dedup(alloc, [1u8, 2, 3])?;
-    assert!(rt; short < long);
-    assert_eq!(rt; short.cmp(&long), Ordering::Less);
+    assert!(rt; short < long && short.cmp(&long) == Ordering::Less);
     let high = Set::from_iter_dedup(alloc, [2u8])?;
     let low = Set::from_iter_dedup(alloc, [1u8, 9])?;
-    assert!(rt; high > low);
-    assert!(rt; short != high && short == Set::from_iter_dedup(alloc, [2u8, 1, 2])?);
+    assert!(rt; high > low && short != high && short == Set::from_iter_dedup(alloc, [2u8, 1, 2])?);
     Ok(())
 }
 
 #[test]
 fn equal_sets_hash_alike(rt: HostRuntime) -> Result<(), Fail> {
     let alloc = rt.alloc();
-    let mut states = [
-        DefaultHasher::new(),
-        DefaultHasher::new(),
-        DefaultHasher::new(),
-    ];
-    Set::from_iter_dedup(alloc, [1u8, 2])?.hash(&mut states[0]);
-    Set::from_iter_dedup(alloc, [2u8, 1, 2])?.hash(&mut states[1]);
-    Set::from_iter_dedup(alloc, [1u8, 3])?.hash(&mut states[2]);
-    assert_eq!(rt; states[0].finish(), states[1].finish());
-    assert_ne!(rt; states[0].finish(), states[2].finish());
+    let set = Set::from_iter_dedup(alloc, [1u8, 2])?;
+    let same = Set::from_iter_dedup(alloc, [2u8, 1, 2])?;
+    let other = Set::from_iter_dedup(alloc, [1u8, 3])?;
+    assert!(rt; hash_of(&set) == hash_of(&same) && hash_of(&set) != hash_of(&other));
     Ok(())
 }
 
@@ -189,7 +157,7 @@ fn equal_sets_hash_alike(rt: HostRuntime) -> Result<(), Fail> {
 fn sets_are_debugged_as_their_lists(rt: HostRuntime) -> Result<(), Fail> {
     let alloc = rt.alloc();
     let set = Set::from_iter_dedup(alloc, [2u8, 1])?;
-    assert_eq!(rt; format!(in alloc; "{set:?}")?.as_str(), "Set([1, 2])");
+    assert!(rt; format!(in alloc; "{set:?}")?.as_str() == "Set([1, 2])");
     Ok(())
 }
 

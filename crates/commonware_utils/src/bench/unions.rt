@@ -1,0 +1,107 @@
+//! The root: unions of bytes, sizes, wider numbers and the constants.
+use crate::{
+    GOLDEN_RATIO, MAX_ALLOCATION_BYTES, Widen, golden_ratio_law, max, union, union_unique,
+};
+use std::num::{NonZeroU8, NonZeroU16, NonZeroU32, NonZeroU64};
+use std::test::Fail;
+
+/// With the test of the Rust crate `test_union`.
+#[test]
+fn unions_are_one_text_and_another(rt: HostRuntime) -> Result<(), Fail> {
+    for (a, b, whole) in [
+        (b"".as_slice(), b"".as_slice(), b"".as_slice()),
+        (b"", b"\x01\x02\x03", b"\x01\x02\x03"),
+        (b"\x01\x02\x03", b"", b"\x01\x02\x03"),
+        (
+            b"\x01\x02\x03",
+            b"\x04\x05\x06",
+            b"\x01\x02\x03\x04\x05\x06",
+        ),
+    ] {
+        assert!(rt; union(rt.alloc(), a, b)?.as_slice() == whole);
+    }
+    Ok(())
+}
+
+/// With the tests of the Rust crate `test_union_unique`, `test_union_unique_zero_length` and
+/// `test_union_unique_long_length`.
+#[test]
+fn a_namespace_is_counted(rt: HostRuntime) -> Result<(), Fail> {
+    let long = [b'n'; 256];
+    for (namespace, msg, count) in [
+        (
+            b"namespace".as_slice(),
+            b"message".as_slice(),
+            b"\x09".as_slice(),
+        ),
+        (b"", b"message", b"\x00"),
+        (&long, b"message", b"\x80\x02"),
+        (b"a", b"bc", b"\x01"),
+        (b"ab", b"c", b"\x02"),
+    ] {
+        let text = union_unique(rt.alloc(), namespace, msg)?;
+        let rest = text.strip_prefix(count).ok_or("another count")?;
+        let last = rest.strip_prefix(namespace).ok_or("another namespace")?;
+        assert!(rt; last == msg);
+    }
+    Ok(())
+}
+
+/// With the test of the Rust crate `test_max`.
+#[test]
+fn the_larger_size_is_the_maximum(rt: HostRuntime) {
+    for (a, b, larger) in [
+        (3, 7, 7),
+        (7, 3, 7),
+        (5, 5, 5),
+        (0, 0, 0),
+        (usize::MAX, 0, usize::MAX),
+        (0, usize::MAX, usize::MAX),
+    ] {
+        assert!(rt; max(a, b) == larger);
+    }
+}
+
+/// The number as one of the wider type.
+fn wide<T, N: Widen<T>>(number: N) -> T {
+    number.widen()
+}
+
+#[test]
+fn wider_numbers_are_the_same(rt: HostRuntime) -> Result<(), Fail> {
+    for (n8, n16) in [(1, 1), (200, 513), (u8::MAX, 65535)] {
+        let small = NonZeroU8::new(n8).ok_or("zero")?;
+        let of_small: (u16, u32, u64, u128, usize) = (
+            wide(small),
+            wide(small),
+            wide(small),
+            wide(small),
+            wide(small),
+        );
+        assert!(rt; of_small == (n8 as u16, n8 as u32, n8 as u64, n8 as u128, n8 as usize));
+        let word = NonZeroU16::new(n16).ok_or("zero")?;
+        let of_word: (u32, u64, u128, usize) = (wide(word), wide(word), wide(word), wide(word));
+        assert!(rt; of_word == (n16 as u32, n16 as u64, n16 as u128, n16 as usize));
+    }
+    for (n32, n64) in [(1, 1), (u32::MAX, u64::MAX)] {
+        let long = NonZeroU32::new(n32).ok_or("zero")?;
+        let of_long: (u64, u128) = (wide(long), wide(long));
+        assert!(rt; of_long == (n32 as u64, n32 as u128));
+        let longest = NonZeroU64::new(n64).ok_or("zero")?;
+        assert!(rt;
+            wide::<u128, NonZeroU64>(longest) == n64 as u128
+                && wide::<usize, u32>(n32) == n32 as usize
+                && wide::<u64, usize>(n64 as usize) == n64
+        );
+    }
+    Ok(())
+}
+
+#[test]
+fn the_constants_are_known(rt: HostRuntime) {
+    assert!(rt;
+        MAX_ALLOCATION_BYTES == 0x7fff_ffff_ffff_ffff && GOLDEN_RATIO == 11_400_714_819_323_198_485
+    );
+    golden_ratio_law(1, 2);
+    assert!(rt; GOLDEN_RATIO.wrapping_mul(17_428_512_612_931_826_493) == 1);
+}

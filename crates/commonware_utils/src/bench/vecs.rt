@@ -1,0 +1,225 @@
+//! Lists that are never empty, and bounded queues: rows and vectors.
+use super::{hash_of, is_written_as, read};
+use crate::codec::{Error as CodecError, RangeCfg, round_trip};
+use crate::ordered::{Map, Set};
+use crate::vec::{Bounded, Error, Mutate, NonEmptyVec, non_empty_fault_law};
+use crate::{NZUsize, TryFromIterator, non_empty_vec};
+use std::alloc::Global;
+use std::cmp::Ordering;
+use std::collections::VecDeque;
+use std::num::NonZeroUsize;
+use std::test::Fail;
+
+const EMPTY: CodecError = CodecError::Invalid("NonEmptyVec", "cannot decode empty vector");
+
+/// The list of these bytes.
+fn list_of(alloc: Global, items: &[u8]) -> Result<NonEmptyVec<u8, Global>, Error> {
+    NonEmptyVec::try_from_slice(alloc, items)
+}
+
+/// Whether the queue holds these items.
+fn holds(queue: &VecDeque<u8, Global>, items: &[u8]) -> bool {
+    queue.iter().eq(items.iter())
+}
+
+#[test]
+fn the_oldest_makes_room(rt: HostRuntime) {
+    let mut one = Bounded::new(rt.alloc(), NZUsize!(1));
+    assert!(rt;
+        one.push(5u8) == Ok(None)
+            && one.push(6) == Ok(Some(5))
+            && holds(&one, &[6])
+            && one.capacity().get() == 1
+    );
+    let mut two = Bounded::new(rt.alloc(), NZUsize!(2));
+    assert!(rt;
+        two.pop_front() == None
+            && two.push(1u8) == Ok(None)
+            && two.push(2) == Ok(None)
+            && two.pop_front() == Some(1)
+            && two.push(3) == Ok(None)
+            && two.push(4) == Ok(Some(2))
+            && holds(two.as_ref(), &[3, 4])
+    );
+}
+
+/// The queue of at most so many of the items, the last ones.
+fn queue_of(alloc: Global, capacity: NonZeroUsize, items: &[u8]) -> Bounded<u8, Global> {
+    let mut queue = Bounded::new(alloc, capacity);
+    for item in items {
+        let _ = queue.push(*item);
+    }
+    queue
+}
+
+#[test]
+fn queues_are_compared_with_their_capacity(rt: HostRuntime) -> Result<(), Fail> {
+    let alloc = rt.alloc();
+    let queue = queue_of(alloc, NZUsize!(3), &[1, 2]);
+    let clone = queue.clone()?;
+    assert!(rt;
+        queue == clone
+            && hash_of(&queue) == hash_of(&clone)
+            && queue != queue_of(alloc, NZUsize!(2), &[1, 2])
+            && queue != queue_of(alloc, NZUsize!(3), &[1, 3])
+    );
+    let debug = format!(in alloc; "{queue:?}")?;
+    assert!(rt; debug.as_str() == "Bounded { deque: [1, 2], capacity: 3 }");
+    let items: VecDeque<u8, Global> = clone.into();
+    assert!(rt; holds(&items, &[1, 2]));
+    Ok(())
+}
+
+/// Whether each form answers these items.
+fn forms_answer(alloc: Global, items: &[u8]) -> Result<bool, Fail> {
+    let n = NZUsize!(3);
+    let written = non_empty_vec!(alloc => 4u8; 3)?;
+    let counted = non_empty_vec!(alloc => 4u8; NZUsize!(3))?;
+    let given = non_empty_vec!(alloc => 4u8; @n)?;
+    let whole = non_empty_vec!(@vec![in alloc; 4u8, 4, 4]?);
+    Ok(written.as_slice() == items && counted == written && given == written && whole == written)
+}
+
+#[test]
+fn each_form_of_the_macro_answers_the_list(rt: HostRuntime) -> Result<(), Fail> {
+    assert!(rt; forms_answer(rt.alloc(), &[4, 4, 4])?);
+    Ok(())
+}
+
+#[test]
+fn items_come_in_anywhere(rt: HostRuntime) -> Result<(), Fail> {
+    let mut v = non_empty_vec!(rt.alloc() => 1u8, 2, 3,)?;
+    assert!(rt;
+        v.insert(3, 9) == Ok(())
+            && v.as_slice() == [1, 2, 3, 9].as_slice()
+            && v.insert(0, 8) == Ok(())
+            && v.as_slice() == [8, 1, 2, 3, 9].as_slice()
+    );
+    Ok(())
+}
+
+/// A value that can be cloned and no more.
+#[derive(Clone, Drop)]
+struct Token(u8);
+
+#[test]
+fn items_need_no_more_than_clones(rt: HostRuntime) -> Result<(), Fail> {
+    let alloc = rt.alloc();
+    let mut tokens = NonEmptyVec::try_from_array(alloc, [Token(1), Token(2)])?;
+    tokens.resize(NZUsize!(4), Token(7))?;
+    let numbers = tokens.map(|token| token.0)?;
+    assert!(rt; numbers.as_slice() == [1, 2, 7, 7].as_slice());
+    let mut clone = tokens.clone()?;
+    assert!(rt; clone.pop().is_some_and(|token| token.0 == 7) && clone.len().get() == 3);
+    Ok(())
+}
+
+#[test]
+fn lists_are_ordered_item_by_item(rt: HostRuntime) -> Result<(), Fail> {
+    let alloc = rt.alloc();
+    let (short, long, last) = (
+        list_of(alloc, &[1])?,
+        list_of(alloc, &[1, 1])?,
+        list_of(alloc, &[2])?,
+    );
+    assert!(rt;
+        short < long
+            && long < last
+            && last.cmp(&long) == Ordering::Greater
+            && short != long
+            && hash_of(&short) == hash_of(&short.clone()?)
+    );
+    let two = list_of(alloc, &[1, 2])?;
+    let debug = format!(in alloc; "{two:?}")?;
+    assert!(rt; debug.as_str() == "NonEmptyVec([1, 2])");
+    Ok(())
+}
+
+#[test]
+fn nothing_is_refused(rt: HostRuntime) -> Result<(), Fail> {
+    let alloc = rt.alloc();
+    let none = [0u8; 0];
+    for refusal in [
+        NonEmptyVec::try_from_iter(alloc, none).err(),
+        NonEmptyVec::try_from_slice(alloc, &none).err(),
+        NonEmptyVec::try_from_array(alloc, none).err(),
+        NonEmptyVec::try_from_array_ref(alloc, &none).err(),
+    ] {
+        assert!(rt; refusal == Some(Error::Empty));
+    }
+    for (error, message) in [
+        (
+            Error::Empty,
+            "cannot create NonEmptyVec from empty collection",
+        ),
+        (Error::Memory, "out of memory"),
+    ] {
+        assert!(rt; format!(in alloc; "{error}")?.as_str() == message);
+    }
+    Ok(())
+}
+
+#[test]
+fn lists_are_written_as_lists(rt: HostRuntime) -> Result<(), Fail> {
+    let alloc = rt.alloc();
+    non_empty_fault_law::<u8, _>(alloc, RangeCfg::from(..), &());
+    assert!(rt; is_written_as(alloc, &list_of(alloc, &[1, 2, 3])?, b"\x03\x01\x02\x03")?);
+    let items = [list_of(alloc, &[1, 1])?, list_of(alloc, &[1])?];
+    let set = Set::from_iter_dedup(alloc, items)?;
+    assert!(rt; is_written_as(alloc, &set, b"\x02\x01\x01\x02\x01\x01")?);
+    let map = Map::from_iter_dedup(alloc, [(list_of(alloc, &[7])?, list_of(alloc, &[8, 9])?)])?;
+    assert!(rt; is_written_as(alloc, &map, b"\x01\x01\x07\x01\x02\x08\x09")?);
+    Ok(())
+}
+
+#[test]
+fn empty_lists_are_refused_by_their_range_first(rt: HostRuntime) {
+    let none = RangeCfg::from(NZUsize!(3)..NZUsize!(3));
+    for (bytes, error) in [
+        (b"\x00".as_slice(), CodecError::InvalidLength(0)),
+        (b"\x80", CodecError::EndOfBuffer),
+    ] {
+        let (result, taken) = read::<NonEmptyVec<u8, _>, _>(rt.alloc(), bytes, &(none, ()));
+        assert!(rt; result.err() == Some(error) && taken == 0);
+    }
+}
+
+#[test]
+fn faults_of_a_nest_come_in_order(rt: HostRuntime) {
+    let any = RangeCfg::from(..);
+    for (bytes, error) in [
+        (b"\x02\x01\x07\x00".as_slice(), EMPTY),
+        (b"\x02\x00\x80", EMPTY),
+        (b"\x02\x01\x07\x80", CodecError::EndOfBuffer),
+    ] {
+        let (result, taken) = read::<NonEmptyVec<NonEmptyVec<u8, _>, _>, _>(
+            rt.alloc(),
+            bytes,
+            &(any, (any, ())),
+        );
+        assert!(rt; result.err() == Some(error) && taken == 0);
+    }
+}
+
+#[test]
+fn what_is_written_is_read(rt: HostRuntime) -> Result<(), Fail> {
+    let alloc = rt.alloc();
+    let cfg = (RangeCfg::from(NZUsize!(1)..=NZUsize!(10)), ());
+    let (v, taken) = read::<NonEmptyVec<u8, _>, _>(alloc, b"\x03\x01\x02\x03\xff", &cfg);
+    let v = v?;
+    assert!(rt; v.as_slice() == [1, 2, 3].as_slice() && taken == 4);
+    let (again, left) = round_trip(alloc, &v, b"\xff\xff", &cfg)?;
+    assert!(rt; again == v && left == 2);
+    Ok(())
+}
+
+#[test]
+fn what_stands_inside_is_changed(rt: HostRuntime) -> Result<(), Fail> {
+    let mut v = non_empty_vec!(rt.alloc() => 3u8, 1, 2, 1)?;
+    let left = v.mutate(|items| {
+        items.truncate(2);
+        items.len()
+    });
+    assert!(rt; left == 2 && v.as_slice() == [3, 1].as_slice());
+    Ok(())
+}

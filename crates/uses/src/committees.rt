@@ -1,0 +1,24 @@
+//! Modules `ordered` and `faults`: how many members of a committee have to sign, and who they are.
+ghost use Rattle.std.specs.Prelude.{◌≡◌, ◌+◌, ◌-◌, ◌/◌, IfSome, length};
+
+use commonware_utils::faults::Faults;
+use commonware_utils::ordered::{Quorum, Set};
+use commonware_utils::{N3f1, Participant};
+use std::alloc::Global;
+
+/// How many members have to sign, or `None` where there are none, or more than fit a `u32`: all but the third part of the
+/// others, rounded down.
+pub fn signatures_needed(members: &Set<u32, Global>) -> Option<u32>
+    ensures { IfSome result (λ needed. needed + (length members.now - 1) / 3 ≡ length members.now) }
+{
+    let count = members.len();
+    if count == 0 || count > 4294967295 {
+        return None;
+    }
+    Some(N3f1::quorum(count))
+}
+
+/// Whether the member with this index is this one.
+pub fn is_member(members: &Set<u32, Global>, index: Participant, member: u32) -> bool {
+    members.key(index) == Some(&member)
+}

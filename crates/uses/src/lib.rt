@@ -1,0 +1,16 @@
+//! The library as a user calls it, who names `commonware_utils` alone: a file a module, and each form of each macro.
+#![tactic(auto)]
+
+mod committees;
+#[cfg(test)]
+mod macros;
+mod messages;
+mod queues;
+mod registries;
+mod roots;
+
+pub use committees::{is_member, signatures_needed};
+pub use messages::{read_members, write_members};
+pub use queues::{doubled, highest, keep_the_first, remember};
+pub use registries::{owner, powers};
+pub use roots::{room, signed_text};

@@ -1,0 +1,40 @@
+//! Each form of each macro.
+use commonware_utils::vec::NonEmptyVec;
+use commonware_utils::{NZU8, NZU16, NZU32, NZU64, NZUsize, non_empty_vec};
+use std::alloc::Global;
+use std::test::Fail;
+
+#[test]
+fn numbers_that_are_not_zero(rt: HostRuntime) {
+    assert!(rt;
+        NZUsize!(3).get() == 3
+            && NZU8!(255).get() == 255
+            && NZU16!(65535).get() == 65535
+            && NZU32!(7).get() == 7
+            && NZU64!(9).get() == 9
+    );
+}
+
+#[test]
+fn lists_of_the_items_written(rt: HostRuntime) -> Result<(), Fail> {
+    let alloc = rt.alloc();
+    let plain: NonEmptyVec<u8, Global> = non_empty_vec!(alloc => 4, 4, 4)?;
+    let with_a_comma = non_empty_vec!(alloc => 4, 4, 4,)?;
+    assert!(rt; plain.as_slice() == [4, 4, 4].as_slice() && plain == with_a_comma);
+    let inner = vec![in alloc; 4, 4, 4]?;
+    assert!(rt; plain == non_empty_vec!(@inner));
+    Ok(())
+}
+
+#[test]
+fn lists_of_one_item_many_times(rt: HostRuntime) -> Result<(), Fail> {
+    let alloc = rt.alloc();
+    let counted: NonEmptyVec<u8, Global> = non_empty_vec!(alloc => 4; 3)?;
+    let by_macro = non_empty_vec!(alloc => 4; NZUsize!(3))?;
+    let count = NZUsize!(3);
+    let by_number = non_empty_vec!(alloc => 4; @count)?;
+    assert!(rt;
+        counted.as_slice() == [4, 4, 4].as_slice() && counted == by_macro && by_macro == by_number
+    );
+    Ok(())
+}
