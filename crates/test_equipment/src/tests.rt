@@ -2,9 +2,13 @@
 
 mod bounds;
 mod failing_devices;
+mod refused_bimaps;
 mod refused_builders;
+mod refused_maps;
 mod refused_memory;
+mod refused_unions;
 mod refused_value_maps;
+mod refused_vectors;
 mod sessions;
 
 use crate::{ScriptedReader, ScriptedWriter, WriteFault};
