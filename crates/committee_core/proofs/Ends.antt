@@ -1,7 +1,7 @@
 -- Sub-sets at the two ends of the positions.
 use Rattle.std.proofs.Common.{◌≡◌, ℕ, ◌-◌, ap, ◌∙◌}
 use Rattle.std.proofs.Math.Path.{ap₂}
-use Rattle.commonware_base.specs.Subsets.{shared}
+use Rattle.commonware_faults.specs.Subsets.{shared}
 use Rattle.committee_core.specs.Refutations.{subset_of, counted, ends}
 use Rattle.committee_core.specs.declared.ranges.Refutation.{Refutation}
 

@@ -1,6 +1,6 @@
 -- The numbers of the fault models, by counting.
 use Rattle.std.specs.Prelude.{ℕ}
-use Rattle.commonware_base.specs.Subsets.{Greatest3, Greatest5, LeastM}
+use Rattle.commonware_faults.specs.Subsets.{Greatest3, Greatest5, LeastM}
 
 -- the numbers of n members: the greatest f of each model, and the least m of the second
 -- each is fixed by n: `Greatest3-unique`, `Greatest5-unique` and `LeastM-unique` say that there is one

@@ -1,7 +1,7 @@
 -- Sub-sets at the two ends of the positions.
 use Rattle.std.specs.Prelude.{ℕ, ◌-◌, Bool, List}
 use Rattle.std.specs.declared.ops.Range.{Range}
-use Rattle.commonware_base.specs.Subsets.{places, shared}
+use Rattle.commonware_faults.specs.Subsets.{places, shared}
 use Rattle.committee_core.specs.declared.ranges.Refutation.{Refutation}
 
 -- the sub-set of n positions that a range of them is

@@ -1,6 +1,6 @@
 //! Why no better numbers of the fault models hold: two sub-sets of the positions that share too few.
 ghost use Rattle.std.specs.Prelude.{◌≡◌, ◌+◌, ◌-◌, ◌*◌, ◌<◌, ◌≤◌};
-ghost use Rattle.commonware_base.specs.Subsets.{shared, size};
+ghost use Rattle.commonware_faults.specs.Subsets.{shared, size};
 ghost use Rattle.committee_core.specs.Refutations.{subset_of};
 
 use crate::Refutation;

@@ -1,7 +1,6 @@
 pub mod Bytes
 pub mod Calls
 pub mod Clones
-pub mod Counts
 pub mod Fault
 pub mod ListLaws
 pub mod Lists
@@ -12,9 +11,6 @@ pub mod RangeLaws
 pub mod Refusal
 pub mod Sequence
 pub mod Source
-pub mod SubsetLaws
-pub mod SubsetSizes
-pub mod Subsets
 pub mod Taken
 pub mod Text
 pub mod TextLaws

@@ -4,7 +4,6 @@
 
 pub mod codec;
 mod eq_clone;
-pub mod faults;
 mod golden_ratio;
 mod participant;
 mod sizes;
@@ -13,7 +12,6 @@ mod unions;
 mod widen;
 
 pub use eq_clone::EqClone;
-pub use faults::{Faults, N3f1, N5f1};
 pub use golden_ratio::{GOLDEN_RATIO, golden_ratio_law};
 pub use participant::Participant;
 pub use sizes::{MAX_ALLOCATION_BYTES, max};

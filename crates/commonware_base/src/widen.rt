@@ -23,7 +23,8 @@ impl Widen<u16> for NonZeroU8 {
     ghost wide_number = { λ wide. wide };
 
     fn widen(self) -> u16 {
-        u16::from(self.get())
+        let byte = self.get();
+        u16::from(byte)
     }
 }
 
@@ -33,7 +34,8 @@ impl Widen<u32> for NonZeroU8 {
     ghost wide_number = { λ wide. wide };
 
     fn widen(self) -> u32 {
-        u32::from(self.get())
+        let byte = self.get();
+        u32::from(byte)
     }
 }
 
@@ -43,7 +45,8 @@ impl Widen<u64> for NonZeroU8 {
     ghost wide_number = { λ wide. wide };
 
     fn widen(self) -> u64 {
-        u64::from(self.get())
+        let byte = self.get();
+        u64::from(byte)
     }
 }
 
@@ -53,7 +56,8 @@ impl Widen<u128> for NonZeroU8 {
     ghost wide_number = { λ wide. wide };
 
     fn widen(self) -> u128 {
-        u128::from(self.get())
+        let byte = self.get();
+        u128::from(byte)
     }
 }
 
@@ -63,7 +67,8 @@ impl Widen<usize> for NonZeroU8 {
     ghost wide_number = { λ wide. wide };
 
     fn widen(self) -> usize {
-        usize::from(self.get())
+        let byte = self.get();
+        usize::from(byte)
     }
 }
 
@@ -73,7 +78,8 @@ impl Widen<u32> for NonZeroU16 {
     ghost wide_number = { λ wide. wide };
 
     fn widen(self) -> u32 {
-        u32::from(self.get())
+        let half_word = self.get();
+        u32::from(half_word)
     }
 }
 
@@ -83,7 +89,8 @@ impl Widen<u64> for NonZeroU16 {
     ghost wide_number = { λ wide. wide };
 
     fn widen(self) -> u64 {
-        u64::from(self.get())
+        let half_word = self.get();
+        u64::from(half_word)
     }
 }
 
@@ -93,7 +100,8 @@ impl Widen<u128> for NonZeroU16 {
     ghost wide_number = { λ wide. wide };
 
     fn widen(self) -> u128 {
-        u128::from(self.get())
+        let half_word = self.get();
+        u128::from(half_word)
     }
 }
 
@@ -103,7 +111,8 @@ impl Widen<usize> for NonZeroU16 {
     ghost wide_number = { λ wide. wide };
 
     fn widen(self) -> usize {
-        usize::from(self.get())
+        let half_word = self.get();
+        usize::from(half_word)
     }
 }
 
@@ -113,7 +122,8 @@ impl Widen<u64> for NonZeroU32 {
     ghost wide_number = { λ wide. wide };
 
     fn widen(self) -> u64 {
-        u64::from(self.get())
+        let word = self.get();
+        u64::from(word)
     }
 }
 
@@ -123,7 +133,8 @@ impl Widen<u128> for NonZeroU32 {
     ghost wide_number = { λ wide. wide };
 
     fn widen(self) -> u128 {
-        u128::from(self.get())
+        let word = self.get();
+        u128::from(word)
     }
 }
 
@@ -133,7 +144,8 @@ impl Widen<u128> for NonZeroU64 {
     ghost wide_number = { λ wide. wide };
 
     fn widen(self) -> u128 {
-        u128::from(self.get())
+        let double_word = self.get();
+        u128::from(double_word)
     }
 }
 

@@ -5,11 +5,10 @@ use Rattle.std.specs.Cmp.{IsEquivalence, IsTotalOrder}
 use Rattle.std.specs.Map.{keys_of, values_of, lookup}
 use Rattle.std.specs.Ordering.{is_eq}
 use Rattle.std.specs.declared.cmp.Ordering.{Ordering}
-use Rattle.std.proofs.lemmas.List.Sorted.{IsPermutation-refl}
 use Rattle.std.proofs.lemmas.Map.Entries.{length-keys_of, length-values_of}
 use Rattle.std.proofs.lemmas.Option.{same_Some, slice_get-get_or}
 use Rattle.commonware_ordered.specs.Strict.{IsPlaceOf, IsStrict}
-use Rattle.commonware_ordered.proofs.Whole.{whole_from_strict}
+use Rattle.commonware_ordered.specs.EqualItems.{none_equal_from_strict}
 use Rattle.commonware_ordered.specs.Whole.{HasEqualItems}
 use Rattle.commonware_bimap.specs.Swapped.{swapped}
 
@@ -80,8 +79,7 @@ pub found_both_ways : {K V : Type 0} {cmp : K → K → Ordering} {key_eq : K �
     → (es : List (K × V)) → IsStrict cmp (keys_of es) → ¬ HasEqualItems value_eq (values_of es) → (value : V) (found : Option K) → found ≡ lookup (λ v. value_eq v value) (swapped es) → (key : K)
     → IsSomeAnd found (λ q. key_eq q key ≡ true) ↔ IsSomeAnd (lookup (λ q. key_eq q key) es) (λ v. value_eq v value ≡ true)
 found_both_ways {K} {V} {cmp} {key_eq} total ties key_laws value_eq value_laws es strict no_values value found is key =
-    let keys = keys_of es in
-    let no_keys = (whole_from_strict total ties key_laws.symm keys keys (IsPermutation-refl keys) strict).2 in
+    let no_keys = none_equal_from_strict total ties (keys_of es) strict in
     subst (λ o. IsSomeAnd o (λ q. key_eq q key ≡ true) ↔ IsSomeAnd (lookup (λ q. key_eq q key) es) (λ v. value_eq v value ≡ true)) (sym is) (
       turned key_eq key_laws (λ v. value_eq v value) es no_keys key,
       λ h. turned value_eq value_laws (λ q. key_eq q key) (swapped es) (subst (λ l. ¬ HasEqualItems value_eq l) (sym (keys_of-swapped es)) no_values) value

@@ -4,18 +4,18 @@ use Rattle.std.specs.Map.{keys_of, values_of}
 use Rattle.std.proofs.Common.{inl, inr, sym, ◌∙◌, refl}
 use Rattle.std.proofs.lemmas.Bool.{and_parts}
 use Rattle.std.specs.Cmp.{IsEquivalence, IsTotalOrder}
-use Rattle.std.specs.Cmp.Lexicographic.{lists_equiv, pointwise}
+use Rattle.std.specs.Cmp.Lexicographic.{pointwise}
 use Rattle.std.specs.Ordering.{is_eq}
 use Rattle.std.specs.declared.cmp.Ordering.{Ordering}
 use Rattle.commonware_base.specs.Range.{Bounds}
 use Rattle.commonware_base.specs.Fault.{Fault}
 use Rattle.commonware_base.specs.Text.{Accepts, IsPrefixFree, ReadLaws, CanonicalLaws}
+use Rattle.commonware_ordered.specs.EqualItems.{equal_items_back, equal_items_or_none, equal_items_same}
 use Rattle.commonware_ordered.specs.MapLaws.{map_canonical, map_laws, map_prefix_free}
 use Rattle.commonware_ordered.specs.Maps.{map_enc, IsAllowedMap, IsWritableMap, MapFault}
 use Rattle.commonware_ordered.specs.Pairs.{are_equal_pairs, equal_by_parts}
 use Rattle.commonware_ordered.specs.Whole.{HasEqualItems}
 use Rattle.commonware_bimap.specs.BiMaps.{IsWritableBiMap, BeginsRepeated, repeated_fault, BiMapFault, bad_map, bad_values, bimap_cut, at_map, at_values}
-use Rattle.commonware_bimap.specs.EqualItems.{equal_items_or_none, equal_items_same}
 
 module _ {K V : Type 0} (key_eq : K → K → Bool) (value_eq : V → V → Bool) (value_equiv : IsEquivalence value_eq) where
   -- of two equal maps both have equal values, or neither
@@ -28,7 +28,7 @@ module _ {K V : Type 0} (key_eq : K → K → Bool) (value_eq : V → V → Bool
   pub repeated_back : (m n : List (K × V)) → are_equal_pairs key_eq value_eq m n ≡ true → HasEqualItems value_eq (values_of n) → HasEqualItems value_eq (values_of m)
   repeated_back m n e =
       let parts = and_parts (pointwise key_eq (keys_of m) (keys_of n)) (pointwise value_eq (values_of m) (values_of n)) (sym (equal_by_parts key_eq value_eq m n) ∙ e) in
-      equal_items_same value_eq value_equiv (values_of n) (values_of m) ((lists_equiv value_equiv).symm (values_of n) (values_of m) ∙ parts.1)
+      equal_items_back value_eq value_equiv (values_of m) (values_of n) parts.1
 
 module _ {K V : Type 0} (ek : K → List ℕ) (WK : K → Type 0) (cmp : K → K → Ordering) (key_prefix_free : IsPrefixFree ek WK) (ev : V → List ℕ) (WV : V → Type 0) (value_prefix_free : IsPrefixFree ev WV) where
   -- no bimap begins another

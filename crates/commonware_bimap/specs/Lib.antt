@@ -1,5 +1,4 @@
 pub mod BiMapLaws
 pub mod BiMaps
-pub mod EqualItems
 pub mod Swapped
 pub mod WholeBiMaps

@@ -1,7 +1,6 @@
 -- A look-up by the place of a key.
-use Rattle.std.proofs.Common.{◌≡◌, ℕ, zero, suc, ◌<◌, Bool, true, false, cond, List, [], ◌∷◌, length, get_or, Some, None, Option, refl, ap, sym, ◌∙◌, arith}
+use Rattle.std.proofs.Common.{◌≡◌, ℕ, zero, suc, ◌<◌, Bool, true, false, cond, List, [], ◌∷◌, length, get_or, Some, Option, refl, ap, sym, ◌∙◌, arith}
 use Rattle.std.specs.Prelude.{◌↔◌, slice_get}
-use Rattle.std.specs.List.{All}
 use Rattle.std.specs.Map.{keys_of, values_of, lookup, set_value}
 use Rattle.std.proofs.lemmas.Option.{slice_get-get_or, same_Some}
 use Rattle.commonware_ordered.specs.Lends.{set_value_at}
@@ -33,11 +32,6 @@ module _ {K V : Type 0} (test : K → Bool) where
   -- the value at the one place whose key passes is what the look-up finds
   pub lookup_at : (d : K) (es : List (K × V)) (i : ℕ) (v : V) → i < length (keys_of es) → test (get_or (keys_of es) i d) ≡ true → IsOnlyPlace test (keys_of es) (Some i) → v ≡ get_or (values_of es) i v → Some v ≡ lookup test es
   lookup_at d es i v inside passes only is = at_place es i d v inside passes (λ k. earlier_fails test (keys_of es) i inside only k d) is
-
-  -- where no key passes, the look-up finds none
-  pub lookup_none : (es : List (K × V)) → All (λ k. test k ≡ false) (keys_of es) → lookup test es ≡ None
-  lookup_none [] h = refl
-  lookup_none (e ∷ es) h = ap (λ b. cond b (Some e.1) (lookup test es)) (h zero e.0 (omega arith)) ∙ lookup_none es (λ k d high. h (suc k) d (omega arith))
 
   set_at_place : (es : List (K × V)) (i : ℕ) (d : K) (w : V) → i < length (keys_of es) → test (get_or (keys_of es) i d) ≡ true
       → ((k : ℕ) → k < i → test (get_or (keys_of es) k d) ≡ false) → set_value_at es i w ≡ set_value test es w

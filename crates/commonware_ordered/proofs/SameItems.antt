@@ -10,12 +10,12 @@ use Rattle.std.specs.declared.cmp.Ordering.{Ordering}
 use Rattle.std.specs.declared.cmp.Ordering.TheVariants.{Less, Equal, Greater}
 use Rattle.std.proofs.lemmas.Cmp.{alike_right}
 use Rattle.std.proofs.lemmas.List.Folds.{Any-from_list_any, list_any_at}
-use Rattle.std.proofs.lemmas.Map.Keys.{sorted_head, sorted_tail, sorted_from_all_adjacent}
+use Rattle.std.proofs.lemmas.Map.Keys.{sorted_head, sorted_tail}
 use Rattle.std.proofs.lemmas.Map.Steps.{list_any_congr}
 use Rattle.std.proofs.lemmas.Map.Views.{list_any-from_Contains}
 use Rattle.std.proofs.lemmas.Option.{get_or_from_slice_get, slice_get_within}
 use mathlib.Core.Bool.{true≢false}
-use Rattle.commonware_ordered.specs.Strict.{IsStrict}
+use Rattle.commonware_ordered.specs.StrictLaws.{sorted_from_strict}
 use Rattle.commonware_ordered.specs.Dedup.{IsDedup, HaveSameItems, EqualsSameItems}
 use Rattle.commonware_ordered.proofs.First.{find_congr, found_if_passes, found_passes, kept_from_find}
 
@@ -39,12 +39,6 @@ same_items_from_IsDedup {X} {eq} laws l r d q = both_ways (list_any (eq q) r) (l
             list_any_congr laws q w r level ∙ list_any-from_Contains laws w r ((d.kept w).1 (kept_from_find laws l w (sym (find_congr laws q w l level) ∙ e)))
 
 module _ {X : Type 0} {cmp : X → X → Ordering} (o : IsTotalOrder cmp) where
-  -- each item of a strict list is less than all that follow it
-  pub sorted_from_strict : (xs : List X) → IsStrict cmp xs → IsStrictlySortedBy cmp xs
-  unfolding IsStrictlySortedBy
-  sorted_from_strict [] s = tt
-  sorted_from_strict (x ∷ xs) s = sorted_from_all_adjacent o (x ∷ xs) x (λ k h. s k x h)
-
   -- what is less than all items that x is less than is not among them
   absent : (q x : X) → ((y : X) → cmp x y ≡ Less → cmp q y ≡ Less) → (ys : List X) → AllByRecursion (λ y. cmp x y ≡ Less) ys → list_any (eq_by_cmp cmp q) ys ≡ false
   absent q x f [] a = refl
@@ -115,5 +109,5 @@ module _ {X : Type 0} {cmp : X → X → Ordering} (o : IsTotalOrder cmp) where
       by_order : (l r : List X) → IsDedup (eq_by_cmp cmp) cmp l r → EqualsSameItems (eq_by_cmp cmp) cmp l r
       by_order l r d m s e = (
         λ h q. sym (same l r d q) ∙ (same_items_from_equal r s h q ∙ same m s e q),
-        λ h. equal_from_same_items r s (sorted_from_strict r d.strict) (sorted_from_strict s e.strict) (λ q. same l r d q ∙ (h q ∙ sym (same m s e q))),
+        λ h. equal_from_same_items r s (sorted_from_strict o r d.strict) (sorted_from_strict o s e.strict) (λ q. same l r d q ∙ (h q ∙ sym (same m s e q))),
       )

@@ -15,7 +15,7 @@ empty_from_len [] e = refl
 empty_from_len (x ∷ xs) e = absurd (omega arith)
 
 -- nothing stands beside nothing
-zip_nothing : {X Y : Type 0} (xs : List X) → zip {K = X} {X = Y} xs [] ≡ []
+pub zip_nothing : {X Y : Type 0} (xs : List X) → zip {K = X} {X = Y} xs [] ≡ []
 zip_nothing [] = refl
 zip_nothing (x ∷ xs) = refl
 

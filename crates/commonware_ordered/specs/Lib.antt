@@ -1,5 +1,7 @@
 pub mod Dedup
+pub mod EqualItems
 pub mod Lends
+pub mod Lookups
 pub mod MapLaws
 pub mod Maps
 pub mod Pairs

@@ -1,13 +1,15 @@
--- Strict order can be told of every list, and lists of equal items share it.
+-- Strict order can be told of every list, lists of equal items share it, and it puts each item below all that follow it.
 use Rattle.std.specs.Prelude.{◌≡◌, zero, suc, ◌+◌, ◌⊎◌, Bool, true, List, [], ◌∷◌, refl}
 use Rattle.std.specs.Cmp.{IsTotalOrder, Equal-is}
 use Rattle.std.specs.Cmp.Lexicographic.{pointwise}
+use Rattle.std.specs.List.Sorted.{IsStrictlySortedBy}
 use Rattle.std.specs.Ordering.{is_eq}
 use Rattle.std.specs.declared.cmp.Ordering.{Ordering}
 use Rattle.std.specs.declared.cmp.Ordering.TheVariants.{Less, Equal, Greater}
 use Rattle.std.proofs.Common.{inl, inr, sym, subst, ◌∙◌, arith, get_or}
 use Rattle.std.proofs.lemmas.Bool.{and_parts}
 use Rattle.std.proofs.lemmas.Cmp.{alike_right}
+use Rattle.std.proofs.lemmas.Map.Keys.{sorted_from_all_adjacent}
 use Rattle.commonware_ordered.specs.Strict.{IsStrict}
 
 module _ {T : Type 0} (cmp : T → T → Ordering) where
@@ -57,3 +59,9 @@ module _ {T : Type 0} (cmp : T → T → Ordering) where
         let a = level x y p.0 in
         let b = level z w q.0 in
         strict_cons y w ys (sym (alike_right total z w y b) ∙ sym (total.congr x y z a) ∙ s 0 x (omega arith)) (strict_same (z ∷ xs) (w ∷ ys) p.1 (strict_tail x (z ∷ xs) s))
+
+-- each item of a strict list is less than all that follow it
+pub sorted_from_strict : {T : Type 0} {cmp : T → T → Ordering} → IsTotalOrder cmp → (xs : List T) → IsStrict cmp xs → IsStrictlySortedBy cmp xs
+unfolding IsStrictlySortedBy
+sorted_from_strict total [] s = tt
+sorted_from_strict total (x ∷ xs) s = sorted_from_all_adjacent total (x ∷ xs) x (λ k h. s k x h)

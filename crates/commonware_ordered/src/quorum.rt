@@ -1,11 +1,12 @@
 //! Sets of participants as committees.
 ghost use Rattle.std.specs.Prelude.{◌≡◌, ◌+◌, ◌≤◌, ◌^◌, ◌↔◌, ℕ, List, Some, length, pos, slice_get, true};
 ghost use Rattle.std.specs.Slice.{IsItemAt};
-ghost use Rattle.commonware_base.specs.Counts.{IsCommitteeSize};
+ghost use Rattle.commonware_faults.specs.Counts.{IsCommitteeSize};
 ghost use Rattle.commonware_ordered.specs.Strict.{IsPlaceOf};
 
 use crate::set::Set;
-use commonware_base::{Faults, Participant};
+use commonware_base::Participant;
+use commonware_faults::Faults;
 use std::alloc::Allocator;
 
 /// A committee: its members in order, each with the index that stands for it, and its numbers under a fault model.

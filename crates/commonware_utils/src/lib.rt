@@ -5,11 +5,13 @@
 
 #[cfg(test)]
 mod bench;
+pub mod faults;
 mod macros;
 pub mod ordered;
 pub mod vec;
 
 pub use commonware_base::{
-    EqClone, Faults, GOLDEN_RATIO, MAX_ALLOCATION_BYTES, N3f1, N5f1, Participant, TryCollect,
-    TryFromIterator, Widen, codec, faults, golden_ratio_law, max, union, union_unique,
+    EqClone, GOLDEN_RATIO, MAX_ALLOCATION_BYTES, Participant, TryCollect, TryFromIterator, Widen,
+    codec, golden_ratio_law, max, union, union_unique,
 };
+pub use commonware_faults::{Faults, N3f1, N5f1};

@@ -1,6 +1,6 @@
 use Rattle.std.proofs.Common.{◌+◌, ◌-◌, ◌*◌, ◌/◌, arith}
 use Rattle.std.proofs.lemmas.Grind.{common_steps}
-use Rattle.commonware_base.specs.SubsetLaws.{n3f1_greatest, n5f1_greatest, n5f1_least_m}
+use Rattle.commonware_faults.specs.SubsetLaws.{n3f1_greatest, n5f1_greatest, n5f1_least_m}
 use Rattle.committee_core.proofs.bounds_report.bounds_report.Goals as goal
 
 pub returns : goal.returns

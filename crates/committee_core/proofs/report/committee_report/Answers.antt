@@ -1,6 +1,6 @@
 use Rattle.std.proofs.Common.{◌+◌, ◌-◌, ◌*◌, ◌/◌, length, arith}
 use Rattle.std.proofs.lemmas.Grind.{common_steps}
-use Rattle.commonware_base.specs.SubsetLaws.{n3f1_greatest, n5f1_greatest, n5f1_least_m}
+use Rattle.commonware_faults.specs.SubsetLaws.{n3f1_greatest, n5f1_greatest, n5f1_least_m}
 use Rattle.committee_core.proofs.report.committee_report.Goals as goal
 
 pub returns : goal.returns

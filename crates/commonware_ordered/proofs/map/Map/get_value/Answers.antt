@@ -1,6 +1,7 @@
 use Rattle.std.proofs.Common.{subst, ap, sym, ◌∙◌, ◌≡◌, get_or}
 use Rattle.std.specs.Option.{option_copied}
-use Rattle.commonware_ordered.proofs.Lookups.{lookup_at, lookup_none}
+use Rattle.commonware_ordered.specs.Lookups.{lookup_none}
+use Rattle.commonware_ordered.proofs.Lookups.{lookup_at}
 use Rattle.commonware_ordered.proofs.map.Map.get_value.Goals as goal
 
 pub returns : goal.returns

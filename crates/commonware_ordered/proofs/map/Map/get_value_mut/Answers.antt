@@ -1,6 +1,7 @@
 use Rattle.std.proofs.Common.{sym, refl, inl, arith}
 use Rattle.std.proofs.lemmas.Map.Entries.{length-keys_of}
-use Rattle.commonware_ordered.proofs.Lookups.{lookup_at, lookup_none, set_value_at_place}
+use Rattle.commonware_ordered.specs.Lookups.{lookup_none}
+use Rattle.commonware_ordered.proofs.Lookups.{lookup_at, set_value_at_place}
 use Rattle.commonware_ordered.proofs.map.Map.get_value_mut.Goals as goal
 
 pub value_mut-requires : goal.value_mut-requires

@@ -1,28 +1,22 @@
-use Rattle.std.proofs.Common.{length, ap, refl, sym, ◌∙◌, ◌≡◌, arith}
+use Rattle.std.proofs.Common.{length, ap, refl, sym, ◌∙◌, arith}
 use Rattle.std.proofs.lemmas.Map.Entries.{length-keys_of}
-use Rattle.std.specs.Iterator.Adapters.{zip_second}
-use Rattle.std.specs.List.{zip}
-use Rattle.std.specs.Vec.Iter.{into_iter_items, into_iter_len}
 use Rattle.std.specs.Slice.Iter.{iter_rest}
 use Rattle.commonware_base.specs.Calls.{so_far_all, so_far_more, so_far_none, takes_next}
 use Rattle.commonware_ordered.specs.ValueMaps.{CalledAtPair, TakesPair}
 use Rattle.commonware_ordered.proofs.Calls.{as_many, keys_are, values_are}
-use Rattle.commonware_ordered.proofs.Columns.{zip-parts}
-use Rattle.commonware_ordered.proofs.Walked.{counted_still, pairs_left, walked_all, walked_one}
+use Rattle.commonware_ordered.proofs.Walked.{counted_still, walk_starts, walked_all, walked_one}
 use Rattle.commonware_ordered.proofs.map.Map.map_values_into.Goals as goal
 
 pub loop-key-init : goal.loop-key-init
 loop-key-init g c =
     let columns = c.into_columns-keys.ensures in
-    let values = c.into_columns-keys.result.1 in
     let zipped = c.zip-key-items.ensures in
-    let same = c.into_iter-key-iterator.ensures.into_iter_gives in
-    let whole : pairs_left c.into_iter-key-iterator.result ≡ c.args.self =
-    ap pairs_left same ∙ (λ j. zip ((ap iter_rest zipped.first ∙ c.iter.ensures.rest ∙ columns.0) j) ((zipped.second.0 ∙ columns.1) j)) ∙ zip-parts c.args.self in
+    let start = walk_starts c.args.self _ _ c.into_iter-key-iterator.ensures.into_iter_gives (ap iter_rest zipped.first ∙ c.iter.ensures.rest ∙ columns.0) (zipped.second.0 ∙ columns.1)
+    (zipped.second.1 ∙ c.into_columns-keys.result.1.ok.0 ∙ sym (ap length zipped.second.0)) in
     record {
-      room = omega (arith, ap length whole, c.len.ensures.len, c.in_ok-mapped.ensures.len, c.in_ok-mapped.ensures.exact);
-      calls = so_far_none (CalledAtPair g.F.FnMut) _ _ _ _ c.in_ok-mapped.ensures.items whole;
-      counted = ap (λ s. into_iter_len (zip_second s)) same ∙ zipped.second.1 ∙ values.ok.0 ∙ sym (ap length (ap (λ s. into_iter_items (zip_second s)) same ∙ zipped.second.0));
+      room = omega (arith, ap length start.0, c.len.ensures.len, c.in_ok-mapped.ensures.len, c.in_ok-mapped.ensures.exact);
+      calls = so_far_none (CalledAtPair g.F.FnMut) _ _ _ _ c.in_ok-mapped.ensures.items start.0;
+      counted = start.1;
     }
 
 pub loop-key-preserved : goal.loop-key-preserved

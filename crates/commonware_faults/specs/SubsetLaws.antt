@@ -1,0 +1,169 @@
+-- Which numbers of faults the sizes of sub-sets allow.
+use Rattle.std.proofs.Common.{◌≡◌, inl, inr, ℕ, zero, suc, ◌+◌, ◌-◌, ◌*◌, ◌/◌, ◌<◌, ◌≤◌, Bool, true, false, ◌&&◌, List, [], ◌∷◌, length, refl, ap, sym, ◌∙◌, arith}
+use Rattle.std.proofs.lemmas.Bool.{cases_order}
+use Rattle.commonware_faults.specs.Counts.{GreatestFit}
+use Rattle.commonware_faults.specs.Subsets.{size, shared, places, Overlap, OverlapAtLeast, GreatestFor, Greatest3, Greatest5, LeastM, IsIn, IsOutside, MeetsOutside}
+use Rattle.commonware_faults.specs.SubsetSizes.{size-le-shared, size-places, shared-places, length-passing}
+
+-- sub-sets of sizes a and b share at least a + b - n
+pub Overlap-by_size : (n a b k : ℕ) → k + n ≤ a + b → Overlap n a b k
+Overlap-by_size n a b k h = record {
+  shares = λ xs ys l m s t. omega (arith, size-le-shared xs ys (l ∙ sym m));
+}
+
+-- the first a and the last b of n positions share no more than a + b - n
+pub Overlap-at_ends : (n a b k : ℕ) → a ≤ n → b ≤ n → Overlap n a b k → k ≤ a - (n - b)
+Overlap-at_ends n a b k below_a below_b h =
+    let first = places n 0 a in
+    let last = places n (n - b) n in
+    let size_first : size first ≡ a = omega (arith, size-places n 0 a) in
+    let size_last : size last ≡ b = omega (arith, size-places n (n - b) n) in
+    omega (arith, h.shares first last (length-passing _ n) (length-passing _ n) size_first size_last, shared-places n 0 a (n - b) n)
+
+-- what overlaps at two sizes overlaps at greater ones
+pub Overlap-at_least : (n a b k : ℕ) → a ≤ n → b ≤ n → Overlap n a b k → OverlapAtLeast n a b k
+Overlap-at_least n a b k below_a below_b h = record {
+  shares = λ xs ys l m s t. omega (arith, Overlap-at_ends n a b k below_a below_b h, size-le-shared xs ys (l ∙ sym m));
+}
+
+-- there is one greatest f
+GreatestFor-unique : (needed : ℕ → ℕ) (n f g : ℕ) → GreatestFor needed n f → GreatestFor needed n g → f ≡ g
+GreatestFor-unique needed n f g h k =
+    elim (cases_order f g) [
+      | inl same ↦ same
+      | inr (inl less) ↦ absurd (h.greatest g less k.at_most k.overlaps)
+      | inr (inr more) ↦ absurd (k.greatest f more h.at_most h.overlaps)
+    ]
+
+-- there is one greatest f for which two sub-sets share f + 1
+pub Greatest3-unique : (n f g : ℕ) → Greatest3 n f → Greatest3 n g → f ≡ g
+Greatest3-unique = GreatestFor-unique (λ g. g + 1)
+
+-- there is one greatest f for which two sub-sets share 3f + 1
+pub Greatest5-unique : (n f g : ℕ) → Greatest5 n f → Greatest5 n g → f ≡ g
+Greatest5-unique = GreatestFor-unique (λ g. 3 * g + 1)
+
+-- there is one least m
+pub LeastM-unique : (n f m k : ℕ) → LeastM n f m → LeastM n f k → m ≡ k
+LeastM-unique n f m k h j =
+    elim (cases_order m k) [
+      | inl same ↦ same
+      | inr (inl less) ↦ absurd (j.least m less h.overlaps)
+      | inr (inr more) ↦ absurd (h.least k more j.overlaps)
+    ]
+
+-- the greatest f with 3f + 1 up to n is the greatest f by counting
+pub Greatest3-by_thirds : (n f : ℕ) → 3 * f + 1 ≤ n → n < 3 * f + 4 → Greatest3 n f
+Greatest3-by_thirds n f low high = record {
+  at_most = omega arith;
+  overlaps = Overlap-by_size n (n - f) (n - f) (f + 1) (omega arith);
+  greatest = λ g above within h. omega (arith, Overlap-at_ends n (n - g) (n - g) (g + 1) (omega arith) (omega arith) h);
+}
+
+-- the greatest f with 5f + 1 up to n is the greatest f by counting
+pub Greatest5-by_fifths : (n f : ℕ) → 5 * f + 1 ≤ n → n < 5 * f + 6 → Greatest5 n f
+Greatest5-by_fifths n f low high = record {
+  at_most = omega arith;
+  overlaps = Overlap-by_size n (n - f) (n - f) (3 * f + 1) (omega arith);
+  greatest = λ g above within h. omega (arith, Overlap-at_ends n (n - g) (n - g) (3 * g + 1) (omega arith) (omega arith) h);
+}
+
+-- n is below what the next greater f asks for
+fit_ends : (k n f : ℕ) → GreatestFit k n f → n < k * (f + 1) + 1
+fit_ends k n f h =
+    elim (cases_order (k * (f + 1) + 1) n) [
+      | inl same ↦ absurd (omega (arith, h.greatest (f + 1) (omega (arith, same))))
+      | inr (inl less) ↦ absurd (omega (arith, h.greatest (f + 1) (omega (arith, less))))
+      | inr (inr more) ↦ more
+    ]
+
+-- the greatest f that the division gives is the greatest f by counting
+pub Greatest3-from_fit : (n f : ℕ) → GreatestFit 3 n f → Greatest3 n f
+Greatest3-from_fit n f h = Greatest3-by_thirds n f h.fits (omega (arith, fit_ends 3 n f h))
+
+-- the same of fifths
+pub Greatest5-from_fit : (n f : ℕ) → GreatestFit 5 n f → Greatest5 n f
+Greatest5-from_fit n f h = Greatest5-by_fifths n f h.fits (omega (arith, fit_ends 5 n f h))
+
+-- twice f and one more is the least m by counting
+pub LeastM-by_double : (n f : ℕ) → 2 * f + 1 ≤ n → LeastM n f (2 * f + 1)
+LeastM-by_double n f low = record {
+  at_most = omega arith;
+  overlaps = Overlap-by_size n (n - f) (2 * f + 1) (f + 1) (omega arith);
+  least = λ k below h. omega (arith, Overlap-at_ends n (n - f) k (f + 1) (omega arith) (omega arith) h);
+}
+
+-- with the least m, and f up to n, sub-sets of at least n - f and at least m share f + 1
+pub LeastM-shares : (n f m : ℕ) → f ≤ n → LeastM n f m → OverlapAtLeast n (n - f) m (f + 1)
+LeastM-shares n f m within h = Overlap-at_least n (n - f) m (f + 1) (omega arith) h.at_most h.overlaps
+
+-- a sub-set with more members than another has one outside it
+pub beyond : (large small : List Bool) → length large ≡ length small → size small < size large → (p : ℕ) × IsIn large p × IsOutside small p
+beyond [] [] e h = absurd (omega arith)
+beyond [] (y ∷ ys) e h = absurd (omega arith)
+beyond (x ∷ xs) [] e h = absurd (omega arith)
+beyond (true ∷ xs) (false ∷ ys) e h = (0, refl, refl)
+beyond (true ∷ xs) (true ∷ ys) e h = let r = beyond xs ys (omega arith) (omega arith) in (suc r.0, r.1, r.2)
+beyond (false ∷ xs) (true ∷ ys) e h = let r = beyond xs ys (omega arith) (omega arith) in (suc r.0, r.1, r.2)
+beyond (false ∷ xs) (false ∷ ys) e h = let r = beyond xs ys (omega arith) (omega arith) in (suc r.0, r.1, r.2)
+
+-- the places of both
+both : List Bool → List Bool → List Bool
+both [] ys = []
+both (x ∷ xs) [] = []
+both (x ∷ xs) (y ∷ ys) = (x && y) ∷ both xs ys
+
+-- there are as many places of both as are shared
+size-both : (xs ys : List Bool) → size (both xs ys) ≡ shared xs ys
+unfolding both
+size-both [] ys = refl
+size-both (x ∷ xs) [] = refl
+size-both (true ∷ xs) (true ∷ ys) = ap suc (size-both xs ys)
+size-both (true ∷ xs) (false ∷ ys) = size-both xs ys
+size-both (false ∷ xs) (true ∷ ys) = size-both xs ys
+size-both (false ∷ xs) (false ∷ ys) = size-both xs ys
+
+-- the places of both are places of the same positions
+length-both : (xs ys : List Bool) → length xs ≡ length ys → length (both xs ys) ≡ length xs
+unfolding both
+length-both [] ys e = refl
+length-both (x ∷ xs) [] e = absurd (omega arith)
+length-both (x ∷ xs) (y ∷ ys) e = omega (arith, length-both xs ys (omega arith))
+
+-- a place of both is a place of each
+IsIn-both : (xs ys : List Bool) (p : ℕ) → IsIn (both xs ys) p → IsIn xs p × IsIn ys p
+unfolding both
+IsIn-both [] ys p h = absurd (cc)
+IsIn-both (x ∷ xs) [] p h = absurd (cc)
+IsIn-both (true ∷ xs) (true ∷ ys) zero h = (refl, refl)
+IsIn-both (true ∷ xs) (false ∷ ys) zero h = absurd (cc)
+IsIn-both (false ∷ xs) (y ∷ ys) zero h = absurd (cc)
+IsIn-both (x ∷ xs) (y ∷ ys) (suc p) h = IsIn-both xs ys p h
+
+-- sub-sets that share more than f positions share one outside any f
+pub MeetsOutside-by_overlap : (n q f : ℕ) → q ≤ n → Overlap n q q (f + 1) → MeetsOutside n q f
+MeetsOutside-by_overlap n q f within h = record {
+  meets = λ xs ys zs l m o s t u.
+      let common : f + 1 ≤ shared xs ys = (Overlap-at_least n q q (f + 1) within within h).shares xs ys l m s t in
+      let same : length (both xs ys) ≡ length zs = length-both xs ys (l ∙ sym m) ∙ l ∙ sym o in
+      let more : size zs < size (both xs ys) = omega (arith, size-both xs ys) in
+      let r = beyond (both xs ys) zs same more in
+      let w = IsIn-both xs ys r.0 r.1 in
+      (r.0, w.0, w.1, r.2);
+}
+
+-- where 3f + 1 is up to n, two sub-sets of n - f share a position outside any f
+pub MeetsOutside-by_thirds : (n f : ℕ) → 3 * f + 1 ≤ n → MeetsOutside n (n - f) f
+MeetsOutside-by_thirds n f h = MeetsOutside-by_overlap n (n - f) f (omega arith) (Overlap-by_size n (n - f) (n - f) (f + 1) (omega arith))
+
+-- the number of `N3f1` is the greatest f
+pub n3f1_greatest : (n : ℕ) → 1 ≤ n → Greatest3 n ((n - 1) / 3)
+n3f1_greatest n h = Greatest3-by_thirds n ((n - 1) / 3) (omega arith) (omega arith)
+
+-- the number of `N5f1` is the greatest f
+pub n5f1_greatest : (n : ℕ) → 1 ≤ n → Greatest5 n ((n - 1) / 5)
+n5f1_greatest n h = Greatest5-by_fifths n ((n - 1) / 5) (omega arith) (omega arith)
+
+-- the smaller quorum of `N5f1` is the least m
+pub n5f1_least_m : (n : ℕ) → 1 ≤ n → LeastM n ((n - 1) / 5) (2 * ((n - 1) / 5) + 1)
+n5f1_least_m n h = LeastM-by_double n ((n - 1) / 5) (omega arith)

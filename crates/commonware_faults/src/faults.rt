@@ -1,0 +1,128 @@
+//! Fault models of consensus: how many of n participants may be faulty, and how many make a quorum.
+//!
+//! A model answers for every number of participants from 1 to `u32::MAX`, given as a whole number of any type. No call
+//! takes memory. What the numbers of `N3f1` and `N5f1` mean is said by counting: of any two sub-sets of the participants
+//! of such a size, how many participants do they share?
+ghost use Rattle.std.specs.Prelude.{◌≡◌, ℕ, ◌+◌, ◌-◌, ◌*◌, ◌/◌, ◌^◌, ◌<◌, ◌≤◌};
+ghost use Rattle.std.proofs.Common.{arith};
+ghost use Rattle.commonware_faults.specs.Counts.{IsCommitteeSize, GreatestFit, amount};
+ghost use Rattle.commonware_faults.specs.Subsets.{Greatest3, Greatest5, LeastM, MeetsOutside, OverlapAtLeast};
+
+use crate::count::Count;
+
+/// A fault model. Its numbers depend on the number of participants alone.
+pub trait Faults {
+    /// How many of n participants may be faulty.
+    ghost faults: { ℕ → ℕ };
+
+    /// How many of `n` participants may be faulty. `n` is from 1 to `u32::MAX`.
+    fn max_faults<N: Count>(n: N) -> u32
+        requires { IsCommitteeSize (N.number n) }
+        ensures faults { result ≡ faults (amount (N.number n)) }
+        ensures at_most { result ≤ amount (N.number n) };
+
+    /// How many of `n` participants make a quorum: all but as many as may be faulty. `n` is from 1 to `u32::MAX`.
+    fn quorum<N: Count>(n: N) -> u32
+        requires { IsCommitteeSize (N.number n) }
+        ensures { result + faults (amount (N.number n)) ≡ amount (N.number n) }
+    {
+        let n = n.to_u32().unwrap();
+        n - Self::max_faults(n)
+    }
+
+    /// No more may be faulty than there are.
+    ghost at_most: { (n : ℕ) → 1 ≤ n → n < 2 ^ 32 → faults n ≤ n };
+}
+
+/// The model that needs `n >= 3f + 1` participants for f faults: any two quorums share one that isn't faulty. Among 6
+/// participants one may be faulty and 5 are a quorum; among 100, 33 and 67.
+#[derive(Clone, Copy, Debug, Default, PartialEq, Eq)]
+pub struct N3f1;
+
+impl Faults for N3f1 {
+    ghost faults = { λ n. (n - 1) / 3 };
+
+    ghost at_most = { λ n h k. Prim.omega arith };
+
+    /// The greatest f for which `3f + 1` is at most `n`, which is the greatest f for which any two sub-sets of n - f
+    /// participants share at least f + 1. `n` is from 1 to `u32::MAX`.
+    fn max_faults<N: Count>(n: N) -> u32
+        requires { IsCommitteeSize (N.number n) }
+        ensures faults { result ≡ (amount (N.number n) - 1) / 3 }
+        ensures at_most { result ≤ amount (N.number n) }
+        ensures fits { GreatestFit 3 (amount (N.number n)) result }
+        ensures greatest { Greatest3 (amount (N.number n)) result }
+        ensures meets { MeetsOutside (amount (N.number n)) (amount (N.number n) - result) result }
+    {
+        let total = n.to_u32().unwrap();
+        (total - 1) / 3
+    }
+
+    /// All but `max_faults(n)`. Two quorums share a participant outside any sub-set of at most so many. `n` is from 1 to
+    /// `u32::MAX`.
+    fn quorum<N: Count>(n: N) -> u32
+        requires { IsCommitteeSize (N.number n) }
+        ensures value { result + (amount (N.number n) - 1) / 3 ≡ amount (N.number n) }
+        ensures meets { MeetsOutside (amount (N.number n)) result ((amount (N.number n) - 1) / 3) }
+    {
+        let total = n.to_u32().unwrap();
+        total - N3f1::max_faults(total)
+    }
+}
+
+/// The model that needs `n >= 5f + 1` participants for f faults, with a larger and a smaller quorum. Among 10 participants
+/// one may be faulty, 9 are the larger quorum and 3 the smaller one; among 100, 19, 81 and 39.
+#[derive(Clone, Copy, Debug, Default, PartialEq, Eq)]
+pub struct N5f1;
+
+impl Faults for N5f1 {
+    ghost faults = { λ n. (n - 1) / 5 };
+
+    ghost at_most = { λ n h k. Prim.omega arith };
+
+    /// The greatest f for which `5f + 1` is at most `n`, which is the greatest f for which any two sub-sets of n - f
+    /// participants share at least 3f + 1. `n` is from 1 to `u32::MAX`.
+    fn max_faults<N: Count>(n: N) -> u32
+        requires { IsCommitteeSize (N.number n) }
+        ensures faults { result ≡ (amount (N.number n) - 1) / 5 }
+        ensures at_most { result ≤ amount (N.number n) }
+        ensures fits { GreatestFit 5 (amount (N.number n)) result }
+        ensures greatest { Greatest5 (amount (N.number n)) result }
+        ensures meets { MeetsOutside (amount (N.number n)) (amount (N.number n) - result) result }
+    {
+        let total = n.to_u32().unwrap();
+        (total - 1) / 5
+    }
+
+    /// All but `max_faults(n)`. Two quorums share a participant outside any sub-set of at most so many. `n` is from 1 to
+    /// `u32::MAX`.
+    fn quorum<N: Count>(n: N) -> u32
+        requires { IsCommitteeSize (N.number n) }
+        ensures value { result + (amount (N.number n) - 1) / 5 ≡ amount (N.number n) }
+        ensures meets { MeetsOutside (amount (N.number n)) result ((amount (N.number n) - 1) / 5) }
+    {
+        let total = n.to_u32().unwrap();
+        total - N5f1::max_faults(total)
+    }
+}
+
+impl N5f1 {
+    /// The larger quorum of `n` participants, which is `quorum(n)`. `n` is from 1 to `u32::MAX`.
+    pub fn l_quorum<N: Count>(n: N) -> u32
+        requires { IsCommitteeSize (N.number n) }
+        ensures { result + ⟦<N5f1 as Faults>⟧.faults (amount (N.number n)) ≡ amount (N.number n) }
+    {
+        Self::quorum(n)
+    }
+
+    /// The smaller quorum of `n` participants, `2f + 1` for f faults: the least size whose sub-sets share at least f + 1
+    /// participants with each larger quorum. `n` is from 1 to `u32::MAX`.
+    pub fn m_quorum<N: Count>(n: N) -> u32
+        requires { IsCommitteeSize (N.number n) }
+        ensures value { result ≡ 2 * ⟦<N5f1 as Faults>⟧.faults (amount (N.number n)) + 1 }
+        ensures least { LeastM (amount (N.number n)) (⟦<N5f1 as Faults>⟧.faults (amount (N.number n))) result }
+        ensures shares { OverlapAtLeast (amount (N.number n)) (amount (N.number n) - ⟦<N5f1 as Faults>⟧.faults (amount (N.number n))) result (⟦<N5f1 as Faults>⟧.faults (amount (N.number n)) + 1) }
+    {
+        2 * Self::max_faults(n) + 1
+    }
+}

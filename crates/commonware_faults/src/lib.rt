@@ -1,0 +1,9 @@
+//! Fault models of consensus: how many of n participants may be faulty, how many make a quorum, and what that means of
+//! the sub-sets of the participants.
+#![tactic(auto)]
+
+mod count;
+mod faults;
+
+pub use count::Count;
+pub use faults::{Faults, N3f1, N5f1};

@@ -1,0 +1,3 @@
+//! Fault models: how many of n participants may be faulty, and how many make a quorum.
+
+pub use commonware_faults::{Count, Faults, N3f1, N5f1};
