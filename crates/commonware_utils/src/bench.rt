@@ -1,4 +1,5 @@
-//! The worked rows and vectors, through the facade: a file a subject, a table a kind.
+//! The worked rows and vectors, and the tests of the Rust crate under the names that they have there, through the
+//! facade: a file a subject, a table a kind.
 ghost use Rattle.std.specs.Prelude.{IfOk, ◌≡◌, OnErr};
 
 mod bimaps;
@@ -11,6 +12,7 @@ mod map_builders;
 mod map_pairs;
 mod map_values;
 mod maps;
+mod non_zero;
 mod numbers;
 mod participants;
 mod quorums;
@@ -24,7 +26,10 @@ mod vecs;
 
 use crate::codec::{EncodeSize, Error, Read, Source, Write};
 use std::alloc::{AllocError, Allocator};
+use std::cmp::Ordering;
+use std::fmt::{Debug, Display};
 use std::hash::{DefaultHasher, Hash, Hasher};
+use std::test::Fail;
 
 /// What the reader answers for the bytes, and how many of them it took.
 fn read<T: Read<A>, A: Allocator + Copy>(
@@ -38,6 +43,22 @@ fn read<T: Read<A>, A: Allocator + Copy>(
     let mut src = Source::new(bytes);
     let result = T::read_cfg(alloc, &mut src, cfg);
     (result, src.position())
+}
+
+/// Whether each text is refused with the fault beside it, and the source stands where it stood.
+fn refuses<T: Read<A> + Drop, A: Allocator + Copy>(
+    alloc: A,
+    cfg: &T::Cfg,
+    rows: &[(&[u8], Error)],
+) -> bool {
+    for (bytes, fault) in rows {
+        let (result, taken) = read::<T, A>(alloc, bytes, cfg);
+        match result {
+            Err(error) if error == *fault && taken == 0 => {}
+            _ => return false,
+        }
+    }
+    true
 }
 
 /// Whether the value is written as these bytes, and its size is their number.
@@ -54,9 +75,74 @@ fn is_written_as<T: Write<A>, A: Allocator>(
     Ok(sink.as_slice() == bytes && value.encode_size() == bytes.len())
 }
 
+/// What the reader answers for lists of bytes that are written one after the other.
+fn read_lists<T: Read<A>, A: Allocator + Copy>(
+    alloc: A,
+    lists: &[&[u8]],
+    cfg: &T::Cfg,
+) -> Result<Result<T, Error>, AllocError> {
+    let mut sink = Vec::new(alloc);
+    for list in lists {
+        let list = Vec::from_slice(alloc, list)?;
+        if list.is_writable() {
+            list.write(&mut sink)?;
+        }
+    }
+    Ok(read::<T, A>(alloc, &sink, cfg).0)
+}
+
+/// Whether the value, once it is written, is read as an equal one with no byte left.
+fn comes_back<T: Read<A> + Write<A> + PartialEq + Drop, A: Allocator + Copy>(
+    alloc: A,
+    value: &T,
+    cfg: &T::Cfg,
+) -> Result<bool, AllocError> {
+    let mut sink = Vec::new(alloc);
+    if !value.is_writable() {
+        return Ok(false);
+    }
+    value.write(&mut sink)?;
+    let (again, taken) = read::<T, A>(alloc, &sink, cfg);
+    match again {
+        Ok(again) => Ok(again == *value && taken == sink.len()),
+        Err(_) => Ok(false),
+    }
+}
+
+/// Whether the value has this text.
+fn is_shown_as<T: Display, A: Allocator + Copy>(
+    alloc: A,
+    value: &T,
+    text: &str,
+) -> Result<bool, Fail> {
+    Ok(format!(in alloc; "{value}")?.as_str() == text)
+}
+
+/// Whether the value has this text for one who looks for faults.
+fn is_debugged_as<T: Debug, A: Allocator + Copy>(
+    alloc: A,
+    value: &T,
+    text: &str,
+) -> Result<bool, Fail> {
+    Ok(format!(in alloc; "{value:?}")?.as_str() == text)
+}
+
 /// The value's hash by the standard hasher.
 fn hash_of<T: Hash>(value: &T) -> u64 {
     let mut hasher = DefaultHasher::new();
     value.hash(&mut hasher);
     hasher.finish()
+}
+
+/// Whether the two are equal or not, as is said, and so are their hashes.
+fn are_equal<T: Eq + Hash>(a: &T, b: &T, equal: bool) -> bool {
+    (*a == *b) == equal && (hash_of(a) == hash_of(b)) == equal
+}
+
+/// Whether the two stand in this order, by each comparison, and their hashes are equal where they are.
+fn are_ordered<T: Ord + Hash>(a: &T, b: &T, order: Ordering) -> bool {
+    a.cmp(b) == order
+        && (*a < *b) == (order == Ordering::Less)
+        && (*a > *b) == (order == Ordering::Greater)
+        && are_equal(a, b, order == Ordering::Equal)
 }

@@ -1,5 +1,6 @@
 //! Bimaps: what is built and refused, look-ups from both sides, texts, and what is written and read.
-use super::{hash_of, is_written_as, read};
+use super::map_pairs::{gives, lends};
+use super::{are_equal, is_debugged_as, is_shown_as, is_written_as, read, refuses};
 use crate::TryFromIterator;
 use crate::codec::{self, RangeCfg, round_trip};
 use crate::ordered::{BiMap, Error, Map, Set, bimap_fault_law};
@@ -11,6 +12,24 @@ const REPEATED: codec::Error = codec::Error::Invalid(
     "duplicate value detected during deserialization",
 );
 
+/// Pairs, and what refuses them; equal keys come before equal values.
+const LISTS: [([(u8, char); 3], Option<Error>); 3] = [
+    ([(1, 'a'), (2, 'b'), (3, 'a')], Some(Error::DuplicateValue)),
+    ([(1, 'a'), (1, 'b'), (2, 'a')], Some(Error::DuplicateKey)),
+    ([(3, 'c'), (1, 'a'), (2, 'b')], None),
+];
+
+/// Texts that are no bimap of bytes.
+const NO_BIMAPS: [(&[u8], codec::Error); 4] = [
+    (b"\x02\x01\x02\x02\x0a\x0a", REPEATED),
+    (b"\x03\x01\x02\x03\x03\x0a\x14\x0a", REPEATED),
+    (
+        b"\x02\x02\x01\x02\x0a\x0a",
+        codec::Error::Invalid("Set", "items must be sorted and unique"),
+    ),
+    (b"\x02\x01\x02\x02\x0a", codec::Error::EndOfBuffer),
+];
+
 /// {1: a, 2: b, 3: c}
 fn letters(alloc: Global) -> Result<BiMap<u8, char, Global>, Fail> {
     Ok(BiMap::try_from_array(alloc, [(2u8, 'b'), (3, 'c'), (1, 'a')])?)
@@ -21,18 +40,11 @@ fn bimap_of(alloc: Global, pairs: &[(u8, u8)]) -> Result<BiMap<u8, u8, Global>, 
     Ok(BiMap::try_from_slice(alloc, pairs)?)
 }
 
-/// The test of the Rust crate `test_bimap_duplicate_value_error`, by every builder; equal keys come first.
+/// By every builder.
 #[test]
-fn bimap_duplicate_value_error(rt: HostRuntime) -> Result<(), Fail> {
+fn test_bimap_duplicate_value_error(rt: HostRuntime) -> Result<(), Fail> {
     let alloc = rt.alloc();
-    for (pairs, refusal) in [
-        (
-            [(1u8, 'a'), (2, 'b'), (3, 'a')],
-            Some(Error::DuplicateValue),
-        ),
-        ([(1, 'a'), (1, 'b'), (2, 'a')], Some(Error::DuplicateKey)),
-        ([(3, 'c'), (1, 'a'), (2, 'b')], None),
-    ] {
+    for (pairs, refusal) in LISTS {
         let list = Vec::from_slice(alloc, &pairs)?;
         assert!(rt;
             BiMap::try_from_iter(alloc, pairs).err() == refusal
@@ -45,48 +57,74 @@ fn bimap_duplicate_value_error(rt: HostRuntime) -> Result<(), Fail> {
     Ok(())
 }
 
-/// The tests of the Rust crate `test_bimap_no_duplicate_values` and `test_bimap_get_key`.
 #[test]
-fn bimap_get_key(rt: HostRuntime) -> Result<(), Fail> {
+fn test_bimap_no_duplicate_values(rt: HostRuntime) -> Result<(), Fail> {
     let bimap = letters(rt.alloc())?;
-    assert!(rt; bimap.len() == 3 && !bimap.is_empty());
+    assert!(rt;
+        bimap.len() == 3
+            && !bimap.is_empty()
+            && bimap.get_value(&4) == None
+            && bimap.values() == ['a', 'b', 'c'].as_slice()
+    );
     for (place, key, value) in [(0usize, 1u8, 'a'), (1, 2, 'b'), (2, 3, 'c')] {
         assert!(rt;
-            bimap.get_key(&value) == Some(&key)
-                && bimap.get_value(&key) == Some(&value)
+            bimap.get_value(&key) == Some(&value)
                 && bimap.get(place) == Some(&key)
                 && bimap.value(place) == Some(&value)
                 && bimap.position(&key) == Some(place)
         );
     }
-    assert!(rt;
-        bimap.get_key(&'d') == None
-            && bimap.get_value(&4) == None
-            && bimap.values() == ['a', 'b', 'c'].as_slice()
-    );
     Ok(())
 }
 
-/// The tests of the Rust crate `test_bimap_try_from_map` and `test_bimap_try_from_map_duplicate`.
 #[test]
-fn bimap_try_from_map(rt: HostRuntime) -> Result<(), Fail> {
-    let alloc = rt.alloc();
-    let bimap = BiMap::try_from_map(Map::try_from_iter(alloc, [(1u8, "a"), (2, "b"), (3, "c")])?)?;
-    assert!(rt; bimap.len() == 3 && bimap.get_value(&1) == Some(&"a"));
-    let repeated = Map::try_from_iter(alloc, [(1u8, "a"), (2, "b"), (3, "a")])?;
-    assert!(rt; BiMap::try_from_map(repeated).err() == Some(Error::DuplicateValue));
-    let none: Map<u8, u8, _> = Map::empty(alloc);
-    assert!(rt; BiMap::try_from_map(none)? == BiMap::empty(alloc));
+fn test_bimap_get_key(rt: HostRuntime) -> Result<(), Fail> {
+    let bimap = letters(rt.alloc())?;
+    for (value, key) in [
+        ('a', Some(&1)),
+        ('b', Some(&2)),
+        ('c', Some(&3)),
+        ('d', None),
+    ] {
+        assert!(rt; bimap.get_key(&value) == key);
+    }
+    Ok(())
+}
+
+#[test]
+fn test_bimap_try_from_map(rt: HostRuntime) -> Result<(), Fail> {
+    let map = Map::try_from_array(rt.alloc(), [(1u8, 'a'), (2, 'b'), (3, 'c')])?;
+    let bimap = BiMap::try_from_map(map)?;
+    assert!(rt; bimap.len() == 3 && bimap.get_value(&1) == Some(&'a'));
+    Ok(())
+}
+
+#[test]
+fn test_bimap_try_from_map_duplicate(rt: HostRuntime) -> Result<(), Fail> {
+    let map = Map::try_from_array(rt.alloc(), [(1u8, 'a'), (2, 'b'), (3, 'a')])?;
+    assert!(rt; BiMap::try_from_map(map).err() == Some(Error::DuplicateValue));
+    Ok(())
+}
+
+#[test]
+fn the_empty_map_is_a_bimap(rt: HostRuntime) -> Result<(), Fail> {
+    let none: Map<u8, u8, _> = Map::empty(rt.alloc());
+    assert!(rt; BiMap::try_from_map(none)? == BiMap::empty(rt.alloc()));
+    Ok(())
+}
+
+#[test]
+fn bimaps_are_sets_of_keys(rt: HostRuntime) -> Result<(), Fail> {
+    let bimap = letters(rt.alloc())?;
+    let set: &Set<u8, Global> = &bimap;
+    let keys: &Set<u8, Global> = bimap.as_ref();
+    assert!(rt; set == keys && bimap.keys() == keys && bimap.iter().next_back() == Some(&3));
     Ok(())
 }
 
 #[test]
 fn bimaps_are_given_up_in_parts(rt: HostRuntime) -> Result<(), Fail> {
-    let alloc = rt.alloc();
-    let bimap = letters(alloc)?;
-    let set: &Set<u8, Global> = &bimap;
-    let keys: &Set<u8, Global> = bimap.as_ref();
-    assert!(rt; set == keys && bimap.keys() == keys && bimap.iter().next_back() == Some(&3));
+    let bimap = letters(rt.alloc())?;
     let pairs = bimap.clone()?.into_pairs()?;
     assert!(rt;
         pairs.as_slice() == [(1, 'a'), (2, 'b'), (3, 'c')].as_slice()
@@ -95,58 +133,44 @@ fn bimaps_are_given_up_in_parts(rt: HostRuntime) -> Result<(), Fail> {
     Ok(())
 }
 
-/// The lines on bimaps of the test of the Rust crate `test_pair_iterators`.
+/// The lines on bimaps; those on maps stand with the pairs of maps.
 #[test]
-fn pair_iterators(rt: HostRuntime) -> Result<(), Fail> {
+fn test_pair_iterators(rt: HostRuntime) -> Result<(), Fail> {
     let bimap = bimap_of(rt.alloc(), &[(3, 30), (1, 10), (2, 20)])?;
-    let mut pairs = bimap.iter_pairs();
+    let steps = [
+        (false, Some((&1, &10)), 2),
+        (true, Some((&3, &30)), 1),
+        (true, Some((&2, &20)), 0),
+        (false, None, 0),
+        (true, None, 0),
+    ];
     assert!(rt;
-        pairs.len() == 3
-            && pairs.next() == Some((&1, &10))
-            && pairs.len() == 2
-            && pairs.next_back() == Some((&3, &30))
-            && pairs.len() == 1
-            && pairs.next_back() == Some((&2, &20))
-            && pairs.len() == 0
-            && pairs.next() == None
-            && pairs.next_back() == None
+        lends(bimap.iter_pairs(), 3, &steps)
+            && lends((&bimap).into_iter(), 3, &[(true, Some((&3, &30)), 2)])
+            && gives(bimap.into_iter(), 3, &[(true, Some((3, 30)), 2)])
     );
-    let mut walked = (&bimap).into_iter();
-    assert!(rt; walked.next_back() == Some((&3, &30)));
-    let mut given = bimap.into_iter();
-    assert!(rt; given.len() == 3 && given.next_back() == Some((3, 30)));
     Ok(())
 }
 
 #[test]
 fn bimaps_are_shown(rt: HostRuntime) -> Result<(), Fail> {
     let alloc = rt.alloc();
-    let (two, one, none) = (
-        bimap_of(alloc, &[(2, 10), (1, 20)])?,
-        bimap_of(alloc, &[(1, 10)])?,
-        bimap_of(alloc, &[])?,
-    );
-    let (long, short, debug) = (
-        format!(in alloc; "{two}")?,
-        format!(in alloc; "{none}")?,
-        format!(in alloc; "{one:?}")?,
-    );
-    assert!(rt;
-        long.as_str() == "[(1, 20), (2, 10)]"
-            && short.as_str() == "[]"
-            && debug.as_str() == "BiMap([(1, 10)])"
-    );
+    for (pairs, text) in [
+        ([(2, 10), (1, 20)].as_slice(), "[(1, 20), (2, 10)]"),
+        (&[], "[]"),
+    ] {
+        assert!(rt; is_shown_as(alloc, &bimap_of(alloc, pairs)?, text)?);
+    }
+    assert!(rt; is_debugged_as(alloc, &bimap_of(alloc, &[(1, 10)])?, "BiMap([(1, 10)])")?);
     Ok(())
 }
 
 #[test]
 fn equal_bimaps_hash_alike(rt: HostRuntime) -> Result<(), Fail> {
-    let alloc = rt.alloc();
-    let bimap = bimap_of(alloc, &[(2, 20), (1, 10)])?;
-    let clone = bimap.clone()?;
-    assert!(rt; bimap == clone && hash_of(&bimap) == hash_of(&clone));
+    let bimap = bimap_of(rt.alloc(), &[(2, 20), (1, 10)])?;
+    assert!(rt; are_equal(&bimap, &bimap.clone()?, true));
     for other in [[(1, 10), (2, 21)], [(1, 10), (3, 20)], [(1, 20), (2, 10)]] {
-        assert!(rt; bimap != bimap_of(alloc, &other)?);
+        assert!(rt; are_equal(&bimap, &bimap_of(rt.alloc(), &other)?, false));
     }
     Ok(())
 }
@@ -157,29 +181,45 @@ fn bimaps_are_written_as_maps(rt: HostRuntime) -> Result<(), Fail> {
     bimap_fault_law::<u8, u8, _>(alloc, RangeCfg::from(..), &(), &());
     let two = bimap_of(alloc, &[(2, 10), (1, 20)])?;
     assert!(rt; is_written_as(alloc, &two, b"\x02\x01\x02\x02\x14\x0a")?);
-    let mut list = Vec::new(alloc);
-    list.push(BiMap::empty(alloc))?;
-    list.push(bimap_of(alloc, &[(5, 6)])?)?;
-    assert!(rt; is_written_as(alloc, &list, b"\x02\x00\x00\x01\x05\x01\x06")?);
     Ok(())
 }
 
-/// The test of the Rust crate `test_bimap_decode_rejects_duplicate_values` reads the second text.
+/// The list of the bimaps of these pairs.
+fn bimaps_of(alloc: Global, lists: &[&[(u8, u8)]]) -> Result<Vec<BiMap<u8, u8, Global>>, Fail> {
+    let mut bimaps = Vec::new(alloc);
+    for pairs in lists {
+        bimaps.push(bimap_of(alloc, pairs)?)?;
+    }
+    Ok(bimaps)
+}
+
+#[test]
+fn bimaps_stand_in_lists(rt: HostRuntime) -> Result<(), Fail> {
+    let bimaps = bimaps_of(rt.alloc(), &[&[], &[(5, 6)]])?;
+    assert!(rt; is_written_as(rt.alloc(), &bimaps, b"\x02\x00\x00\x01\x05\x01\x06")?);
+    Ok(())
+}
+
+/// Under any range, and under one that all of them keep.
 #[test]
 fn texts_that_are_no_bimap_are_refused(rt: HostRuntime) {
-    for (bytes, error) in [
-        (b"\x02\x01\x02\x02\x0a\x0a".as_slice(), REPEATED),
-        (b"\x03\x01\x02\x03\x03\x0a\x14\x0a", REPEATED),
-        (
-            b"\x02\x02\x01\x02\x0a\x0a",
-            codec::Error::Invalid("Set", "items must be sorted and unique"),
-        ),
-        (b"\x02\x01\x02\x02\x0a", codec::Error::EndOfBuffer),
-    ] {
-        let short = (RangeCfg::from(0..=10), (), ());
-        let (result, taken) = read::<BiMap<u8, u8, _>, _>(rt.alloc(), bytes, &short);
-        assert!(rt; result.err() == Some(error) && taken == 0);
+    for range in [RangeCfg::from(..), RangeCfg::from(0..=10)] {
+        assert!(rt; refuses::<BiMap<u8, u8, _>, _>(rt.alloc(), &(range, (), ()), &NO_BIMAPS));
     }
+}
+
+/// A map that repeats a value is written, and its bytes are refused.
+#[test]
+fn test_bimap_decode_rejects_duplicate_values(rt: HostRuntime) -> Result<(), Fail> {
+    let alloc = rt.alloc();
+    let short = (RangeCfg::from(0..=10), (), ());
+    let map = Map::try_from_array(alloc, [(1u8, 10u8), (2, 20), (3, 10)])?;
+    let bytes = b"\x03\x01\x02\x03\x03\x0a\x14\x0a".as_slice();
+    assert!(rt;
+        is_written_as(alloc, &map, bytes)?
+            && refuses::<BiMap<u8, u8, _>, _>(alloc, &short, &[(bytes, REPEATED)])
+    );
+    Ok(())
 }
 
 #[test]

@@ -19,23 +19,23 @@ fn clones_equal<T: EqClone>(value: &T) -> Result<bool, AllocError>
 fn numbers_and_texts_equal_their_clones(rt: HostRuntime) -> Result<(), Fail> {
     let alloc = rt.alloc();
     assert!(rt;
-        clones_equal(&1u8)?
-            && clones_equal(&2u16)?
-            && clones_equal(&3u32)?
-            && clones_equal(&4u64)?
-            && clones_equal(&5u128)?
-            && clones_equal(&6usize)?
-            && clones_equal(&-1i8)?
-            && clones_equal(&-2i16)?
-            && clones_equal(&-3i32)?
-            && clones_equal(&-4i64)?
-            && clones_equal(&-5i128)?
-            && clones_equal(&-6isize)?
-            && clones_equal(&'c')?
-            && clones_equal(&"text")?
-            && clones_equal(&String::from_str(alloc, "text")?)?
-            && clones_equal(&UInt(300))?
-            && clones_equal(&Participant::new(300))?
+        clones_equal(&1u8) == Ok(true)
+            && clones_equal(&2u16) == Ok(true)
+            && clones_equal(&3u32) == Ok(true)
+            && clones_equal(&4u64) == Ok(true)
+            && clones_equal(&5u128) == Ok(true)
+            && clones_equal(&6usize) == Ok(true)
+            && clones_equal(&-1i8) == Ok(true)
+            && clones_equal(&-2i16) == Ok(true)
+            && clones_equal(&-3i32) == Ok(true)
+            && clones_equal(&-4i64) == Ok(true)
+            && clones_equal(&-5i128) == Ok(true)
+            && clones_equal(&-6isize) == Ok(true)
+            && clones_equal(&'c') == Ok(true)
+            && clones_equal(&"text") == Ok(true)
+            && clones_equal(&String::from_str(alloc, "text")?) == Ok(true)
+            && clones_equal(&UInt(300)) == Ok(true)
+            && clones_equal(&Participant::new(300)) == Ok(true)
     );
     Ok(())
 }

@@ -1,6 +1,7 @@
 //! Fault models: their numbers, for numbers of participants of every type.
 ghost use Rattle.std.proofs.Common.{arith};
 
+use super::is_debugged_as;
 use crate::faults::Count;
 use crate::{Faults, N3f1, N5f1};
 use std::test::Fail;
@@ -36,106 +37,116 @@ const NUMBERS: [(u32, (u32, u32), (u32, u32, u32)); 23] = [
     ),
 ];
 
-/// f and the quorum of a model for n participants, of whom there is one at least.
-fn numbers_of<M: Faults>(n: u32) -> Option<(u32, u32)> {
-    if n == 0 {
-        return None;
+/// f and the quorum of a model for so many participants, of whom there is one at least.
+fn numbers_of<M: Faults, N: Count + Copy>(n: N) -> Option<(u32, u32)> {
+    match n.to_u32() {
+        Some(1..) => Some((M::max_faults(n), M::quorum(n))),
+        _ => None,
     }
-    Some((M::max_faults(n), M::quorum(n)))
 }
 
-/// f, the larger and the smaller quorum of `N5f1` for n participants, of whom there is one at least.
-fn quorums_of(n: u32) -> Option<(u32, u32, u32)> {
-    if n == 0 {
-        return None;
+/// f, the larger and the smaller quorum of `N5f1` for so many participants, of whom there is one at least.
+fn quorums_of<N: Count + Copy>(n: N) -> Option<(u32, u32, u32)> {
+    match n.to_u32() {
+        Some(1..) => Some((N5f1::max_faults(n), N5f1::l_quorum(n), N5f1::m_quorum(n))),
+        _ => None,
     }
-    Some((N5f1::max_faults(n), N5f1::l_quorum(n), N5f1::m_quorum(n)))
 }
 
-/// With the tests of the Rust crate `test_bft3f1_quorum_and_max_faults` and `test_bft5f1_quorums`.
 #[test]
-fn the_numbers_of_both_models(rt: HostRuntime) {
-    for (n, thirds, (faults, larger, smaller)) in NUMBERS {
+fn test_bft3f1_quorum_and_max_faults(rt: HostRuntime) {
+    for (n, thirds, _) in NUMBERS {
+        assert!(rt; numbers_of::<N3f1, u32>(n) == Some(thirds));
+    }
+}
+
+#[test]
+fn test_bft5f1_quorums(rt: HostRuntime) {
+    for (n, _, (faults, larger, smaller)) in NUMBERS {
         assert!(rt;
-            numbers_of::<N3f1>(n) == Some(thirds)
-                && numbers_of::<N5f1>(n) == Some((faults, larger))
+            numbers_of::<N5f1, u32>(n) == Some((faults, larger))
                 && quorums_of(n) == Some((faults, larger, smaller))
         );
     }
 }
 
-/// The test of the Rust crate `test_generic_integer_types`, with every type.
+/// Whether ten participants have the numbers that they have, whatever the type of ten.
+fn are_of_ten<N: Count + Copy>(ten: N) -> bool {
+    numbers_of::<N3f1, N>(ten) == Some((3, 7))
+        && numbers_of::<N5f1, N>(ten) == Some((1, 9))
+        && quorums_of(ten) == Some((1, 9, 3))
+}
+
 #[test]
-fn generic_integer_types(rt: HostRuntime) {
+fn test_generic_integer_types(rt: HostRuntime) {
     assert!(rt;
-        N3f1::max_faults(10u8) == 3
-            && N3f1::quorum(10u8) == 7
-            && N3f1::max_faults(10u16) == 3
-            && N3f1::quorum(10u16) == 7
-            && N3f1::max_faults(10u32) == 3
-            && N3f1::quorum(10u64) == 7
-            && N3f1::max_faults(10u64) == 3
-            && N3f1::max_faults(10u128) == 3
-            && N3f1::max_faults(10usize) == 3
-            && N3f1::quorum(10usize) == 7
-            && N3f1::max_faults(10i8) == 3
-            && N3f1::quorum(10i16) == 7
-            && N3f1::max_faults(10i32) == 3
-            && N3f1::quorum(10i32) == 7
-            && N3f1::max_faults(10i64) == 3
-            && N3f1::quorum(10i64) == 7
-            && N3f1::max_faults(10isize) == 3
-            && N3f1::quorum(10i128) == 7
-            && N5f1::max_faults(10u64) == 1
-            && N5f1::quorum(10usize) == 9
-            && N5f1::m_quorum(10i32) == 3
-            && N5f1::l_quorum(10i64) == 9
+        are_of_ten(10u8)
+            && are_of_ten(10u16)
+            && are_of_ten(10u32)
+            && are_of_ten(10u64)
+            && are_of_ten(10u128)
+            && are_of_ten(10usize)
+            && are_of_ten(10i8)
+            && are_of_ten(10i16)
+            && are_of_ten(10i32)
+            && are_of_ten(10i64)
+            && are_of_ten(10i128)
+            && are_of_ten(10isize)
     );
+}
+
+/// Whether each number is the count beside it, or none.
+fn are_counted<N: Count + Copy>(rows: &[(N, Option<u32>)]) -> bool {
+    for (number, count) in rows {
+        if number.to_u32() != *count {
+            return false;
+        }
+    }
+    true
 }
 
 #[test]
 fn counts_are_the_numbers_that_fit(rt: HostRuntime) {
     assert!(rt;
-        255u8.to_u32() == Some(255)
-            && 65535u16.to_u32() == Some(65535)
-            && 0u32.to_u32() == Some(0)
-            && u32::MAX.to_u32() == Some(4294967295)
-            && 4294967295u64.to_u32() == Some(4294967295)
-            && 4294967296u64.to_u32() == None
-            && 4294967295usize.to_u32() == Some(4294967295)
-            && usize::MAX.to_u32() == None
-            && 4294967295u128.to_u32() == Some(4294967295)
-            && 4294967296u128.to_u32() == None
-            && 127i8.to_u32() == Some(127)
-            && (-1i8).to_u32() == None
-            && 32767i16.to_u32() == Some(32767)
-            && (-1i16).to_u32() == None
-            && i32::MAX.to_u32() == Some(2147483647)
-            && i32::MIN.to_u32() == None
-            && 4294967295i64.to_u32() == Some(4294967295)
-            && 4294967296i64.to_u32() == None
-            && (-1i64).to_u32() == None
-            && 0isize.to_u32() == Some(0)
-            && (-1isize).to_u32() == None
-            && 4294967295i128.to_u32() == Some(4294967295)
-            && 4294967296i128.to_u32() == None
-            && (-4294967295i128).to_u32() == None
-            && u128::MAX.to_u32() == None
+        are_counted(&[(255u8, Some(255))])
+            && are_counted(&[(65535u16, Some(65535))])
+            && are_counted(&[(0u32, Some(0)), (u32::MAX, Some(4294967295))])
+            && are_counted(&[(4294967295u64, Some(4294967295)), (4294967296, None)])
+            && are_counted(&[(4294967295usize, Some(4294967295)), (usize::MAX, None)])
+            && are_counted(&[(127i8, Some(127)), (-1, None)])
+            && are_counted(&[(32767i16, Some(32767)), (-1, None)])
+            && are_counted(&[(i32::MAX, Some(2147483647)), (i32::MIN, None), (-1, None)])
+            && are_counted(&[
+                (4294967295i64, Some(4294967295)),
+                (4294967296, None),
+                (-1, None)
+            ])
+            && are_counted(&[(0isize, Some(0)), (-1, None)])
+            && are_counted(&[
+                (4294967295u128, Some(4294967295)),
+                (4294967296, None),
+                (u128::MAX, None),
+            ])
+            && are_counted(&[
+                (4294967295i128, Some(4294967295)),
+                (4294967296, None),
+                (-4294967295, None),
+            ])
     );
 }
 
-/// The test of the Rust crate `test_n5f1_quorum_relationships`, at every value that it draws from.
+/// At every value that the test of the Rust crate draws from.
 #[test]
-fn n5f1_quorum_relationships(rt: HostRuntime) {
+fn test_n5f1_quorum_relationships(rt: HostRuntime) {
     for n in 6..10_000u32 {
         let (larger, smaller) = (N5f1::l_quorum(n), N5f1::m_quorum(n));
         assert!(rt; smaller < larger && larger <= n);
     }
 }
 
-/// The test of the Rust crate `test_bft_model_safety_property`, at every value that it draws from.
+/// At every value that the test of the Rust crate draws from.
 #[test]
-fn bft_model_safety_property(rt: HostRuntime) {
+fn test_bft_model_safety_property(rt: HostRuntime) {
     for n in 1..10_000u32 {
         let (of_thirds, of_fifths) = (N3f1::quorum(n), N5f1::quorum(n));
         assert!(rt;
@@ -148,8 +159,8 @@ fn bft_model_safety_property(rt: HostRuntime) {
 fn models_are_shown_by_their_names(rt: HostRuntime) -> Result<(), Fail> {
     let (thirds, fifths) = (N3f1, N5f1::default());
     assert!(rt;
-        format!(in rt.alloc(); "{thirds:?}")?.as_str() == "N3f1"
-            && format!(in rt.alloc(); "{fifths:?}")?.as_str() == "N5f1"
+        is_debugged_as(rt.alloc(), &thirds, "N3f1")?
+            && is_debugged_as(rt.alloc(), &fifths, "N5f1")?
             && thirds == N3f1::default()
             && fifths == fifths.clone()?
     );
@@ -172,8 +183,8 @@ impl Faults for Trusting {
 #[test]
 fn a_model_of_ones_own(rt: HostRuntime) {
     assert!(rt;
-        numbers_of::<Trusting>(7) == Some((0, 7))
-            && Trusting::quorum(255u8) == 255
-            && Trusting::quorum(1i64) == 1
+        numbers_of::<Trusting, u32>(7) == Some((0, 7))
+            && numbers_of::<Trusting, u8>(255) == Some((0, 255))
+            && numbers_of::<Trusting, i64>(1) == Some((0, 1))
     );
 }

@@ -7,7 +7,7 @@ ghost use Rattle.commonware_base.specs.Clones.{equal_from_same};
 ghost use Rattle.commonware_base.specs.Text.{IsByte};
 ghost use Rattle.commonware_base.specs.TextLaws.{canonical_on, laws_on, prefix_free_on};
 
-use super::read;
+use super::{is_written_as, read};
 use crate::codec::{
     Canonical, EncodeSize, Error, MaxEncodeSize, RangeCfg, Read, Source, Write, round_trip,
 };
@@ -106,17 +106,13 @@ fn equal_sets_of_labelled_items_have_equal_bytes(rt: HostRuntime) -> Result<(), 
     let alloc = rt.alloc();
     let any = RangeCfg::from(..);
     let set = Set::from_iter_dedup(alloc, [item(2, 'x'), item(1, 'y')])?;
-    assert!(rt; set.is_writable());
     let (read_set, taken) = read::<Set<Labelled, _>, _>(alloc, b"\x02\x01\x02", &(any, ()));
     let read_set = read_set?;
     assert!(rt;
         taken == 3 && read_set.get(0).map(|item| item.label) == Some('r') && read_set == set
     );
     for written in [&set, &read_set] {
-        let mut sink = Vec::new(alloc);
-        assert!(rt; written.is_writable());
-        written.write(&mut sink)?;
-        assert!(rt; sink.as_slice() == b"\x02\x01\x02".as_slice());
+        assert!(rt; is_written_as(alloc, written, b"\x02\x01\x02")?);
     }
     assert!(rt; Labelled::MAX_ENCODE_SIZE == 1);
     Ok(())

@@ -1,6 +1,6 @@
 //! Lists of items.
-use super::read;
-use crate::codec::{EncodeSize, Error, RangeCfg, Source, Write, list_fault_law, read_list};
+use super::{is_written_as, read, refuses};
+use crate::codec::{Error, RangeCfg, Source, list_fault_law, read_list};
 use std::test::Fail;
 
 #[test]
@@ -9,15 +9,11 @@ fn lists_are_written_and_read(rt: HostRuntime) -> Result<(), Fail> {
     let any = RangeCfg::from(..);
     list_fault_law::<u8, _>(alloc, any, &());
     let list = vec![in alloc; 1u8, 3, 2, 4]?;
-    let mut sink = Vec::new(alloc);
-    list.write(&mut sink)?;
+    let bytes = b"\x04\x01\x03\x02\x04";
     assert!(rt;
-        sink.as_slice() == b"\x04\x01\x03\x02\x04".as_slice()
-            && list.encode_size() == 5
-            && list.is_writable()
+        is_written_as(alloc, &list, bytes)?
+            && read::<Vec<u8>, _>(alloc, bytes, &(any, ())) == (Ok(list), 5)
     );
-    let (again, taken) = read::<Vec<u8>, _>(alloc, &sink, &(any, ()));
-    assert!(rt; again?.as_slice() == list.as_slice() && taken == 5);
     Ok(())
 }
 
@@ -28,11 +24,8 @@ fn lists_nest(rt: HostRuntime) -> Result<(), Fail> {
     let bytes = b"\x02\x01\x02\x08\x09\x00\x05";
     let (lists, taken) = read::<Vec<Vec<Vec<u8>>>, _>(alloc, bytes, &(any, (any, (any, ()))));
     let lists = lists?;
-    assert!(rt; lists.len() == 2 && taken == 6);
-    let mut sink = Vec::new(alloc);
-    lists.write(&mut sink)?;
     assert!(rt;
-        sink.as_slice() == b"\x02\x01\x02\x08\x09\x00".as_slice() && lists.encode_size() == 6
+        lists.len() == 2 && taken == 6 && is_written_as(alloc, &lists, b"\x02\x01\x02\x08\x09\x00")?
     );
     Ok(())
 }
@@ -41,9 +34,8 @@ fn lists_nest(rt: HostRuntime) -> Result<(), Fail> {
 #[test]
 fn nothing_is_reserved_for_a_stated_length(rt: HostRuntime) {
     let any = RangeCfg::from(..);
-    let bytes = b"\xff\xff\xff\xff\x0f\x00";
-    let (result, taken) = read::<Vec<Vec<u8>>, _>(rt.alloc(), bytes, &(any, (any, ())));
-    assert!(rt; result.err() == Some(Error::EndOfBuffer) && taken == 0);
+    let rows = [(b"\xff\xff\xff\xff\x0f\x00".as_slice(), Error::EndOfBuffer)];
+    assert!(rt; refuses::<Vec<Vec<u8>>, _>(rt.alloc(), &(any, (any, ())), &rows));
 }
 
 #[test]

@@ -4,11 +4,25 @@ use crate::ordered::{Error, Map, Set};
 use std::alloc::Global;
 use std::test::Fail;
 
+/// Keys and their values.
+type Parts = (&'static [u8], &'static [char]);
+
+/// Pairs, and the parts of their map, or none where a key is repeated.
+const LISTS: [(&[(u8, char)], Option<Parts>); 4] = [
+    (
+        &[(3, 'c'), (1, 'a'), (2, 'b')],
+        Some((&[1, 2, 3], &['a', 'b', 'c'])),
+    ),
+    (&[(2, 'a'), (1, 'b'), (2, 'c')], None),
+    (&[(3, 'c'), (1, 'a'), (2, 'b'), (1, 'd')], None),
+    (&[], Some((&[], &[]))),
+];
+
 /// A value with no order, no clones, no `==` and no hash.
 #[derive(Drop)]
 struct Opaque(u8);
 
-/// Whether the answer is the map of these keys and values, or, for `None`, that two keys are equal.
+/// Whether the answer is the map of these parts, or, for `None`, that two keys are equal.
 fn answers(answer: &Result<Map<u8, char, Global>, Error>, parts: Option<(&[u8], &[char])>) -> bool {
     match (answer, parts) {
         (Ok(map), Some((keys, values))) => map.as_slice() == keys && map.values() == values,
@@ -17,18 +31,17 @@ fn answers(answer: &Result<Map<u8, char, Global>, Error>, parts: Option<(&[u8], 
     }
 }
 
-/// The test of the Rust crate `test_map_from_iter_dedup`.
 #[test]
-fn map_from_iter_dedup(rt: HostRuntime) -> Result<(), Fail> {
-    let items = [(3u8, 'c'), (1, 'a'), (2, 'b'), (1, 'd')];
+fn test_map_from_iter_dedup(rt: HostRuntime) -> Result<(), Fail> {
+    let items = [(3u8, "c"), (1, "a"), (2, "b"), (1, "duplicate")];
     let map = Map::from_iter_dedup(rt.alloc(), items)?;
     assert!(rt;
         map.len() == 3
             && !map.is_empty()
             && map.as_slice() == [1, 2, 3].as_slice()
-            && map.get_value(&1) == Some(&'a')
+            && map.get_value(&1) == Some(&"a")
             && map.get_value(&4) == None
-            && map.value(1) == Some(&'b')
+            && map.value(1) == Some(&"b")
             && map.value(3) == None
     );
     Ok(())
@@ -37,10 +50,8 @@ fn map_from_iter_dedup(rt: HostRuntime) -> Result<(), Fail> {
 #[test]
 fn the_first_pair_of_a_key_stays(rt: HostRuntime) -> Result<(), Fail> {
     let map = Map::from_iter_dedup(rt.alloc(), (0..100u8).map(|i| (i % 10, i)))?;
-    assert!(rt;
-        map.as_slice() == [0, 1, 2, 3, 4, 5, 6, 7, 8, 9].as_slice()
-            && map.values() == [0, 1, 2, 3, 4, 5, 6, 7, 8, 9].as_slice()
-    );
+    let digits = [0, 1, 2, 3, 4, 5, 6, 7, 8, 9];
+    assert!(rt; map.as_slice() == digits.as_slice() && map.values() == digits.as_slice());
     Ok(())
 }
 
@@ -54,40 +65,66 @@ fn values_need_no_bound(rt: HostRuntime) -> Result<(), Fail> {
     Ok(())
 }
 
-/// The tests of the Rust crate `test_map_try_from`, `test_map_try_from_duplicate` and `test_map_try_from_iter_duplicate`.
+/// By each builder of a list.
 #[test]
-fn map_try_from(rt: HostRuntime) -> Result<(), Fail> {
+fn test_map_try_from(rt: HostRuntime) -> Result<(), Fail> {
     let alloc = rt.alloc();
-    let pairs = [(3u8, 'c'), (1, 'a'), (2, 'b')];
-    let repeated = [(2u8, 'a'), (1, 'b'), (2, 'c')];
-    let parts: Option<(&[u8], &[char])> = Some((&[1, 2, 3], &['a', 'b', 'c']));
-    assert!(rt;
-        answers(&Map::try_from_vec(Vec::from_slice(alloc, &pairs)?), parts)
-            && answers(&Map::try_from_vec(Vec::from_slice(alloc, &repeated)?), None)
-            && answers(&Map::try_from_iter(alloc, pairs), parts)
-            && answers(&Map::try_from_iter(alloc, repeated), None)
-            && answers(&Map::try_from_slice(alloc, &pairs), parts)
-            && answers(&Map::try_from_slice(alloc, &repeated), None)
-            && answers(&Map::try_from_array_ref(alloc, &pairs), parts)
-            && answers(&Map::try_from_array_ref(alloc, &repeated), None)
-            && answers(&Map::try_from_array(alloc, pairs), parts)
-            && answers(&Map::try_from_array(alloc, repeated), None)
-    );
+    for (pairs, parts) in LISTS {
+        let whole = Vec::from_slice(alloc, pairs)?;
+        assert!(rt;
+            answers(&Map::try_from_vec(whole), parts)
+                && answers(&Map::try_from_iter(alloc, pairs.iter().copied()), parts)
+                && answers(&Map::try_from_slice(alloc, pairs), parts)
+        );
+    }
     Ok(())
 }
 
 #[test]
-fn maps_of_nothing_are_built(rt: HostRuntime) {
-    let alloc = rt.alloc();
-    let none: [(u8, char); 0] = [];
-    assert!(rt; answers(&Map::try_from_array(alloc, none), Some((&[], &[]))));
-    let empty: Map<u8, char, _> = Map::empty(alloc);
+fn test_map_try_from_duplicate(rt: HostRuntime) -> Result<(), Fail> {
+    let pairs = vec![in rt.alloc(); (3u8, 'c'), (1, 'a'), (2, 'b'), (1, 'd')]?;
+    assert!(rt; answers(&Map::try_from_vec(pairs), None));
+    Ok(())
+}
+
+#[test]
+fn test_map_try_from_iter_duplicate(rt: HostRuntime) -> Result<(), Fail> {
+    let pairs = vec![in rt.alloc(); (3u8, 'c'), (1, 'a'), (2, 'b'), (1, 'd')]?;
+    assert!(rt; answers(&Map::try_from_iter(rt.alloc(), pairs), None));
+    Ok(())
+}
+
+/// Whether an array, and a reference to it, are answered with the map of these parts.
+fn arrays_answer<const N: usize>(
+    alloc: Global,
+    pairs: [(u8, char); N],
+    parts: Option<(&[u8], &[char])>,
+) -> bool {
+    answers(&Map::try_from_array_ref(alloc, &pairs), parts)
+        && answers(&Map::try_from_array(alloc, pairs), parts)
+}
+
+#[test]
+fn arrays_are_cloned_into_maps(rt: HostRuntime) {
+    let (pairs, repeated) = (
+        [(3, 'c'), (1, 'a'), (2, 'b')],
+        [(2, 'a'), (1, 'b'), (2, 'c')],
+    );
+    assert!(rt;
+        arrays_answer(rt.alloc(), pairs, Some((&[1, 2, 3], &['a', 'b', 'c'])))
+            && arrays_answer(rt.alloc(), repeated, None)
+            && arrays_answer(rt.alloc(), [], Some((&[], &[])))
+    );
+}
+
+#[test]
+fn the_empty_map_holds_nothing(rt: HostRuntime) {
+    let empty: Map<u8, char, _> = Map::empty(rt.alloc());
     assert!(rt; empty.is_empty() && empty.len() == 0 && empty.values().is_empty());
 }
 
-/// The test of the Rust crate `test_map_from_set`.
 #[test]
-fn map_from_set(rt: HostRuntime) -> Result<(), Fail> {
+fn test_map_from_set(rt: HostRuntime) -> Result<(), Fail> {
     let alloc = rt.alloc();
     let pairs = [(3u8, 'a'), (1, 'b'), (2, 'c')];
     let first = Set::try_from_iter(alloc, pairs)?;
@@ -100,31 +137,36 @@ fn map_from_set(rt: HostRuntime) -> Result<(), Fail> {
 /// The contents that the test of the Rust crate `test_map_from_parts_reuses_allocations` compares.
 #[test]
 fn map_from_parts(rt: HostRuntime) -> Result<(), Fail> {
-    let alloc = rt.alloc();
-    let keys = Set::try_from_array(alloc, [3u8, 1, 2])?;
-    let values = Vec::from_slice(alloc, &[30u8, 10, 10])?;
-    let map = Map::from_parts(keys, values);
-    assert!(rt;
-        map.is_some_and(|map| {
-            map.as_slice() == [1, 2, 3].as_slice() && map.values() == [30, 10, 10].as_slice()
-        })
-    );
-    let keys = Set::try_from_array(alloc, [3u8, 1, 2])?;
-    let words = Map::from_parts(keys, Vec::from_slice(alloc, &["one", "two", "three"])?);
-    assert!(rt; words.is_some_and(|map| map.get_value(&2) == Some(&"two")));
+    let keys = Set::try_from_array(rt.alloc(), [3u8, 1, 2])?;
+    let values = vec![in rt.alloc(); 30u8, 10, 10]?;
+    let map = Map::from_parts(keys, values).ok_or("uneven")?;
+    assert!(rt; map.as_slice() == [1, 2, 3].as_slice() && map.values() == [30, 10, 10].as_slice());
     Ok(())
 }
 
-/// The test of the Rust crate `test_map_from_parts_lengths`.
 #[test]
-fn map_from_parts_lengths(rt: HostRuntime) -> Result<(), Fail> {
+fn parts_are_paired_by_their_positions(rt: HostRuntime) -> Result<(), Fail> {
+    let keys = Set::try_from_array(rt.alloc(), [3u8, 1, 2])?;
+    let words = vec![in rt.alloc(); "one", "two", "three"]?;
+    let map = Map::from_parts(keys, words).ok_or("uneven")?;
+    assert!(rt; map.get_value(&2) == Some(&"two"));
+    Ok(())
+}
+
+/// With two values beside the lengths that the test of the Rust crate takes.
+#[test]
+fn test_map_from_parts_lengths(rt: HostRuntime) -> Result<(), Fail> {
     let alloc = rt.alloc();
     for keys_len in [0usize, 1, 3] {
-        for values_len in [0usize, 1, 3] {
+        for values_len in [0usize, 1, 2, 3] {
             let keys = Set::try_from_iter(alloc, 0..keys_len)?;
             let values: Vec<usize> = (0..values_len).collect(alloc)?;
             match Map::from_parts(keys, values) {
-                Some(map) => assert!(rt; keys_len == values_len && map.len() == keys_len),
+                Some(map) => assert!(rt;
+                    keys_len == values_len
+                        && map.len() == keys_len
+                        && map.values().len() == values_len
+                ),
                 None => assert!(rt; keys_len != values_len),
             }
         }

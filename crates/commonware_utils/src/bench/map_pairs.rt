@@ -1,61 +1,72 @@
 //! Iterators over the pairs of maps: both ends, the number left, and what is written through them.
-use crate::ordered::{Map, Set};
+use crate::ordered::{Map, MapIntoIter, Pairs, Set};
 use std::alloc::Global;
 use std::test::Fail;
 
 /// {1: 10, 2: 20, 3: 30}
-fn tens(alloc: Global) -> Result<Map<u8, u8, Global>, Fail> {
+pub(super) fn tens(alloc: Global) -> Result<Map<u8, u8, Global>, Fail> {
     let keys = Set::from_iter_dedup(alloc, [3u8, 1, 2])?;
     Ok(Map::from_parts(keys, vec![in alloc; 10, 20, 30]?).ok_or("uneven")?)
 }
 
-#[test]
-fn pairs_come_from_both_ends(rt: HostRuntime) -> Result<(), Fail> {
-    let map = tens(rt.alloc())?;
-    let mut pairs = map.iter_pairs();
-    assert!(rt;
-        pairs.next() == Some((&1, &10))
-            && pairs.next_back() == Some((&3, &30))
-            && pairs.next_back() == Some((&2, &20))
-            && pairs.next() == None
-            && pairs.next_back() == None
-            && pairs.next() == None
-            && pairs.next_back() == None
-    );
-    Ok(())
+/// Whether so many pairs are told at first, and each step, from the back where that is said, gives the pair beside it and
+/// tells so many that are left.
+pub(super) fn lends(
+    mut pairs: Pairs<'_, u8, u8>,
+    count: usize,
+    steps: &[(bool, Option<(&u8, &u8)>, usize)],
+) -> bool {
+    if pairs.len() != count || pairs.size_hint() != (count, Some(count)) {
+        return false;
+    }
+    for (from_back, expected, left) in steps {
+        let pair = if *from_back {
+            pairs.next_back()
+        } else {
+            pairs.next()
+        };
+        if pair != *expected || pairs.len() != *left || pairs.size_hint() != (*left, Some(*left)) {
+            return false;
+        }
+    }
+    true
+}
+
+/// The same of pairs that are given away.
+pub(super) fn gives(
+    mut pairs: MapIntoIter<u8, u8, Global>,
+    count: usize,
+    steps: &[(bool, Option<(u8, u8)>, usize)],
+) -> bool {
+    if pairs.len() != count || pairs.size_hint() != (count, Some(count)) {
+        return false;
+    }
+    for (from_back, expected, left) in steps {
+        let pair = if *from_back {
+            pairs.next_back()
+        } else {
+            pairs.next()
+        };
+        if pair != *expected || pairs.len() != *left || pairs.size_hint() != (*left, Some(*left)) {
+            return false;
+        }
+    }
+    true
 }
 
 #[test]
 fn pairs_are_given_from_both_ends(rt: HostRuntime) -> Result<(), Fail> {
-    let alloc = rt.alloc();
-    let keys = Set::from_iter_dedup(alloc, [1u8, 2])?;
-    let map = Map::from_parts(keys, vec![in alloc; 10u8, 20]?).ok_or("uneven")?;
-    let mut pairs = map.into_iter();
-    assert!(rt;
-        pairs.len() == 2
-            && pairs.next_back() == Some((2, 20))
-            && pairs.next() == Some((1, 10))
-            && pairs.next() == None
-            && pairs.next_back() == None
-            && pairs.len() == 0
-            && pairs.next() == None
-    );
-    Ok(())
-}
-
-#[test]
-fn the_number_left_is_told(rt: HostRuntime) -> Result<(), Fail> {
-    let mut map = tens(rt.alloc())?;
-    let mut pairs = map.iter_pairs();
-    assert!(rt; pairs.len() == 3 && pairs.size_hint() == (3, Some(3)));
-    let _ = pairs.next_back();
-    assert!(rt; pairs.len() == 2 && pairs.size_hint() == (2, Some(2)));
-    let mut lent = map.iter_pairs_mut();
-    let _ = lent.next();
-    assert!(rt; lent.len() == 2 && lent.size_hint() == (2, Some(2)));
-    let mut given = map.into_iter();
-    let _ = given.next();
-    assert!(rt; given.len() == 2 && given.size_hint() == (2, Some(2)));
+    let two = Map::try_from_array(rt.alloc(), [(1u8, 10u8), (2, 20)])?;
+    let steps = [
+        (true, Some((2, 20)), 1),
+        (false, Some((1, 10)), 0),
+        (false, None, 0),
+        (true, None, 0),
+        (false, None, 0),
+    ];
+    assert!(rt; gives(two.into_iter(), 2, &steps));
+    let three = tens(rt.alloc())?;
+    assert!(rt; gives(three.into_iter(), 3, &[(false, Some((1, 10)), 2)]));
     Ok(())
 }
 
@@ -69,7 +80,6 @@ fn a_loop_walks_the_pairs(rt: HostRuntime) -> Result<(), Fail> {
             .wrapping_add(u32::from(*key))
             .wrapping_add(u32::from(*value));
     }
-    assert!(rt; walked == 112_233);
     let mut taken = 0u32;
     for (key, value) in map {
         taken = taken
@@ -77,7 +87,7 @@ fn a_loop_walks_the_pairs(rt: HostRuntime) -> Result<(), Fail> {
             .wrapping_add(u32::from(key))
             .wrapping_add(u32::from(value));
     }
-    assert!(rt; taken == 112_233);
+    assert!(rt; walked == 112_233 && taken == 112_233);
     Ok(())
 }
 
@@ -89,35 +99,47 @@ fn add_key(pair: Option<(&u8, &mut u8)>) -> Option<(u8, u8)> {
     Some((*key, previous))
 }
 
-/// The lines on maps of the test of the Rust crate `test_pair_iterators`.
-#[test]
-fn pair_iterators(rt: HostRuntime) -> Result<(), Fail> {
-    let mut map = tens(rt.alloc())?;
-    let mut pairs = map.iter_pairs();
-    assert!(rt;
-        pairs.len() == 3
-            && pairs.next() == Some((&1, &10))
-            && pairs.len() == 2
-            && pairs.next_back() == Some((&3, &30))
-            && pairs.len() == 1
-            && pairs.next_back() == Some((&2, &20))
-            && pairs.len() == 0
-            && pairs.next() == None
-            && pairs.next_back() == None
-    );
+/// Whether the keys of {1: 10, 2: 20, 3: 30} are added to the values, from both ends.
+fn adds_keys(map: &mut Map<u8, u8, Global>) -> bool {
     let mut pairs = map.iter_pairs_mut();
+    pairs.len() == 3
+        && add_key(pairs.next()) == Some((1, 10))
+        && pairs.len() == 2
+        && add_key(pairs.next_back()) == Some((3, 30))
+        && pairs.len() == 1
+        && add_key(pairs.next_back()) == Some((2, 20))
+        && pairs.len() == 0
+        && pairs.next().is_none()
+        && pairs.next_back().is_none()
+}
+
+/// The lines on maps; those on bimaps stand with the bimaps.
+#[test]
+fn test_pair_iterators(rt: HostRuntime) -> Result<(), Fail> {
+    let mut map = tens(rt.alloc())?;
+    let steps = [
+        (false, Some((&1, &10)), 2),
+        (true, Some((&3, &30)), 1),
+        (true, Some((&2, &20)), 0),
+        (false, None, 0),
+        (true, None, 0),
+        (false, None, 0),
+        (true, None, 0),
+    ];
     assert!(rt;
-        pairs.len() == 3
-            && add_key(pairs.next()) == Some((1, 10))
-            && pairs.len() == 2
-            && add_key(pairs.next_back()) == Some((3, 30))
-            && pairs.len() == 1
-            && add_key(pairs.next_back()) == Some((2, 20))
-            && pairs.len() == 0
-            && pairs.next().is_none()
-            && pairs.next_back().is_none()
+        lends(map.iter_pairs(), 3, &steps)
+            && adds_keys(&mut map)
             && map.values() == [11, 22, 33].as_slice()
     );
+    Ok(())
+}
+
+#[test]
+fn the_number_left_is_told(rt: HostRuntime) -> Result<(), Fail> {
+    let mut map = tens(rt.alloc())?;
+    let mut lent = map.iter_pairs_mut();
+    let _ = lent.next();
+    assert!(rt; lent.len() == 2 && lent.size_hint() == (2, Some(2)));
     Ok(())
 }
 

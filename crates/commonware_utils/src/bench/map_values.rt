@@ -1,13 +1,8 @@
 //! Maps of new values: every pair once in key order, first errors, results that borrow.
+use super::map_pairs::tens;
 use crate::ordered::{Map, MapError, Set};
 use std::alloc::Global;
 use std::test::Fail;
-
-/// {1: 10, 2: 20, 3: 30}
-fn tens(alloc: Global) -> Result<Map<u8, u8, Global>, Fail> {
-    let keys = Set::from_iter_dedup(alloc, [3u8, 1, 2])?;
-    Ok(Map::from_parts(keys, vec![in alloc; 10, 20, 30]?).ok_or("uneven")?)
-}
 
 #[test]
 fn a_counter_runs_along_the_keys(rt: HostRuntime) -> Result<(), Fail> {
@@ -83,9 +78,8 @@ struct Value(u8);
 #[derive(PartialEq, Eq, PartialOrd, Ord, Drop)]
 struct Key(u8);
 
-/// The test of the Rust crate `test_map_values_borrowed`.
 #[test]
-fn map_values_borrowed(rt: HostRuntime) -> Result<(), Fail> {
+fn test_map_values_borrowed(rt: HostRuntime) -> Result<(), Fail> {
     let alloc = rt.alloc();
     let keys = Set::from_iter_dedup(alloc, [3u8, 1, 2])?;
     let values = vec![in alloc; Value(10), Value(20), Value(30)]?;
@@ -108,9 +102,8 @@ fn owned(alloc: Global) -> Result<Map<Key, Value, Global>, Fail> {
     Ok(Map::from_parts(keys, values).ok_or("uneven")?)
 }
 
-/// The test of the Rust crate `test_map_values_into_reuses_keys`.
 #[test]
-fn map_values_into_reuses_keys(rt: HostRuntime) -> Result<(), Fail> {
+fn test_map_values_into_reuses_keys(rt: HostRuntime) -> Result<(), Fail> {
     let mut visited = 0u32;
     let mapped = owned(rt.alloc())?.map_values_into(|key, value| {
         visited = visited.wrapping_mul(10).wrapping_add(u32::from(key.0));
@@ -128,9 +121,8 @@ fn map_values_into_reuses_keys(rt: HostRuntime) -> Result<(), Fail> {
     Ok(())
 }
 
-/// The test of the Rust crate `test_map_values_empty`.
 #[test]
-fn map_values_empty(rt: HostRuntime) -> Result<(), Fail> {
+fn test_map_values_empty(rt: HostRuntime) -> Result<(), Fail> {
     let alloc = rt.alloc();
     let map: Map<u8, u8, Global> = Map::empty(alloc);
     let mut called = false;
@@ -151,9 +143,8 @@ fn map_values_empty(rt: HostRuntime) -> Result<(), Fail> {
     Ok(())
 }
 
-/// The test of the Rust crate `test_try_map_values_error`.
 #[test]
-fn try_map_values_error(rt: HostRuntime) -> Result<(), Fail> {
+fn test_try_map_values_error(rt: HostRuntime) -> Result<(), Fail> {
     for (failed_key, expected) in [(1u8, 1u32), (2, 12), (3, 123)] {
         let map = tens(rt.alloc())?;
         let mut visited = 0u32;

@@ -1,12 +1,42 @@
 //! Maps: look-ups, edits, texts, and what is written and read.
-use super::{hash_of, is_written_as, read};
+use super::{are_equal, is_debugged_as, is_shown_as, is_written_as, read, read_lists, refuses};
 use crate::Participant;
 use crate::codec::{Error, RangeCfg, round_trip};
 use crate::ordered::{Map, Set, map_fault_law};
-use std::alloc::Global;
+use std::alloc::{AllocError, Global};
 use std::test::Fail;
 
 const UNSORTED: Error = Error::Invalid("Set", "items must be sorted and unique");
+
+/// Keys, and their places and values in {1: 10, 5: 50, 9: 90}.
+const PLACES: [(u8, Option<usize>, Option<&u8>); 4] = [
+    (1, Some(0), Some(&10)),
+    (5, Some(1), Some(&50)),
+    (9, Some(2), Some(&90)),
+    (4, None, None),
+];
+
+/// Pairs, and the bytes of their map.
+const BYTES: [(&[(u8, u8)], &[u8]); 3] = [
+    (&[(2, 20), (1, 10)], b"\x02\x01\x02\x02\x0a\x14"),
+    (
+        &[(4, 40), (1, 10), (3, 30), (2, 20)],
+        b"\x04\x01\x02\x03\x04\x04\x0a\x14\x1e\x28",
+    ),
+    (&[], b"\x00\x00"),
+];
+
+/// Texts that are no map of bytes.
+const NO_MAPS: [(&[u8], Error); 5] = [
+    (b"\x02\x01\x02\x01\x0a", Error::InvalidLength(1)),
+    (b"\x02\x01\x02\x02\x0a", Error::EndOfBuffer),
+    (b"\x02\x02\x01", UNSORTED),
+    (b"\x01\x05\x82\x00", Error::InvalidVarint),
+    (
+        b"\x01\x05\xff\xff\xff\xff\x0f",
+        Error::InvalidLength(4294967295),
+    ),
+];
 
 /// The map of these pairs.
 fn map_of(alloc: Global, pairs: &[(u8, u8)]) -> Result<Map<u8, u8, Global>, Fail> {
@@ -21,12 +51,7 @@ fn holds(map: &Map<u8, u8, Global>, keys: &[u8], values: &[u8]) -> bool {
 #[test]
 fn keys_are_found(rt: HostRuntime) -> Result<(), Fail> {
     let map = map_of(rt.alloc(), &[(9, 90), (1, 10), (5, 50)])?;
-    for (key, place, value) in [
-        (1, Some(0), Some(&10)),
-        (5, Some(1), Some(&50)),
-        (9, Some(2), Some(&90)),
-        (4, None, None),
-    ] {
+    for (key, place, value) in PLACES {
         assert!(rt; map.position(&key) == place && map.get_value(&key) == value);
     }
     assert!(rt;
@@ -38,28 +63,36 @@ fn keys_are_found(rt: HostRuntime) -> Result<(), Fail> {
     Ok(())
 }
 
-/// The test of the Rust crate `test_map_deref_to_set`.
+/// The sum of the items.
+fn sum(set: &Set<u8, Global>) -> u32 {
+    let mut sum = 0u32;
+    for item in set {
+        sum = sum.wrapping_add(u32::from(*item));
+    }
+    sum
+}
+
 #[test]
-fn map_deref_to_set(rt: HostRuntime) -> Result<(), Fail> {
+fn test_map_deref_to_set(rt: HostRuntime) -> Result<(), Fail> {
     let map = map_of(rt.alloc(), &[(2, 20), (1, 10)])?;
-    let set: &Set<u8, Global> = &map;
-    assert!(rt; set.as_slice() == [1, 2].as_slice());
     let keys: &Set<u8, Global> = map.as_ref();
-    assert!(rt; keys.as_slice() == [1, 2].as_slice());
+    assert!(rt; sum(&map) == 3 && keys.as_slice() == [1, 2].as_slice());
     let walked: Vec<u8> = map.iter().rev().copied().collect(rt.alloc())?;
     assert!(rt; walked.as_slice() == [2, 1].as_slice());
     Ok(())
 }
 
-/// The tests of the Rust crate `test_map_into_keys` and `test_map_allows_duplicate_values`.
 #[test]
-fn map_into_keys(rt: HostRuntime) -> Result<(), Fail> {
+fn test_map_into_keys(rt: HostRuntime) -> Result<(), Fail> {
+    let map = map_of(rt.alloc(), &[(3, 30), (1, 10), (2, 20)])?;
+    assert!(rt; map.into_keys().as_slice() == [1, 2, 3].as_slice());
+    Ok(())
+}
+
+#[test]
+fn test_map_allows_duplicate_values(rt: HostRuntime) -> Result<(), Fail> {
     let map = map_of(rt.alloc(), &[(3, 7), (1, 7), (2, 8)])?;
-    assert!(rt;
-        map.get_value(&1) == Some(&7)
-            && map.get_value(&3) == Some(&7)
-            && map.into_keys().as_slice() == [1, 2, 3].as_slice()
-    );
+    assert!(rt; map.len() == 3 && map.get_value(&1) == Some(&7) && map.get_value(&3) == Some(&7));
     Ok(())
 }
 
@@ -73,10 +106,10 @@ fn pairs_are_given_in_order(rt: HostRuntime) -> Result<(), Fail> {
 #[test]
 fn pairs_past_a_length_go(rt: HostRuntime) -> Result<(), Fail> {
     let mut map = map_of(rt.alloc(), &[(1, 10), (2, 20)])?;
-    map.truncate(1);
-    assert!(rt; holds(&map, &[1], &[10]));
-    map.truncate(9);
-    assert!(rt; holds(&map, &[1], &[10]));
+    for len in [1, 9] {
+        map.truncate(len);
+        assert!(rt; holds(&map, &[1], &[10]));
+    }
     Ok(())
 }
 
@@ -90,9 +123,8 @@ fn the_value_of_a_key_is_written(rt: HostRuntime) -> Result<(), Fail> {
     Ok(())
 }
 
-/// The test of the Rust crate `test_values_mut`.
 #[test]
-fn values_mut(rt: HostRuntime) -> Result<(), Fail> {
+fn test_values_mut(rt: HostRuntime) -> Result<(), Fail> {
     let mut map = map_of(rt.alloc(), &[(1, 10), (2, 20)])?;
     for value in map.values_mut() {
         *value = value.saturating_add(1);
@@ -104,29 +136,22 @@ fn values_mut(rt: HostRuntime) -> Result<(), Fail> {
 #[test]
 fn maps_are_shown(rt: HostRuntime) -> Result<(), Fail> {
     let alloc = rt.alloc();
-    let two = map_of(alloc, &[(2, 20), (1, 10)])?;
-    let none = map_of(alloc, &[])?;
-    let one = map_of(alloc, &[(1, 10)])?;
-    let (long, short, debug) = (
-        format!(in alloc; "{two}")?,
-        format!(in alloc; "{none}")?,
-        format!(in alloc; "{one:?}")?,
-    );
-    assert!(rt;
-        long.as_str() == "[(1, 10), (2, 20)]"
-            && short.as_str() == "[]"
-            && debug.as_str() == "Map([(1, 10)])"
-    );
+    for (pairs, text) in [
+        ([(2, 20), (1, 10)].as_slice(), "[(1, 10), (2, 20)]"),
+        (&[], "[]"),
+    ] {
+        assert!(rt; is_shown_as(alloc, &map_of(alloc, pairs)?, text)?);
+    }
+    assert!(rt; is_debugged_as(alloc, &map_of(alloc, &[(1, 10)])?, "Map([(1, 10)])")?);
     Ok(())
 }
 
 #[test]
 fn equal_maps_hash_alike(rt: HostRuntime) -> Result<(), Fail> {
     let map = map_of(rt.alloc(), &[(2, 20), (1, 10)])?;
-    let clone = map.clone()?;
-    assert!(rt; map == clone && hash_of(&map) == hash_of(&clone));
+    assert!(rt; are_equal(&map, &map.clone()?, true));
     for other in [[(1, 10), (2, 21)], [(1, 10), (3, 20)]] {
-        assert!(rt; map != map_of(rt.alloc(), &other)?);
+        assert!(rt; are_equal(&map, &map_of(rt.alloc(), &other)?, false));
     }
     Ok(())
 }
@@ -135,72 +160,91 @@ fn equal_maps_hash_alike(rt: HostRuntime) -> Result<(), Fail> {
 fn maps_are_written_as_two_lists(rt: HostRuntime) -> Result<(), Fail> {
     let alloc = rt.alloc();
     map_fault_law::<u8, u8, _>(alloc, RangeCfg::from(..), &(), &());
-    let two = map_of(alloc, &[(2, 20), (1, 10)])?;
-    assert!(rt; is_written_as(alloc, &two, b"\x02\x01\x02\x02\x0a\x14")?);
-    let four = map_of(alloc, &[(4, 40), (1, 10), (3, 30), (2, 20)])?;
-    assert!(rt; is_written_as(alloc, &four, b"\x04\x01\x02\x03\x04\x04\x0a\x14\x1e\x28")?);
-    let none = map_of(alloc, &[])?;
-    assert!(rt; is_written_as(alloc, &none, b"\x00\x00")?);
-    let nested = [
-        (2u8, Set::try_from_array(alloc, [7u8])?),
-        (1, Set::empty(alloc)),
-    ];
-    let sets = Map::from_iter_dedup(alloc, nested)?;
+    for (pairs, bytes) in BYTES {
+        assert!(rt; is_written_as(alloc, &map_of(alloc, pairs)?, bytes)?);
+    }
+    Ok(())
+}
+
+#[test]
+fn values_may_be_sets(rt: HostRuntime) -> Result<(), Fail> {
+    let alloc = rt.alloc();
+    let seven = Set::try_from_array(alloc, [7u8])?;
+    let sets = Map::from_iter_dedup(alloc, [(2u8, seven), (1, Set::empty(alloc))])?;
     assert!(rt; is_written_as(alloc, &sets, b"\x02\x01\x02\x02\x00\x01\x07")?);
-    let mut list = Vec::new(alloc);
-    list.push(none)?;
-    list.push(map_of(alloc, &[(5, 6)])?)?;
-    assert!(rt; is_written_as(alloc, &list, b"\x02\x00\x00\x01\x05\x01\x06")?);
+    Ok(())
+}
+
+/// The list of the maps of these pairs.
+fn maps_of(alloc: Global, lists: &[&[(u8, u8)]]) -> Result<Vec<Map<u8, u8, Global>>, Fail> {
+    let mut maps = Vec::new(alloc);
+    for pairs in lists {
+        maps.push(map_of(alloc, pairs)?)?;
+    }
+    Ok(maps)
+}
+
+#[test]
+fn maps_stand_in_lists(rt: HostRuntime) -> Result<(), Fail> {
+    let maps = maps_of(rt.alloc(), &[&[], &[(5, 6)]])?;
+    assert!(rt; is_written_as(rt.alloc(), &maps, b"\x02\x00\x00\x01\x05\x01\x06")?);
     Ok(())
 }
 
 #[test]
 fn texts_that_are_no_map_are_refused(rt: HostRuntime) {
     let any = (RangeCfg::from(..), (), ());
-    for (bytes, error) in [
-        (b"\x02\x01\x02\x01\x0a".as_slice(), Error::InvalidLength(1)),
-        (b"\x02\x01\x02\x02\x0a", Error::EndOfBuffer),
-        (b"\x02\x02\x01", UNSORTED),
-        (b"\x01\x05\x82\x00", Error::InvalidVarint),
-        (
-            b"\x01\x05\xff\xff\xff\xff\x0f",
-            Error::InvalidLength(4294967295),
-        ),
-    ] {
-        let (result, taken) = read::<Map<u8, u8, _>, _>(rt.alloc(), bytes, &any);
-        assert!(rt; result.err() == Some(error) && taken == 0);
-    }
+    assert!(rt; refuses::<Map<u8, u8, _>, _>(rt.alloc(), &any, &NO_MAPS));
 }
 
 #[test]
 fn faults_of_a_nested_set_come_in_order(rt: HostRuntime) {
     let any = RangeCfg::from(..);
-    let bytes = b"\x01\x05\x01\x02\x03\x03";
-    let (result, taken) = read::<Map<u8, Set<u8, _>, _>, _>(
-        rt.alloc(),
-        bytes,
-        &(any, (), (any, ())),
-    );
-    assert!(rt; result.err() == Some(UNSORTED) && taken == 0);
+    let rows = [(b"\x01\x05\x01\x02\x03\x03".as_slice(), UNSORTED)];
+    assert!(rt; refuses::<Map<u8, Set<u8, _>, _>, _>(rt.alloc(), &(any, (), (any, ())), &rows));
 }
 
-/// The tests of the Rust crate `test_map_decode_accepts_valid`, `test_map_decode_rejects_duplicate_keys` and
-/// `test_map_decode_rejects_unsorted_keys`.
-#[test]
-fn map_decode(rt: HostRuntime) {
+/// What the reader of maps answers for a list of keys and the values 10, 20, 30 and 40.
+fn decoded(alloc: Global, keys: &[u8]) -> Result<Result<Map<u8, u8, Global>, Error>, AllocError> {
     let short = (RangeCfg::from(0..=10), (), ());
-    let valid = b"\x04\x01\x02\x03\x04\x04\x0a\x14\x1e\x28\xff";
-    let (result, taken) = read::<Map<u8, u8, _>, _>(rt.alloc(), valid, &short);
-    assert!(rt;
-        taken == 10 && result.is_ok_and(|map| holds(&map, &[1, 2, 3, 4], &[10, 20, 30, 40]))
-    );
-    for bytes in [
-        b"\x04\x01\x02\x02\x03\x04\x0a\x14\x1e\x28",
-        b"\x04\x01\x03\x02\x04\x04\x0a\x14\x1e\x28",
-    ] {
-        let (result, taken) = read::<Map<u8, u8, _>, _>(rt.alloc(), bytes, &short);
-        assert!(rt; result.err() == Some(UNSORTED) && taken == 0);
-    }
+    read_lists(alloc, &[keys, &[10, 20, 30, 40]], &short)
+}
+
+#[test]
+fn test_map_decode_rejects_duplicate_keys(rt: HostRuntime) -> Result<(), Fail> {
+    assert!(rt; decoded(rt.alloc(), &[1, 2, 2, 3])?.err() == Some(UNSORTED));
+    Ok(())
+}
+
+#[test]
+fn test_map_decode_rejects_unsorted_keys(rt: HostRuntime) -> Result<(), Fail> {
+    assert!(rt; decoded(rt.alloc(), &[1, 3, 2, 4])?.err() == Some(UNSORTED));
+    Ok(())
+}
+
+#[test]
+fn test_map_decode_accepts_valid(rt: HostRuntime) -> Result<(), Fail> {
+    let map = decoded(rt.alloc(), &[1, 2, 3, 4])??;
+    assert!(rt; holds(&map, &[1, 2, 3, 4], &[10, 20, 30, 40]));
+    Ok(())
+}
+
+/// Texts that repeat or turn round keys, and one that is whole before a byte more.
+#[test]
+fn the_keys_of_a_text_are_in_order(rt: HostRuntime) -> Result<(), Fail> {
+    let short = (RangeCfg::from(0..=10), (), ());
+    let rows = [
+        (
+            b"\x04\x01\x02\x02\x03\x04\x0a\x14\x1e\x28".as_slice(),
+            UNSORTED,
+        ),
+        (b"\x04\x01\x03\x02\x04\x04\x0a\x14\x1e\x28", UNSORTED),
+    ];
+    assert!(rt; refuses::<Map<u8, u8, _>, _>(rt.alloc(), &short, &rows));
+    let whole = b"\x04\x01\x02\x03\x04\x04\x0a\x14\x1e\x28\xff";
+    let (map, taken) = read::<Map<u8, u8, _>, _>(rt.alloc(), whole, &short);
+    assert!(rt; holds(&map?, &[1, 2, 3, 4], &[10, 20, 30, 40]) && taken == 10);
+    Ok(())
 }
 
 #[test]

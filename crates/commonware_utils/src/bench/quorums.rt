@@ -42,10 +42,10 @@ fn a_set_has_the_numbers_of_its_length(rt: HostRuntime) -> Result<(), Fail> {
         let is_committee = 0 < committee.len() && committee.len() <= 21;
         assert!(rt; is_committee);
         if is_committee {
-            let numbers = (committee.max_faults::<N3f1>(), committee.quorum::<N3f1>());
-            assert!(rt; numbers == thirds);
-            let numbers = (committee.max_faults::<N5f1>(), committee.quorum::<N5f1>());
-            assert!(rt; numbers == fifths);
+            assert!(rt;
+                (committee.max_faults::<N3f1>(), committee.quorum::<N3f1>()) == thirds
+                    && (committee.max_faults::<N5f1>(), committee.quorum::<N5f1>()) == fifths
+            );
         }
     }
     Ok(())

@@ -1,7 +1,22 @@
 //! Ranges of lengths and numbers.
+use crate::NZUsize;
 use crate::codec::RangeCfg;
 use std::num::NonZeroUsize;
-use std::test::Fail;
+
+/// Whether the range holds the first numbers, and none of the others.
+fn holds(range: &RangeCfg<usize>, held: &[usize], others: &[usize]) -> bool {
+    for number in held {
+        if !range.contains(number) {
+            return false;
+        }
+    }
+    for number in others {
+        if range.contains(number) {
+            return false;
+        }
+    }
+    true
+}
 
 #[test]
 fn ranges_hold_what_is_between_their_bounds(rt: HostRuntime) {
@@ -20,34 +35,22 @@ fn ranges_hold_what_is_between_their_bounds(rt: HostRuntime) {
         (RangeCfg::from(5..=2), &[], &[0, 2, 3, 5, usize::MAX]),
         (RangeCfg::<usize>::exact(2), &[2], &[1, 3]),
     ] {
-        for number in held {
-            assert!(rt; range.contains(number));
-        }
-        for number in others {
-            assert!(rt; !range.contains(number));
-        }
+        assert!(rt; holds(&range, held, others));
     }
 }
 
 #[test]
-fn ranges_that_leave_zero_out_keep_their_bounds(rt: HostRuntime) -> Result<(), Fail> {
-    let one = NonZeroUsize::new(1).ok_or("0")?;
-    let two = NonZeroUsize::new(2).ok_or("0")?;
-    let ten = NonZeroUsize::new(10).ok_or("0")?;
+fn ranges_that_leave_zero_out_keep_their_bounds(rt: HostRuntime) {
+    let (one, two, ten) = (NZUsize!(1), NZUsize!(2), NZUsize!(10));
     let below_ten: RangeCfg<NonZeroUsize> = RangeCfg::from(..ten);
-    let numbers = RangeCfg::<usize>::from(below_ten);
-    assert!(rt; numbers.contains(&0) && numbers.contains(&9) && !numbers.contains(&10));
     let from_one: RangeCfg<NonZeroUsize> = RangeCfg::from(one..ten);
-    let numbers = RangeCfg::<usize>::from(from_one);
+    let exactly_two = RangeCfg::<NonZeroUsize>::exact(two);
     assert!(rt;
-        numbers.contains(&1)
-            && numbers.contains(&9)
-            && !numbers.contains(&0)
-            && !numbers.contains(&10)
+        holds(&RangeCfg::from(below_ten), &[0, 9], &[10])
+            && holds(&RangeCfg::from(from_one), &[1, 9], &[0, 10])
             && from_one.contains(&two)
             && !from_one.contains(&ten)
+            && exactly_two.contains(&two)
+            && !exactly_two.contains(&one)
     );
-    let exactly_two = RangeCfg::<NonZeroUsize>::exact(two);
-    assert!(rt; exactly_two.contains(&two) && !exactly_two.contains(&one));
-    Ok(())
 }

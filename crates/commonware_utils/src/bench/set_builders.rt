@@ -1,6 +1,7 @@
 //! Sets of many items: what is built, and what is refused.
 ghost use Rattle.commonware_ordered.specs.Whole.{IsWholeSet};
 
+use super::is_shown_as;
 use crate::ordered::{Error, Set};
 use crate::{TryCollect, TryFromIterator};
 use std::alloc::{Allocator, Global};
@@ -16,6 +17,13 @@ const LISTS: [(&[u8], Option<&[u8]>); 6] = [
     (&[], Some(&[])),
 ];
 
+/// Refusals and what they say.
+const MESSAGES: [(Error, &str); 3] = [
+    (Error::DuplicateKey, "duplicate key"),
+    (Error::DuplicateValue, "duplicate value"),
+    (Error::Memory, "out of memory"),
+];
+
 /// Whether the answer is the set of these items, or, for `None`, that two are equal.
 fn answers(answer: &Result<Set<u8, Global>, Error>, items: Option<&[u8]>) -> bool {
     match (answer, items) {
@@ -29,57 +37,60 @@ fn answers(answer: &Result<Set<u8, Global>, Error>, items: Option<&[u8]>) -> boo
 fn repeats_are_refused_by_each_builder(rt: HostRuntime) -> Result<(), Fail> {
     let alloc = rt.alloc();
     for (list, items) in LISTS {
-        let iterated = Set::try_from_iter(alloc, list.iter().copied());
-        assert!(rt; answers(&iterated, items));
-        let of_vec = Set::try_from_vec(Vec::from_slice(alloc, list)?);
-        assert!(rt; answers(&of_vec, items));
-        let of_slice = Set::try_from_slice(alloc, list);
-        assert!(rt; answers(&of_slice, items));
-        let collected = TryCollect::try_collect(list.iter().copied(), alloc);
-        assert!(rt; answers(&collected, items));
+        let whole = Vec::from_slice(alloc, list)?;
+        assert!(rt;
+            answers(&Set::try_from_vec(whole), items)
+                && answers(&Set::try_from_iter(alloc, list.iter().copied()), items)
+                && answers(&Set::try_from_slice(alloc, list), items)
+                && answers(&TryCollect::try_collect(list.iter().copied(), alloc), items)
+        );
     }
     Ok(())
 }
 
+/// Whether an array, and a reference to it, are answered with the set of these items.
+fn arrays_answer<const N: usize>(alloc: Global, list: [u8; N], items: Option<&[u8]>) -> bool {
+    answers(&Set::try_from_array_ref(alloc, &list), items)
+        && answers(&Set::try_from_array(alloc, list), items)
+}
+
 #[test]
 fn arrays_are_cloned_into_sets(rt: HostRuntime) {
-    let alloc = rt.alloc();
-    let (repeated, distinct, none) = ([3u8, 1, 2, 2], [3u8, 1, 2], [0u8; 0]);
     assert!(rt;
-        answers(&Set::try_from_array_ref(alloc, &repeated), None)
-            && answers(&Set::try_from_array_ref(alloc, &distinct), Some(&[1, 2, 3]))
-            && answers(&Set::try_from_array_ref(alloc, &none), Some(&[]))
-            && answers(&Set::try_from_array(alloc, repeated), None)
-            && answers(&Set::try_from_array(alloc, distinct), Some(&[1, 2, 3]))
-            && answers(&Set::try_from_array(alloc, none), Some(&[]))
+        arrays_answer(rt.alloc(), [3, 1, 2, 2], None)
+            && arrays_answer(rt.alloc(), [3, 1, 2], Some(&[1, 2, 3]))
+            && arrays_answer(rt.alloc(), [], Some(&[]))
     );
 }
 
 #[test]
 fn sets_of_sets_are_built(rt: HostRuntime) -> Result<(), Fail> {
     let alloc = rt.alloc();
-    let two = Set::try_from_array(alloc, [2u8, 1])?;
-    let one = Set::try_from_array(alloc, [1u8])?;
-    let nest = Set::try_from_slice(alloc, &[two.clone()?, one.clone()?])?;
-    assert!(rt; nest.len() == 2 && nest[0] == one && nest[1] == two);
-    let again = Set::try_from_array(alloc, [1u8, 2])?;
-    let refused = Set::try_from_iter(alloc, [two, one, again]);
-    assert!(rt; refused.err() == Some(Error::DuplicateKey));
+    let mut sets = Vec::new(alloc);
+    for items in [[2u8, 1].as_slice(), &[1]] {
+        sets.push(Set::try_from_slice(alloc, items)?)?;
+    }
+    let nest = Set::try_from_slice(alloc, sets.as_slice())?;
+    assert!(rt;
+        nest.len() == 2
+            && nest[0].as_slice() == [1].as_slice()
+            && nest[1].as_slice() == [1, 2].as_slice()
+    );
+    sets.push(Set::try_from_slice(alloc, &[1, 2])?)?;
+    assert!(rt; Set::try_from_iter(alloc, sets).err() == Some(Error::DuplicateKey));
     Ok(())
 }
 
-/// The test of the Rust crate `test_set_from_iter_dedup`.
 #[test]
-fn set_from_iter_dedup(rt: HostRuntime) -> Result<(), Fail> {
+fn test_set_from_iter_dedup(rt: HostRuntime) -> Result<(), Fail> {
     let set = Set::from_iter_dedup(rt.alloc(), [3u8, 1, 2, 2])?;
     let items: Vec<u8> = set.iter().copied().collect(rt.alloc())?;
     assert!(rt; items.as_slice() == [1, 2, 3].as_slice());
     Ok(())
 }
 
-/// The test of the Rust crate `test_set_try_from_duplicate`.
 #[test]
-fn set_try_from_duplicate(rt: HostRuntime) -> Result<(), Fail> {
+fn test_set_try_from_duplicate(rt: HostRuntime) -> Result<(), Fail> {
     let items = vec![in rt.alloc(); 3u8, 1, 2, 2]?;
     assert!(rt; Set::try_from_vec(items).err() == Some(Error::DuplicateKey));
     Ok(())
@@ -95,9 +106,8 @@ fn try_from_items<T: Ord + Drop, A: Allocator + Copy>(
     Set::try_from_iter(alloc, items)
 }
 
-/// The test of the Rust crate `test_set_try_from_iter_duplicate`.
 #[test]
-fn set_try_from_iter_duplicate(rt: HostRuntime) -> Result<(), Fail> {
+fn test_set_try_from_iter_duplicate(rt: HostRuntime) -> Result<(), Fail> {
     let items = vec![in rt.alloc(); 3u8, 1, 2, 2]?;
     assert!(rt; try_from_items(rt.alloc(), items).err() == Some(Error::DuplicateKey));
     Ok(())
@@ -105,12 +115,8 @@ fn set_try_from_iter_duplicate(rt: HostRuntime) -> Result<(), Fail> {
 
 #[test]
 fn refusals_have_messages(rt: HostRuntime) -> Result<(), Fail> {
-    for (error, message) in [
-        (Error::DuplicateKey, "duplicate key"),
-        (Error::DuplicateValue, "duplicate value"),
-        (Error::Memory, "out of memory"),
-    ] {
-        assert!(rt; format!(in rt.alloc(); "{error}")?.as_str() == message);
+    for (error, message) in MESSAGES {
+        assert!(rt; is_shown_as(rt.alloc(), &error, message)?);
     }
     Ok(())
 }

@@ -1,21 +1,25 @@
 //! Sets: look-ups, walks, texts and sizes.
-use crate::Participant;
+use super::{is_debugged_as, is_shown_as};
 use crate::ordered::Set;
+use crate::{Participant, TryFromIterator};
 use std::alloc::Global;
 use std::fmt;
 use std::test::Fail;
 
+/// Items, and their places in {1, 3, 5, 9}.
+const PLACES: [(u8, Option<usize>); 6] = [
+    (1, Some(0)),
+    (9, Some(3)),
+    (5, Some(2)),
+    (4, None),
+    (10, None),
+    (0, None),
+];
+
 #[test]
 fn equal_items_are_found(rt: HostRuntime) -> Result<(), Fail> {
     let set = Set::from_iter_dedup(rt.alloc(), [1u8, 3, 5, 9])?;
-    for (item, place) in [
-        (1, Some(0)),
-        (9, Some(3)),
-        (5, Some(2)),
-        (4, None),
-        (10, None),
-        (0, None),
-    ] {
+    for (item, place) in PLACES {
         assert!(rt; set.position(&item) == place);
     }
     let none: Set<u8, Global> = Set::empty(rt.alloc());
@@ -38,41 +42,67 @@ fn ranges_and_positions_are_read(rt: HostRuntime) -> Result<(), Fail> {
     Ok(())
 }
 
+/// Steps over {1, 3, 5}: whether from the back, the item that comes, and how many are left.
+const STEPS: [(bool, Option<u8>, usize); 5] = [
+    (true, Some(5), 2),
+    (false, Some(1), 1),
+    (false, Some(3), 0),
+    (true, None, 0),
+    (false, None, 0),
+];
+
 #[test]
 fn a_set_is_walked_from_both_ends(rt: HostRuntime) -> Result<(), Fail> {
     let set = Set::from_iter_dedup(rt.alloc(), [5u8, 1, 3])?;
-    let mut borrowed = (&set).into_iter();
-    assert!(rt;
-        borrowed.len() == 3
-            && borrowed.next_back() == Some(&5)
-            && borrowed.next() == Some(&1)
-            && borrowed.next() == Some(&3)
-            && borrowed.next_back() == None
-            && borrowed.next() == None
-    );
-    let mut items = set.into_iter();
-    assert!(rt;
-        items.len() == 3
-            && items.next_back() == Some(5)
-            && items.next() == Some(1)
-            && items.next() == Some(3)
-            && items.len() == 0
-            && items.next_back() == None
-            && items.next() == None
-    );
+    let mut lent = (&set).into_iter();
+    assert!(rt; lent.len() == 3);
+    for (from_back, expected, left) in STEPS {
+        let item = if from_back {
+            lent.next_back()
+        } else {
+            lent.next()
+        };
+        assert!(rt; item == expected.as_ref() && lent.len() == left);
+    }
     Ok(())
 }
 
-/// The test of the Rust crate `test_sorted_unique_construct_unseal`.
 #[test]
-fn sorted_unique_construct_unseal(rt: HostRuntime) -> Result<(), Fail> {
-    let case = [1u8, 3, 2, 5, 4, 3, 1, 7, 9, 6, 8, 4];
-    let expected = [1u8, 2, 3, 4, 5, 6, 7, 8, 9];
-    let sorted = Set::from_iter_dedup(rt.alloc(), case)?;
-    let walked: Vec<u8> = sorted.iter().copied().collect(rt.alloc())?;
-    assert!(rt; walked.as_slice() == expected.as_slice());
-    let unsealed: Vec<u8> = sorted.into();
-    assert!(rt; unsealed.as_slice() == expected.as_slice());
+fn a_set_is_given_away_from_both_ends(rt: HostRuntime) -> Result<(), Fail> {
+    let set = Set::from_iter_dedup(rt.alloc(), [5u8, 1, 3])?;
+    let mut given = set.into_iter();
+    assert!(rt; given.len() == 3);
+    for (from_back, expected, left) in STEPS {
+        let item = if from_back {
+            given.next_back()
+        } else {
+            given.next()
+        };
+        assert!(rt; item == expected && given.len() == left);
+    }
+    Ok(())
+}
+
+#[test]
+fn test_sorted_unique_construct_unseal(rt: HostRuntime) -> Result<(), Fail> {
+    let expected = [1u32, 2, 3, 4, 5, 6, 7, 8, 9];
+    let sorted = Set::from_iter_dedup(rt.alloc(), [1, 3, 2, 5, 4, 3, 1, 7, 9, 6, 8, 4])?;
+    let walked: Vec<u32> = sorted.iter().copied().collect(rt.alloc())?;
+    assert!(rt;
+        walked.as_slice() == expected.as_slice()
+            && sorted.as_slice() == expected.as_slice()
+            && sorted.len() == 9
+            && !sorted.is_empty()
+            && sorted.get(0) == Some(&1)
+            && sorted.get(8) == Some(&9)
+            && sorted.get(9) == None
+    );
+    let mut sum = 0u32;
+    for item in &sorted {
+        sum = sum.saturating_add(*item);
+    }
+    let unsealed: Vec<u32> = sorted.into();
+    assert!(rt; unsealed.as_slice() == expected.as_slice() && sum == 45);
     Ok(())
 }
 
@@ -87,28 +117,36 @@ impl fmt::Display for Example {
     }
 }
 
-/// The test of the Rust crate `test_sorted_unique_display`.
+/// The set of the examples of these numbers.
+fn examples(alloc: Global, numbers: &[u8]) -> Result<Set<Example, Global>, Fail> {
+    let mut items = Vec::new(alloc);
+    for number in numbers {
+        items.push(Example(*number))?;
+    }
+    Ok(Set::try_from_iter(alloc, items)?)
+}
+
 #[test]
-fn sorted_unique_display(rt: HostRuntime) -> Result<(), Fail> {
+fn test_sorted_unique_display(rt: HostRuntime) -> Result<(), Fail> {
     let alloc = rt.alloc();
-    let sorted = Set::from_iter_dedup(alloc, (1..=9u8).map(Example))?;
-    assert!(rt;
-        format!(in alloc; "{sorted}")?.as_str()
-            == "[ex(1), ex(2), ex(3), ex(4), ex(5), ex(6), ex(7), ex(8), ex(9)]"
-    );
+    let text = "[ex(1), ex(2), ex(3), ex(4), ex(5), ex(6), ex(7), ex(8), ex(9)]";
+    let sorted = examples(alloc, &[1, 2, 3, 4, 5, 6, 7, 8, 9])?;
+    assert!(rt; is_shown_as(alloc, &sorted, text)?);
+    let three = examples(alloc, &[1, 2, 3])?;
+    assert!(rt; is_shown_as(alloc, &three, "[ex(1), ex(2), ex(3)]")?);
     Ok(())
 }
 
 #[test]
 fn sets_have_texts(rt: HostRuntime) -> Result<(), Fail> {
     let alloc = rt.alloc();
-    let three = Set::from_iter_dedup(alloc, (1..=3u8).map(Example))?;
-    assert!(rt; format!(in alloc; "{three}")?.as_str() == "[ex(1), ex(2), ex(3)]");
     let none: Set<u8, Global> = Set::empty(alloc);
-    assert!(rt; format!(in alloc; "{none} {none:?}")?.as_str() == "[] Set([])");
+    assert!(rt; is_shown_as(alloc, &none, "[]")? && is_debugged_as(alloc, &none, "Set([])")?);
+    let two = Set::from_iter_dedup(alloc, [2u8, 1])?;
+    assert!(rt; is_debugged_as(alloc, &two, "Set([1, 2])")?);
     let one = Set::from_iter_dedup(alloc, [Participant::new(1000)])?;
     let nest = Set::from_iter_dedup(alloc, [one, Set::empty(alloc)])?;
-    assert!(rt; format!(in alloc; "{nest}")?.as_str() == "[[], [1000]]");
+    assert!(rt; is_shown_as(alloc, &nest, "[[], [1000]]")?);
     Ok(())
 }
 

@@ -1,79 +1,109 @@
 //! Sets: what is built, written and read.
-use super::{hash_of, is_written_as, read};
+use super::{are_ordered, comes_back, is_written_as, read, read_lists, refuses};
 use crate::Participant;
-use crate::codec::{EncodeSize, Error, RangeCfg, Write, round_trip};
+use crate::codec::{Error, RangeCfg, Write, round_trip};
 use crate::ordered::{Set, set_fault_law};
+use std::alloc::{AllocError, Allocator, Global};
 use std::cmp::Ordering;
 use std::test::Fail;
 
 const UNSORTED: Error = Error::Invalid("Set", "items must be sorted and unique");
 
-#[test]
-fn equal_items_count_once(rt: HostRuntime) -> Result<(), Fail> {
-    let set = Set::from_iter_dedup(rt.alloc(), [1u32, 3, 2, 5, 4, 3, 1, 7, 9, 6, 8, 4])?;
-    assert!(rt;
-        set.as_slice() == [1, 2, 3, 4, 5, 6, 7, 8, 9].as_slice()
-            && set.len() == 9
-            && !set.is_empty()
-            && set.get(0) == Some(&1)
-            && set.get(8) == Some(&9)
-            && set.get(9) == None
-    );
-    let mut sum = 0u32;
-    for item in set.iter() {
-        sum = sum.saturating_add(*item);
+/// Texts that are no set of bytes, under any range.
+const NO_SETS: [(&[u8], Error); 5] = [
+    (b"\x83\x00\x01\x02\x03", Error::InvalidVarint),
+    (b"\xff\xff\xff\xff\x10", Error::InvalidVarint),
+    (b"\xff\xff\xff\xff", Error::EndOfBuffer),
+    (b"", Error::EndOfBuffer),
+    (b"\xff\xff\xff\xff\x0f\x01", Error::EndOfBuffer),
+];
+
+/// Texts that are no set of at most ten bytes.
+const NO_SHORT_SETS: [(&[u8], Error); 4] = [
+    (b"\x04\x01\x03\x02\x04", UNSORTED),
+    (b"\x04\x01\x02\x02\x03", UNSORTED),
+    (b"\x03\x02\x01", Error::EndOfBuffer),
+    (b"\x0b", Error::InvalidLength(11)),
+];
+
+/// Texts that are no set of sets: an inner set that isn't sorted, an outer one, and an inner one before a cut.
+const NO_NESTS: [(&[u8], Error); 3] = [
+    (b"\x01\x02\x02\x01", UNSORTED),
+    (b"\x02\x01\x05\x00", UNSORTED),
+    (b"\x02\x02\x07\x07\x80", UNSORTED),
+];
+
+/// Items of two sets, and the order of the sets.
+const ORDERS: [(&[u8], &[u8], Ordering); 5] = [
+    (&[1, 2], &[1, 2, 3], Ordering::Less),
+    (&[2], &[1, 9], Ordering::Greater),
+    (&[1, 2], &[2], Ordering::Less),
+    (&[1, 2], &[2, 1, 2], Ordering::Equal),
+    (&[1, 2], &[1, 3], Ordering::Less),
+];
+
+/// The set of these items.
+fn set_of(alloc: Global, items: &[u8]) -> Result<Set<u8, Global>, AllocError> {
+    Set::from_iter_dedup(alloc, items.iter().copied())
+}
+
+/// The set of the sets of these items.
+fn nest_of(alloc: Global, lists: &[&[u8]]) -> Result<Set<Set<u8, Global>, Global>, AllocError> {
+    let mut sets = Vec::new(alloc);
+    for items in lists {
+        sets.push(set_of(alloc, items)?)?;
     }
-    assert!(rt; sum == 45);
-    Ok(())
+    Set::from_iter_dedup(alloc, sets)
+}
+
+/// Whether the set of the items is written as these bytes.
+fn is_set_written_as<T: Ord + Write<A> + Drop, A: Allocator + Copy>(
+    alloc: A,
+    items: Vec<T, A>,
+    bytes: &[u8],
+) -> Result<bool, AllocError> {
+    let set = Set::from_iter_dedup(alloc, items)?;
+    is_written_as(alloc, &set, bytes)
 }
 
 #[test]
-fn the_empty_set_holds_nothing(rt: HostRuntime) {
+fn the_empty_set_holds_nothing(rt: HostRuntime) -> Result<(), Fail> {
     let set: Set<u8, _> = Set::empty(rt.alloc());
-    assert!(rt; set.is_empty() && set.len() == 0 && set.get(0) == None);
+    assert!(rt;
+        set.is_empty()
+            && set.len() == 0
+            && set.get(0) == None
+            && is_written_as(rt.alloc(), &set, b"\x00")?
+    );
+    Ok(())
 }
 
 #[test]
 fn sets_are_written_as_their_lists(rt: HostRuntime) -> Result<(), Fail> {
     let alloc = rt.alloc();
     set_fault_law::<u8, _>(alloc, RangeCfg::from(..), &());
-    let three = Set::from_iter_dedup(alloc, [3u8, 1, 2, 1])?;
-    assert!(rt; is_written_as(alloc, &three, b"\x03\x01\x02\x03")?);
-    let none: Set<u8, _> = Set::empty(alloc);
-    assert!(rt; is_written_as(alloc, &none, b"\x00")?);
-    let words = Set::from_iter_dedup(alloc, [256u32, 1])?;
-    assert!(rt; is_written_as(alloc, &words, b"\x02\x00\x00\x00\x01\x00\x00\x01\x00")?);
-    let indices = Set::from_iter_dedup(alloc, [Participant::new(300), Participant::new(1)])?;
-    assert!(rt; is_written_as(alloc, &indices, b"\x02\x01\xac\x02")?);
+    let bytes = vec![in alloc; 3u8, 1, 2, 1]?;
+    assert!(rt; is_set_written_as(alloc, bytes, b"\x03\x01\x02\x03")?);
+    let words = vec![in alloc; 256u32, 1]?;
+    assert!(rt; is_set_written_as(alloc, words, b"\x02\x00\x00\x00\x01\x00\x00\x01\x00")?);
+    let indices = vec![in alloc; Participant::new(300), Participant::new(1)]?;
+    assert!(rt; is_set_written_as(alloc, indices, b"\x02\x01\xac\x02")?);
     Ok(())
 }
 
 #[test]
 fn texts_that_are_no_set_are_refused(rt: HostRuntime) {
-    for (bytes, error) in [
-        (b"\x83\x00\x01\x02\x03".as_slice(), Error::InvalidVarint),
-        (b"\xff\xff\xff\xff\x10", Error::InvalidVarint),
-        (b"\xff\xff\xff\xff", Error::EndOfBuffer),
-        (b"", Error::EndOfBuffer),
-        (b"\xff\xff\xff\xff\x0f\x01", Error::EndOfBuffer),
-    ] {
-        let any = RangeCfg::from(..);
-        let (result, taken) = read::<Set<u8, _>, _>(rt.alloc(), bytes, &(any, ()));
-        assert!(rt; result.err() == Some(error) && taken == 0);
-    }
-    for (bytes, error) in [
-        (b"\x04\x01\x03\x02\x04".as_slice(), UNSORTED),
-        (b"\x04\x01\x02\x02\x03", UNSORTED),
-        (b"\x03\x02\x01", Error::EndOfBuffer),
-        (b"\x0b", Error::InvalidLength(11)),
-    ] {
-        let few = RangeCfg::from(0..=10);
-        let (result, taken) = read::<Set<u8, _>, _>(rt.alloc(), bytes, &(few, ()));
-        assert!(rt; result.err() == Some(error) && taken == 0);
-    }
-    let none = RangeCfg::from(3..2);
-    let (result, taken) = read::<Set<u8, _>, _>(rt.alloc(), b"\x00", &(none, ()));
-    assert!(rt; result.err() == Some(Error::InvalidLength(0)) && taken == 0);
+    let alloc = rt.alloc();
+    let (any, few, none) = (
+        RangeCfg::from(..),
+        RangeCfg::from(0..=10),
+        RangeCfg::from(3..2),
+    );
+    assert!(rt;
+        refuses::<Set<u8, _>, _>(alloc, &(any, ()), &NO_SETS)
+            && refuses::<Set<u8, _>, _>(alloc, &(few, ()), &NO_SHORT_SETS)
+            && refuses::<Set<u8, _>, _>(alloc, &(none, ()), &[(b"\x00", Error::InvalidLength(0))])
+    );
 }
 
 #[test]
@@ -88,33 +118,23 @@ fn what_follows_a_set_is_left(rt: HostRuntime) -> Result<(), Fail> {
 fn sets_of_sets_are_written_and_read(rt: HostRuntime) -> Result<(), Fail> {
     let alloc = rt.alloc();
     let any = RangeCfg::from(..);
-    let none = Set::empty(alloc);
-    let one = Set::from_iter_dedup(alloc, [1u8])?;
-    let both = Set::from_iter_dedup(alloc, [2u8, 1])?;
-    let two = Set::from_iter_dedup(alloc, [2u8])?;
-    let nest = Set::from_iter_dedup(alloc, [two, both, one, none])?;
+    let nest = nest_of(alloc, &[&[2], &[2, 1], &[1], &[]])?;
     let bytes = b"\x04\x00\x01\x01\x02\x01\x02\x01\x02";
-    assert!(rt; is_written_as(alloc, &nest, bytes)?);
-    let (again, taken) = read::<Set<Set<u8, _>, _>, _>(alloc, bytes, &(any, (any, ())));
-    assert!(rt; again? == nest && taken == 9);
+    assert!(rt;
+        is_written_as(alloc, &nest, bytes)?
+            && read::<Set<Set<u8, _>, _>, _>(alloc, bytes, &(any, (any, ()))) == (Ok(nest), 9)
+    );
     Ok(())
 }
 
 #[test]
 fn the_first_fault_of_a_nest_is_named(rt: HostRuntime) {
-    let any = RangeCfg::from(..);
-    for bytes in [
-        b"\x01\x02\x02\x01".as_slice(),
-        b"\x02\x01\x05\x00",
-        b"\x02\x02\x07\x07\x80",
-    ] {
-        let cfg = (any, (any, ()));
-        let (result, taken) = read::<Set<Set<u8, _>, _>, _>(rt.alloc(), bytes, &cfg);
-        assert!(rt; result.err() == Some(UNSORTED) && taken == 0);
-    }
-    let cfg = (any, (RangeCfg::from(..=1), ()));
-    let (result, taken) = read::<Set<Set<u8, _>, _>, _>(rt.alloc(), b"\x02\x00\x02", &cfg);
-    assert!(rt; result.err() == Some(Error::InvalidLength(2)) && taken == 0);
+    let (any, one) = (RangeCfg::from(..), RangeCfg::from(..=1));
+    let rows = [(b"\x02\x00\x02".as_slice(), Error::InvalidLength(2))];
+    assert!(rt;
+        refuses::<Set<Set<u8, _>, _>, _>(rt.alloc(), &(any, (any, ())), &NO_NESTS)
+            && refuses::<Set<Set<u8, _>, _>, _>(rt.alloc(), &(any, (one, ())), &rows)
+    );
 }
 
 #[test]
@@ -133,63 +153,41 @@ fn sets_nest_three_deep(rt: HostRuntime) -> Result<(), Fail> {
 
 #[test]
 fn sets_are_ordered_as_their_lists(rt: HostRuntime) -> Result<(), Fail> {
-    let alloc = rt.alloc();
-    let short = Set::from_iter_dedup(alloc, [1u8, 2])?;
-    let long = Set::from_iter_dedup(alloc, [1u8, 2, 3])?;
-    assert!(rt; short < long && short.cmp(&long) == Ordering::Less);
-    let high = Set::from_iter_dedup(alloc, [2u8])?;
-    let low = Set::from_iter_dedup(alloc, [1u8, 9])?;
-    assert!(rt; high > low && short != high && short == Set::from_iter_dedup(alloc, [2u8, 1, 2])?);
-    Ok(())
-}
-
-#[test]
-fn equal_sets_hash_alike(rt: HostRuntime) -> Result<(), Fail> {
-    let alloc = rt.alloc();
-    let set = Set::from_iter_dedup(alloc, [1u8, 2])?;
-    let same = Set::from_iter_dedup(alloc, [2u8, 1, 2])?;
-    let other = Set::from_iter_dedup(alloc, [1u8, 3])?;
-    assert!(rt; hash_of(&set) == hash_of(&same) && hash_of(&set) != hash_of(&other));
-    Ok(())
-}
-
-#[test]
-fn sets_are_debugged_as_their_lists(rt: HostRuntime) -> Result<(), Fail> {
-    let alloc = rt.alloc();
-    let set = Set::from_iter_dedup(alloc, [2u8, 1])?;
-    assert!(rt; format!(in alloc; "{set:?}")?.as_str() == "Set([1, 2])");
-    Ok(())
-}
-
-/// The test of the Rust crate `test_sorted_unique_codec_roundtrip`.
-#[test]
-fn sorted_unique_codec_roundtrip(rt: HostRuntime) -> Result<(), Fail> {
-    let alloc = rt.alloc();
-    let sorted = Set::from_iter_dedup(alloc, 1..=9u8)?;
-    assert!(rt; sorted.is_writable());
-    let mut sink = Vec::new(alloc);
-    sorted.write(&mut sink)?;
-    let (decoded, _) = read::<Set<u8, _>, _>(alloc, &sink, &(RangeCfg::from(0..=9), ()));
-    assert!(rt; decoded? == sorted);
-    Ok(())
-}
-
-/// The tests of the Rust crate `test_set_decode_rejects_duplicates`, `.._rejects_unsorted` and `.._accepts_valid`.
-#[test]
-fn set_decode_looks_at_the_order(rt: HostRuntime) -> Result<(), Fail> {
-    let alloc = rt.alloc();
-    let cfg = (RangeCfg::from(0..=10), ());
-    for (items, accepted) in [
-        ([1u8, 2, 2, 3], false),
-        ([1, 3, 2, 4], false),
-        ([1, 2, 3, 4], true),
-    ] {
-        let mut sink = Vec::new(alloc);
-        Vec::from_slice(alloc, &items)?.write(&mut sink)?;
-        match read::<Set<u8, _>, _>(alloc, &sink, &cfg).0 {
-            Ok(set) => assert!(rt; accepted && set.as_slice() == items.as_slice()),
-            Err(error) => assert!(rt; !accepted && error == UNSORTED),
-        }
+    for (items, others, order) in ORDERS {
+        let set = set_of(rt.alloc(), items)?;
+        let other = set_of(rt.alloc(), others)?;
+        assert!(rt; are_ordered(&set, &other, order));
     }
+    Ok(())
+}
+
+#[test]
+fn test_sorted_unique_codec_roundtrip(rt: HostRuntime) -> Result<(), Fail> {
+    let sorted = set_of(rt.alloc(), &[1, 2, 3, 4, 5, 6, 7, 8, 9])?;
+    assert!(rt; comes_back(rt.alloc(), &sorted, &(RangeCfg::from(0..=9), ()))?);
+    Ok(())
+}
+
+/// What the reader of sets answers for a list.
+fn decoded(alloc: Global, items: &[u8]) -> Result<Result<Set<u8, Global>, Error>, AllocError> {
+    read_lists(alloc, &[items], &(RangeCfg::from(0..=10), ()))
+}
+
+#[test]
+fn test_set_decode_rejects_duplicates(rt: HostRuntime) -> Result<(), Fail> {
+    assert!(rt; decoded(rt.alloc(), &[1, 2, 2, 3])?.err() == Some(UNSORTED));
+    Ok(())
+}
+
+#[test]
+fn test_set_decode_rejects_unsorted(rt: HostRuntime) -> Result<(), Fail> {
+    assert!(rt; decoded(rt.alloc(), &[1, 3, 2, 4])?.err() == Some(UNSORTED));
+    Ok(())
+}
+
+#[test]
+fn test_set_decode_accepts_valid(rt: HostRuntime) -> Result<(), Fail> {
+    let set = decoded(rt.alloc(), &[1, 2, 3, 4])??;
+    assert!(rt; set.as_slice() == [1, 2, 3, 4].as_slice());
     Ok(())
 }

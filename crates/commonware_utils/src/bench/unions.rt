@@ -5,59 +5,71 @@ use crate::{
 use std::num::{NonZeroU8, NonZeroU16, NonZeroU32, NonZeroU64};
 use std::test::Fail;
 
-/// With the test of the Rust crate `test_union`.
+/// Two texts, and the one after the other.
+const UNIONS: [(&[u8], &[u8], &[u8]); 4] = [
+    (b"", b"", b""),
+    (b"", b"\x01\x02\x03", b"\x01\x02\x03"),
+    (b"\x01\x02\x03", b"", b"\x01\x02\x03"),
+    (
+        b"\x01\x02\x03",
+        b"\x04\x05\x06",
+        b"\x01\x02\x03\x04\x05\x06",
+    ),
+];
+
+/// Two sizes, and the larger.
+const SIZES: [(usize, usize, usize); 6] = [
+    (3, 7, 7),
+    (7, 3, 7),
+    (5, 5, 5),
+    (0, 0, 0),
+    (usize::MAX, 0, usize::MAX),
+    (0, usize::MAX, usize::MAX),
+];
+
 #[test]
-fn unions_are_one_text_and_another(rt: HostRuntime) -> Result<(), Fail> {
-    for (a, b, whole) in [
-        (b"".as_slice(), b"".as_slice(), b"".as_slice()),
-        (b"", b"\x01\x02\x03", b"\x01\x02\x03"),
-        (b"\x01\x02\x03", b"", b"\x01\x02\x03"),
-        (
-            b"\x01\x02\x03",
-            b"\x04\x05\x06",
-            b"\x01\x02\x03\x04\x05\x06",
-        ),
-    ] {
+fn test_union(rt: HostRuntime) -> Result<(), Fail> {
+    for (a, b, whole) in UNIONS {
         assert!(rt; union(rt.alloc(), a, b)?.as_slice() == whole);
     }
     Ok(())
 }
 
-/// With the tests of the Rust crate `test_union_unique`, `test_union_unique_zero_length` and
-/// `test_union_unique_long_length`.
 #[test]
-fn a_namespace_is_counted(rt: HostRuntime) -> Result<(), Fail> {
-    let long = [b'n'; 256];
-    for (namespace, msg, count) in [
+fn test_union_unique(rt: HostRuntime) -> Result<(), Fail> {
+    for (namespace, msg, whole) in [
         (
             b"namespace".as_slice(),
             b"message".as_slice(),
-            b"\x09".as_slice(),
+            b"\x09namespacemessage".as_slice(),
         ),
-        (b"", b"message", b"\x00"),
-        (&long, b"message", b"\x80\x02"),
-        (b"a", b"bc", b"\x01"),
-        (b"ab", b"c", b"\x02"),
+        (b"a", b"bc", b"\x01abc"),
+        (b"ab", b"c", b"\x02abc"),
     ] {
-        let text = union_unique(rt.alloc(), namespace, msg)?;
-        let rest = text.strip_prefix(count).ok_or("another count")?;
-        let last = rest.strip_prefix(namespace).ok_or("another namespace")?;
-        assert!(rt; last == msg);
+        assert!(rt; union_unique(rt.alloc(), namespace, msg)?.as_slice() == whole);
     }
     Ok(())
 }
 
-/// With the test of the Rust crate `test_max`.
 #[test]
-fn the_larger_size_is_the_maximum(rt: HostRuntime) {
-    for (a, b, larger) in [
-        (3, 7, 7),
-        (7, 3, 7),
-        (5, 5, 5),
-        (0, 0, 0),
-        (usize::MAX, 0, usize::MAX),
-        (0, usize::MAX, usize::MAX),
-    ] {
+fn test_union_unique_zero_length(rt: HostRuntime) -> Result<(), Fail> {
+    let whole = union_unique(rt.alloc(), b"", b"message")?;
+    assert!(rt; whole.as_slice() == b"\x00message".as_slice());
+    Ok(())
+}
+
+#[test]
+fn test_union_unique_long_length(rt: HostRuntime) -> Result<(), Fail> {
+    let namespace = [b'n'; 256];
+    let whole = union_unique(rt.alloc(), &namespace, b"message")?;
+    let rest = whole.strip_prefix(b"\x80\x02").ok_or("another count")?;
+    assert!(rt; rest.strip_prefix(&namespace) == Some(b"message".as_slice()));
+    Ok(())
+}
+
+#[test]
+fn test_max(rt: HostRuntime) {
+    for (a, b, larger) in SIZES {
         assert!(rt; max(a, b) == larger);
     }
 }

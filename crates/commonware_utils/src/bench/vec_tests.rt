@@ -1,10 +1,10 @@
-//! The tests of the Rust crate's module `vec`, and those of its numbers that aren't 0, each with the name that it has there.
+//! The tests of the Rust crate's module `vec`, each with the name that it has there.
 ghost use Rattle.std.specs.Prelude.{◌≡◌, ◌≤◌, ◌∷◌, [], IfOk, length};
 
-use super::read;
-use crate::codec::{Error as CodecError, RangeCfg, Write};
+use super::{comes_back, is_written_as, refuses};
+use crate::codec::{Error as CodecError, RangeCfg};
 use crate::vec::{Bounded, Error, Mutate, NonEmptyVec};
-use crate::{NZU8, NZU16, NZU32, NZU64, NZUsize, TryCollect, non_empty_vec};
+use crate::{NZUsize, TryCollect, non_empty_vec};
 use std::alloc::Global;
 use std::num::NonZeroUsize;
 use std::test::Fail;
@@ -22,7 +22,7 @@ fn has(list: &NonEmptyVec<u8, Global>, items: &[u8]) -> bool {
 }
 
 #[test]
-fn bounded_push_evicts_oldest(rt: HostRuntime) -> Result<(), Fail> {
+fn test_bounded_push_evicts_oldest(rt: HostRuntime) -> Result<(), Fail> {
     let mut queue = Bounded::new(rt.alloc(), NZUsize!(3));
     for (item, out) in [(1u8, None), (2, None), (3, None), (4, Some(1))] {
         assert!(rt; queue.push(item) == Ok(out));
@@ -32,7 +32,7 @@ fn bounded_push_evicts_oldest(rt: HostRuntime) -> Result<(), Fail> {
 }
 
 #[test]
-fn bounded_pop_front_reuses_capacity(rt: HostRuntime) {
+fn test_bounded_pop_front_reuses_capacity(rt: HostRuntime) {
     let mut queue = Bounded::new(rt.alloc(), NZUsize!(2));
     assert!(rt;
         queue.push(1u8) == Ok(None)
@@ -44,7 +44,7 @@ fn bounded_pop_front_reuses_capacity(rt: HostRuntime) {
 }
 
 #[test]
-fn bounded_into_inner(rt: HostRuntime) {
+fn test_bounded_into_inner(rt: HostRuntime) {
     let mut queue = Bounded::new(rt.alloc(), NZUsize!(2));
     assert!(rt;
         queue.push(1u8) == Ok(None)
@@ -54,14 +54,14 @@ fn bounded_into_inner(rt: HostRuntime) {
 }
 
 #[test]
-fn new(rt: HostRuntime) -> Result<(), Fail> {
+fn test_new(rt: HostRuntime) -> Result<(), Fail> {
     let v = NonEmptyVec::new(rt.alloc(), 42u8)?;
     assert!(rt; v.len().get() == 1 && *v.first() == 42 && *v.last() == 42);
     Ok(())
 }
 
 #[test]
-fn is_singleton(rt: HostRuntime) -> Result<(), Fail> {
+fn test_is_singleton(rt: HostRuntime) -> Result<(), Fail> {
     let one = non_empty_vec!(rt.alloc() => 42u8)?;
     let two = non_empty_vec!(rt.alloc() => 1u8, 2)?;
     assert!(rt;
@@ -70,9 +70,8 @@ fn is_singleton(rt: HostRuntime) -> Result<(), Fail> {
     Ok(())
 }
 
-/// The test `test_macro`.
 #[test]
-fn macro_forms(rt: HostRuntime) -> Result<(), Fail> {
+fn test_macro(rt: HostRuntime) -> Result<(), Fail> {
     let alloc = rt.alloc();
     let three = one_two_three(alloc)?;
     assert!(rt; three.len().get() == 3 && *three.first() == 1 && *three.last() == 3);
@@ -92,7 +91,7 @@ fn macro_forms(rt: HostRuntime) -> Result<(), Fail> {
 }
 
 #[test]
-fn try_from_vec(rt: HostRuntime) -> Result<(), Fail> {
+fn test_try_from_vec(rt: HostRuntime) -> Result<(), Fail> {
     let v = NonEmptyVec::try_from(vec![in rt.alloc(); 1u8, 2, 3]?)?;
     assert!(rt; v.len().get() == 3);
     let none: Vec<u8> = Vec::new(rt.alloc());
@@ -101,7 +100,7 @@ fn try_from_vec(rt: HostRuntime) -> Result<(), Fail> {
 }
 
 #[test]
-fn try_from_slice(rt: HostRuntime) -> Result<(), Fail> {
+fn test_try_from_slice(rt: HostRuntime) -> Result<(), Fail> {
     let v = NonEmptyVec::try_from_slice(rt.alloc(), [1u8, 2, 3].as_slice())?;
     assert!(rt; v.len().get() == 3);
     let none: &[u8] = &[];
@@ -111,7 +110,7 @@ fn try_from_slice(rt: HostRuntime) -> Result<(), Fail> {
 }
 
 #[test]
-fn try_from_array(rt: HostRuntime) -> Result<(), Fail> {
+fn test_try_from_array(rt: HostRuntime) -> Result<(), Fail> {
     let v = NonEmptyVec::try_from_array(rt.alloc(), [1u8, 2, 3])?;
     let w = NonEmptyVec::try_from_array_ref(rt.alloc(), &[1u8, 2, 3])?;
     assert!(rt; v.len().get() == 3 && v == w);
@@ -121,7 +120,7 @@ fn try_from_array(rt: HostRuntime) -> Result<(), Fail> {
 }
 
 #[test]
-fn try_from_iterator(rt: HostRuntime) -> Result<(), Fail> {
+fn test_try_from_iterator(rt: HostRuntime) -> Result<(), Fail> {
     let v: NonEmptyVec<u8, Global> = TryCollect::try_collect(1u8..=3, rt.alloc())?;
     assert!(rt; v.len().get() == 3);
     let none = std::iter::empty::<u8>();
@@ -131,7 +130,7 @@ fn try_from_iterator(rt: HostRuntime) -> Result<(), Fail> {
 }
 
 #[test]
-fn first_last(rt: HostRuntime) -> Result<(), Fail> {
+fn test_first_last(rt: HostRuntime) -> Result<(), Fail> {
     let mut v = one_two_three(rt.alloc())?;
     assert!(rt; *v.first() == 1 && *v.last() == 3);
     *v.first_mut() = 10;
@@ -141,7 +140,7 @@ fn first_last(rt: HostRuntime) -> Result<(), Fail> {
 }
 
 #[test]
-fn push(rt: HostRuntime) -> Result<(), Fail> {
+fn test_push(rt: HostRuntime) -> Result<(), Fail> {
     let mut v = non_empty_vec!(rt.alloc() => 1)?;
     assert!(rt;
         v.push(2) == Ok(())
@@ -154,14 +153,14 @@ fn push(rt: HostRuntime) -> Result<(), Fail> {
 }
 
 #[test]
-fn insert(rt: HostRuntime) -> Result<(), Fail> {
+fn test_insert(rt: HostRuntime) -> Result<(), Fail> {
     let mut v = non_empty_vec!(rt.alloc() => 1, 3)?;
     assert!(rt; v.insert(1, 2) == Ok(()) && has(&v, &[1, 2, 3]));
     Ok(())
 }
 
 #[test]
-fn extend(rt: HostRuntime) -> Result<(), Fail> {
+fn test_extend(rt: HostRuntime) -> Result<(), Fail> {
     let mut v = non_empty_vec!(rt.alloc() => 1)?;
     v.extend([2, 3, 4])?;
     assert!(rt; v.len().get() == 4 && has(&v, &[1, 2, 3, 4]));
@@ -169,7 +168,7 @@ fn extend(rt: HostRuntime) -> Result<(), Fail> {
 }
 
 #[test]
-fn resize(rt: HostRuntime) -> Result<(), Fail> {
+fn test_resize(rt: HostRuntime) -> Result<(), Fail> {
     let mut v = non_empty_vec!(rt.alloc() => 1, 2)?;
     v.resize(NZUsize!(5), 0)?;
     assert!(rt; has(&v, &[1, 2, 0, 0, 0]));
@@ -181,7 +180,7 @@ fn resize(rt: HostRuntime) -> Result<(), Fail> {
 }
 
 #[test]
-fn resize_with(rt: HostRuntime) -> Result<(), Fail> {
+fn test_resize_with(rt: HostRuntime) -> Result<(), Fail> {
     let mut v = non_empty_vec!(rt.alloc() => 1)?;
     let mut counter = 0u8;
     v.resize_with(NZUsize!(4), || {
@@ -199,7 +198,7 @@ fn resize_with(rt: HostRuntime) -> Result<(), Fail> {
 }
 
 #[test]
-fn pop(rt: HostRuntime) -> Result<(), Fail> {
+fn test_pop(rt: HostRuntime) -> Result<(), Fail> {
     let mut v = one_two_three(rt.alloc())?;
     for (out, left) in [(Some(3), 2), (Some(2), 1), (None, 1)] {
         assert!(rt; v.pop() == out && v.len().get() == left);
@@ -209,7 +208,7 @@ fn pop(rt: HostRuntime) -> Result<(), Fail> {
 }
 
 #[test]
-fn remove(rt: HostRuntime) -> Result<(), Fail> {
+fn test_remove(rt: HostRuntime) -> Result<(), Fail> {
     let mut v = one_two_three(rt.alloc())?;
     assert!(rt;
         v.remove(1) == Some(2)
@@ -223,7 +222,7 @@ fn remove(rt: HostRuntime) -> Result<(), Fail> {
 }
 
 #[test]
-fn mutate(rt: HostRuntime) -> Result<(), Fail> {
+fn test_mutate(rt: HostRuntime) -> Result<(), Fail> {
     let mut v = non_empty_vec!(rt.alloc() => 3, 1, 2, 1)?;
     v.mutate(
         |items|
@@ -241,14 +240,14 @@ fn mutate(rt: HostRuntime) -> Result<(), Fail> {
 }
 
 #[test]
-fn deref(rt: HostRuntime) -> Result<(), Fail> {
+fn test_deref(rt: HostRuntime) -> Result<(), Fail> {
     let v = non_empty_vec!(rt.alloc() => 3u8, 1, 2)?;
     assert!(rt; v.len().get() == 3 && v.as_slice().contains(&2) && v.as_slice().get(1) == Some(&1));
     Ok(())
 }
 
 #[test]
-fn deref_mut(rt: HostRuntime) -> Result<(), Fail> {
+fn test_deref_mut(rt: HostRuntime) -> Result<(), Fail> {
     let mut v = non_empty_vec!(rt.alloc() => 3, 1, 2)?;
     v.as_mut_slice().sort_unstable();
     assert!(rt; has(&v, &[1, 2, 3]));
@@ -263,14 +262,14 @@ fn deref_mut(rt: HostRuntime) -> Result<(), Fail> {
 }
 
 #[test]
-fn into_vec(rt: HostRuntime) -> Result<(), Fail> {
+fn test_into_vec(rt: HostRuntime) -> Result<(), Fail> {
     let items = one_two_three(rt.alloc())?.into_vec();
     assert!(rt; items.as_slice() == [1, 2, 3].as_slice());
     Ok(())
 }
 
 #[test]
-fn map(rt: HostRuntime) -> Result<(), Fail> {
+fn test_map(rt: HostRuntime) -> Result<(), Fail> {
     let v = one_two_three(rt.alloc())?;
     let doubled = v.map(|item| item.wrapping_mul(2))?;
     assert!(rt; has(&doubled, &[2, 4, 6]) && has(&v, &[1, 2, 3]));
@@ -278,21 +277,21 @@ fn map(rt: HostRuntime) -> Result<(), Fail> {
 }
 
 #[test]
-fn map_into(rt: HostRuntime) -> Result<(), Fail> {
+fn test_map_into(rt: HostRuntime) -> Result<(), Fail> {
     let doubled = one_two_three(rt.alloc())?.map_into(|item| item.wrapping_mul(2))?;
     assert!(rt; has(&doubled, &[2, 4, 6]));
     Ok(())
 }
 
 #[test]
-fn from_non_empty_vec(rt: HostRuntime) -> Result<(), Fail> {
+fn test_from_non_empty_vec(rt: HostRuntime) -> Result<(), Fail> {
     let items: Vec<u8> = one_two_three(rt.alloc())?.into();
     assert!(rt; items.as_slice() == [1, 2, 3].as_slice());
     Ok(())
 }
 
 #[test]
-fn index(rt: HostRuntime) -> Result<(), Fail> {
+fn test_index(rt: HostRuntime) -> Result<(), Fail> {
     let mut v = one_two_three(rt.alloc())?;
     assert!(rt; v[0] == 1 && v[1] == 2 && v[2] == 3 && v.as_slice()[0..2] == [1, 2]);
     let items = v.as_mut_slice();
@@ -303,86 +302,59 @@ fn index(rt: HostRuntime) -> Result<(), Fail> {
 }
 
 #[test]
-fn iterators(rt: HostRuntime) -> Result<(), Fail> {
+fn test_iterators(rt: HostRuntime) -> Result<(), Fail> {
     let mut v = one_two_three(rt.alloc())?;
     let mut sum = 0u8;
     for item in &v {
         sum = sum.wrapping_add(*item);
     }
     assert!(rt; sum == 6);
+    let lent: Vec<u8> = (&v).into_iter().rev().copied().collect(rt.alloc())?;
+    assert!(rt; lent.as_slice() == [3, 2, 1].as_slice());
+    for item in v.as_mut_slice() {
+        *item = item.wrapping_mul(2);
+    }
+    assert!(rt; has(&v, &[2, 4, 6]));
     for item in &mut v {
-        *item = item.wrapping_mul(2).wrapping_add(10);
+        *item = item.wrapping_add(10);
     }
     assert!(rt; has(&v, &[12, 14, 16]));
-    let lent: Vec<u8> = (&v).into_iter().rev().copied().collect(rt.alloc())?;
-    assert!(rt; lent.as_slice() == [16, 14, 12].as_slice());
     let given: Vec<u8> = v.into_iter().collect(rt.alloc())?;
     assert!(rt; given.as_slice() == [12, 14, 16].as_slice());
     Ok(())
 }
 
 #[test]
-fn codec_roundtrip(rt: HostRuntime) -> Result<(), Fail> {
-    let alloc = rt.alloc();
-    let v = one_two_three(alloc)?;
-    let mut bytes = Vec::new(alloc);
-    v.write(&mut bytes)?;
+fn test_codec_roundtrip(rt: HostRuntime) -> Result<(), Fail> {
     let cfg = (RangeCfg::from(NZUsize!(1)..=NZUsize!(10)), ());
-    let (again, taken) = read::<NonEmptyVec<u8, _>, _>(alloc, &bytes, &cfg);
-    assert!(rt; again? == v && taken == 4);
+    assert!(rt; comes_back(rt.alloc(), &one_two_three(rt.alloc())?, &cfg)?);
     Ok(())
 }
 
 #[test]
-fn codec_rejects_empty(rt: HostRuntime) -> Result<(), Fail> {
-    let empty: Vec<u8> = Vec::new(rt.alloc());
-    let mut bytes = Vec::new(rt.alloc());
-    empty.write(&mut bytes)?;
-    let refusal = CodecError::Invalid("NonEmptyVec", "cannot decode empty vector");
-    for (range, error) in [
-        (RangeCfg::from(..), &refusal),
-        (RangeCfg::from(..NZUsize!(10)), &refusal),
-        (
-            RangeCfg::from(NZUsize!(1)..NZUsize!(10)),
-            &CodecError::InvalidLength(0),
-        ),
-    ] {
-        let (result, _) = read::<NonEmptyVec<u8, _>, _>(rt.alloc(), &bytes, &(range, ()));
-        assert!(rt; result.is_err_and(|found| found == *error));
+fn test_codec_rejects_empty(rt: HostRuntime) -> Result<(), Fail> {
+    let (alloc, ten) = (rt.alloc(), NZUsize!(10));
+    let empty: Vec<u8> = Vec::new(alloc);
+    let bytes = b"\x00".as_slice();
+    assert!(rt; is_written_as(alloc, &empty, bytes)?);
+    for range in [RangeCfg::from(..), RangeCfg::from(..ten)] {
+        let rows = [(
+            bytes,
+            CodecError::Invalid("NonEmptyVec", "cannot decode empty vector"),
+        )];
+        assert!(rt; refuses::<NonEmptyVec<u8, _>, _>(alloc, &(range, ()), &rows));
     }
+    let from_one = (RangeCfg::from(NZUsize!(1)..ten), ());
+    let rows = [(bytes, CodecError::InvalidLength(0))];
+    assert!(rt; refuses::<NonEmptyVec<u8, _>, _>(alloc, &from_one, &rows));
     Ok(())
 }
 
 #[test]
-fn as_ref(rt: HostRuntime) -> Result<(), Fail> {
+fn test_as_ref(rt: HostRuntime) -> Result<(), Fail> {
     let v = one_two_three(rt.alloc())?;
     assert!(rt; v.as_slice() == [1, 2, 3].as_slice());
     let items: &Vec<u8> = v.as_ref();
     assert!(rt; items.as_slice() == [1, 2, 3].as_slice());
     Ok(())
-}
-
-/// The test of the crate root `test_non_zero_macros_compile_time`.
-#[test]
-fn non_zero_macros_compile_time(rt: HostRuntime) {
-    assert!(rt;
-        NZUsize!(1).get() == 1
-            && NZU8!(2).get() == 2
-            && NZU16!(3).get() == 3
-            && NZU32!(4).get() == 4
-            && NZU64!(5).get() == 5
-    );
-}
-
-/// The test of the crate root `test_non_zero_macros_runtime`.
-#[test]
-fn non_zero_macros_runtime(rt: HostRuntime) {
-    let (one, two, three, four, five) = (1usize, 2u8, 3u16, 4u32, 5u64);
-    assert!(rt;
-        NZUsize!(one).get() == 1
-            && NZU8!(two).get() == 2
-            && NZU16!(three).get() == 3
-            && NZU32!(four).get() == 4
-            && NZU64!(five).get() == 5
-    );
 }

@@ -1,5 +1,5 @@
 //! Lists that are never empty, and bounded queues: rows and vectors.
-use super::{hash_of, is_written_as, read};
+use super::{are_equal, are_ordered, is_debugged_as, is_shown_as, is_written_as, read, refuses};
 use crate::codec::{Error as CodecError, RangeCfg, round_trip};
 use crate::ordered::{Map, Set};
 use crate::vec::{Bounded, Error, Mutate, NonEmptyVec, non_empty_fault_law};
@@ -12,6 +12,30 @@ use std::test::Fail;
 
 const EMPTY: CodecError = CodecError::Invalid("NonEmptyVec", "cannot decode empty vector");
 
+/// Texts that are no list of lists that are never empty.
+const NO_NESTS: [(&[u8], CodecError); 3] = [
+    (b"\x02\x01\x07\x00", EMPTY),
+    (b"\x02\x00\x80", EMPTY),
+    (b"\x02\x01\x07\x80", CodecError::EndOfBuffer),
+];
+
+/// Items of two lists, and the order of the lists.
+const ORDERS: [(&[u8], &[u8], Ordering); 4] = [
+    (&[1], &[1, 1], Ordering::Less),
+    (&[1, 1], &[2], Ordering::Less),
+    (&[2], &[1, 1], Ordering::Greater),
+    (&[1], &[1], Ordering::Equal),
+];
+
+/// Refusals and what they say.
+const MESSAGES: [(Error, &str); 2] = [
+    (
+        Error::Empty,
+        "cannot create NonEmptyVec from empty collection",
+    ),
+    (Error::Memory, "out of memory"),
+];
+
 /// The list of these bytes.
 fn list_of(alloc: Global, items: &[u8]) -> Result<NonEmptyVec<u8, Global>, Error> {
     NonEmptyVec::try_from_slice(alloc, items)
@@ -23,24 +47,27 @@ fn holds(queue: &VecDeque<u8, Global>, items: &[u8]) -> bool {
 }
 
 #[test]
-fn the_oldest_makes_room(rt: HostRuntime) {
+fn a_queue_of_one_holds_the_newest(rt: HostRuntime) {
     let mut one = Bounded::new(rt.alloc(), NZUsize!(1));
-    assert!(rt;
-        one.push(5u8) == Ok(None)
-            && one.push(6) == Ok(Some(5))
-            && holds(&one, &[6])
-            && one.capacity().get() == 1
-    );
+    for (item, out) in [(5u8, None), (6, Some(5))] {
+        assert!(rt; one.push(item) == Ok(out));
+    }
+    assert!(rt; holds(&one, &[6]) && one.capacity().get() == 1);
+}
+
+#[test]
+fn the_oldest_makes_room(rt: HostRuntime) {
     let mut two = Bounded::new(rt.alloc(), NZUsize!(2));
     assert!(rt;
         two.pop_front() == None
             && two.push(1u8) == Ok(None)
             && two.push(2) == Ok(None)
             && two.pop_front() == Some(1)
-            && two.push(3) == Ok(None)
-            && two.push(4) == Ok(Some(2))
-            && holds(two.as_ref(), &[3, 4])
     );
+    for (item, out) in [(3, None), (4, Some(2))] {
+        assert!(rt; two.push(item) == Ok(out));
+    }
+    assert!(rt; holds(two.as_ref(), &[3, 4]));
 }
 
 /// The queue of at most so many of the items, the last ones.
@@ -53,18 +80,24 @@ fn queue_of(alloc: Global, capacity: NonZeroUsize, items: &[u8]) -> Bounded<u8, 
 }
 
 #[test]
-fn queues_are_compared_with_their_capacity(rt: HostRuntime) -> Result<(), Fail> {
+fn queues_are_compared_with_their_capacity(rt: HostRuntime) {
     let alloc = rt.alloc();
     let queue = queue_of(alloc, NZUsize!(3), &[1, 2]);
+    for (capacity, items, equal) in [
+        (NZUsize!(3), [1, 2], true),
+        (NZUsize!(2), [1, 2], false),
+        (NZUsize!(3), [1, 3], false),
+    ] {
+        assert!(rt; are_equal(&queue, &queue_of(alloc, capacity, &items), equal));
+    }
+}
+
+#[test]
+fn queues_are_cloned_and_shown(rt: HostRuntime) -> Result<(), Fail> {
+    let queue = queue_of(rt.alloc(), NZUsize!(3), &[1, 2]);
     let clone = queue.clone()?;
-    assert!(rt;
-        queue == clone
-            && hash_of(&queue) == hash_of(&clone)
-            && queue != queue_of(alloc, NZUsize!(2), &[1, 2])
-            && queue != queue_of(alloc, NZUsize!(3), &[1, 3])
-    );
-    let debug = format!(in alloc; "{queue:?}")?;
-    assert!(rt; debug.as_str() == "Bounded { deque: [1, 2], capacity: 3 }");
+    let text = "Bounded { deque: [1, 2], capacity: 3 }";
+    assert!(rt; are_equal(&queue, &clone, true) && is_debugged_as(rt.alloc(), &queue, text)?);
     let items: VecDeque<u8, Global> = clone.into();
     assert!(rt; holds(&items, &[1, 2]));
     Ok(())
@@ -73,11 +106,13 @@ fn queues_are_compared_with_their_capacity(rt: HostRuntime) -> Result<(), Fail> 
 /// Whether each form answers these items.
 fn forms_answer(alloc: Global, items: &[u8]) -> Result<bool, Fail> {
     let n = NZUsize!(3);
-    let written = non_empty_vec!(alloc => 4u8; 3)?;
-    let counted = non_empty_vec!(alloc => 4u8; NZUsize!(3))?;
-    let given = non_empty_vec!(alloc => 4u8; @n)?;
     let whole = non_empty_vec!(@vec![in alloc; 4u8, 4, 4]?);
-    Ok(written.as_slice() == items && counted == written && given == written && whole == written)
+    Ok(
+        whole.as_slice() == items
+            && non_empty_vec!(alloc => 4u8; 3)? == whole
+            && non_empty_vec!(alloc => 4u8; NZUsize!(3))? == whole
+            && non_empty_vec!(alloc => 4u8; @n)? == whole,
+    )
 }
 
 #[test]
@@ -116,45 +151,31 @@ fn items_need_no_more_than_clones(rt: HostRuntime) -> Result<(), Fail> {
 
 #[test]
 fn lists_are_ordered_item_by_item(rt: HostRuntime) -> Result<(), Fail> {
-    let alloc = rt.alloc();
-    let (short, long, last) = (
-        list_of(alloc, &[1])?,
-        list_of(alloc, &[1, 1])?,
-        list_of(alloc, &[2])?,
-    );
-    assert!(rt;
-        short < long
-            && long < last
-            && last.cmp(&long) == Ordering::Greater
-            && short != long
-            && hash_of(&short) == hash_of(&short.clone()?)
-    );
-    let two = list_of(alloc, &[1, 2])?;
-    let debug = format!(in alloc; "{two:?}")?;
-    assert!(rt; debug.as_str() == "NonEmptyVec([1, 2])");
+    for (items, others, order) in ORDERS {
+        let list = list_of(rt.alloc(), items)?;
+        let other = list_of(rt.alloc(), others)?;
+        assert!(rt; are_ordered(&list, &other, order));
+    }
+    let two = list_of(rt.alloc(), &[1, 2])?;
+    assert!(rt; two == two.clone()? && is_debugged_as(rt.alloc(), &two, "NonEmptyVec([1, 2])")?);
     Ok(())
 }
 
 #[test]
-fn nothing_is_refused(rt: HostRuntime) -> Result<(), Fail> {
-    let alloc = rt.alloc();
-    let none = [0u8; 0];
-    for refusal in [
-        NonEmptyVec::try_from_iter(alloc, none).err(),
-        NonEmptyVec::try_from_slice(alloc, &none).err(),
-        NonEmptyVec::try_from_array(alloc, none).err(),
-        NonEmptyVec::try_from_array_ref(alloc, &none).err(),
-    ] {
-        assert!(rt; refusal == Some(Error::Empty));
-    }
-    for (error, message) in [
-        (
-            Error::Empty,
-            "cannot create NonEmptyVec from empty collection",
-        ),
-        (Error::Memory, "out of memory"),
-    ] {
-        assert!(rt; format!(in alloc; "{error}")?.as_str() == message);
+fn nothing_is_refused(rt: HostRuntime) {
+    let (alloc, none) = (rt.alloc(), [0u8; 0]);
+    assert!(rt;
+        NonEmptyVec::try_from_iter(alloc, none).err() == Some(Error::Empty)
+            && NonEmptyVec::try_from_slice(alloc, &none).err() == Some(Error::Empty)
+            && NonEmptyVec::try_from_array(alloc, none).err() == Some(Error::Empty)
+            && NonEmptyVec::try_from_array_ref(alloc, &none).err() == Some(Error::Empty)
+    );
+}
+
+#[test]
+fn refusals_have_messages(rt: HostRuntime) -> Result<(), Fail> {
+    for (error, message) in MESSAGES {
+        assert!(rt; is_shown_as(rt.alloc(), &error, message)?);
     }
     Ok(())
 }
@@ -163,10 +184,26 @@ fn nothing_is_refused(rt: HostRuntime) -> Result<(), Fail> {
 fn lists_are_written_as_lists(rt: HostRuntime) -> Result<(), Fail> {
     let alloc = rt.alloc();
     non_empty_fault_law::<u8, _>(alloc, RangeCfg::from(..), &());
-    assert!(rt; is_written_as(alloc, &list_of(alloc, &[1, 2, 3])?, b"\x03\x01\x02\x03")?);
-    let items = [list_of(alloc, &[1, 1])?, list_of(alloc, &[1])?];
-    let set = Set::from_iter_dedup(alloc, items)?;
+    let list = list_of(alloc, &[1, 2, 3])?;
+    assert!(rt; is_written_as(alloc, &list, b"\x03\x01\x02\x03")?);
+    Ok(())
+}
+
+#[test]
+fn lists_are_items(rt: HostRuntime) -> Result<(), Fail> {
+    let alloc = rt.alloc();
+    let mut lists = Vec::new(alloc);
+    for items in [[1, 1].as_slice(), &[1]] {
+        lists.push(list_of(alloc, items)?)?;
+    }
+    let set = Set::from_iter_dedup(alloc, lists)?;
     assert!(rt; is_written_as(alloc, &set, b"\x02\x01\x01\x02\x01\x01")?);
+    Ok(())
+}
+
+#[test]
+fn lists_are_keys_and_values(rt: HostRuntime) -> Result<(), Fail> {
+    let alloc = rt.alloc();
     let map = Map::from_iter_dedup(alloc, [(list_of(alloc, &[7])?, list_of(alloc, &[8, 9])?)])?;
     assert!(rt; is_written_as(alloc, &map, b"\x01\x01\x07\x01\x02\x08\x09")?);
     Ok(())
@@ -175,30 +212,17 @@ fn lists_are_written_as_lists(rt: HostRuntime) -> Result<(), Fail> {
 #[test]
 fn empty_lists_are_refused_by_their_range_first(rt: HostRuntime) {
     let none = RangeCfg::from(NZUsize!(3)..NZUsize!(3));
-    for (bytes, error) in [
+    let rows = [
         (b"\x00".as_slice(), CodecError::InvalidLength(0)),
         (b"\x80", CodecError::EndOfBuffer),
-    ] {
-        let (result, taken) = read::<NonEmptyVec<u8, _>, _>(rt.alloc(), bytes, &(none, ()));
-        assert!(rt; result.err() == Some(error) && taken == 0);
-    }
+    ];
+    assert!(rt; refuses::<NonEmptyVec<u8, _>, _>(rt.alloc(), &(none, ()), &rows));
 }
 
 #[test]
 fn faults_of_a_nest_come_in_order(rt: HostRuntime) {
-    let any = RangeCfg::from(..);
-    for (bytes, error) in [
-        (b"\x02\x01\x07\x00".as_slice(), EMPTY),
-        (b"\x02\x00\x80", EMPTY),
-        (b"\x02\x01\x07\x80", CodecError::EndOfBuffer),
-    ] {
-        let (result, taken) = read::<NonEmptyVec<NonEmptyVec<u8, _>, _>, _>(
-            rt.alloc(),
-            bytes,
-            &(any, (any, ())),
-        );
-        assert!(rt; result.err() == Some(error) && taken == 0);
-    }
+    let cfg = (RangeCfg::from(..), (RangeCfg::from(..), ()));
+    assert!(rt; refuses::<NonEmptyVec<NonEmptyVec<u8, _>, _>, _>(rt.alloc(), &cfg, &NO_NESTS));
 }
 
 #[test]
