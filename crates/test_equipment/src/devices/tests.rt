@@ -14,16 +14,15 @@ fn a_reader_ends_or_fails_after_its_bytes(rt: HostRuntime) -> Result<(), Fail> {
             input = input.failing(kind);
         }
         let mut buf = [0; 9];
-        assert_eq!(rt; input.read(&mut buf)?, 2);
-        assert_eq!(rt; input.read(&mut buf)?, 1);
+        let given = (input.read(&mut buf)?, input.read(&mut buf)?);
         for _ in 0..2 {
-            let at_end = input.read(&mut buf);
-            match failure {
-                Some(kind) => assert!(rt; matches!(at_end, Err(e) if e.kind() == kind)),
-                None => assert!(rt; matches!(at_end, Ok(0))),
-            }
+            let right = match input.read(&mut buf) {
+                Ok(given) => given == 0 && failure.is_none(),
+                Err(error) => failure == Some(error.kind()),
+            };
+            assert!(rt; right, "{failure:?}");
         }
-        assert_eq!(rt; input.calls, 4);
+        assert!(rt; given == (2, 1) && input.calls == 4, "{failure:?}");
     }
     Ok(())
 }
@@ -35,15 +34,17 @@ fn a_writer_goes_wrong_at_one_call_alone(rt: HostRuntime) -> Result<(), Fail> {
         WriteFault::TakesNothing,
     ] {
         let mut output = ScriptedWriter::new(rt.alloc(), 2).with_fault(1, fault);
-        assert_eq!(rt; output.write(b"abc")?, 2);
-        let wrong = output.write(b"c");
-        match fault {
-            WriteFault::Fails(kind) => assert!(rt; matches!(wrong, Err(e) if e.kind() == kind)),
-            WriteFault::TakesNothing => assert!(rt; matches!(wrong, Ok(0))),
-        }
-        assert_eq!(rt; output.write(b"c")?, 1);
-        assert_eq!(rt; output.taken.as_slice(), b"abc".as_slice());
-        assert_eq!(rt; output.calls, 3);
+        let before = output.write(b"abc")?;
+        let wrong = match output.write(b"c") {
+            Ok(taken) => taken == 0 && fault == WriteFault::TakesNothing,
+            Err(error) => fault == WriteFault::Fails(error.kind()),
+        };
+        let after = output.write(b"c")?;
+        assert!(rt; (before, wrong, after) == (2, true, 1), "{fault:?}");
+        assert!(rt;
+            output.taken.as_slice() == b"abc".as_slice() && output.calls == 3,
+            "{fault:?}"
+        );
     }
     Ok(())
 }
@@ -51,9 +52,9 @@ fn a_writer_goes_wrong_at_one_call_alone(rt: HostRuntime) -> Result<(), Fail> {
 #[test]
 fn a_flush_fails_if_it_is_set_to(rt: HostRuntime) {
     let mut output = ScriptedWriter::new(rt.alloc(), 9);
-    assert!(rt; output.flush().is_ok());
+    let before = output.flush();
     let mut output = output.failing_flush(ErrorKind::BrokenPipe);
-    assert!(rt; matches!(output.flush(), Err(e) if e.kind() == ErrorKind::BrokenPipe));
-    assert_eq!(rt; output.flushes, 2);
-    assert_eq!(rt; output.calls, 0);
+    let after = output.flush();
+    assert!(rt; before.is_ok() && matches!(after, Err(e) if e.kind() == ErrorKind::BrokenPipe));
+    assert!(rt; (output.flushes, output.calls) == (2, 0));
 }

@@ -1,34 +1,44 @@
 //! The unions of bytes with each request for memory refused in turn.
-use crate::Refusing;
+use super::walk::{Heap, Outcome, Refusable, asks_for, full, refused};
 use commonware_utils::{union, union_unique};
 
-/// More requests than any call of these tests makes.
-const ENOUGH: u64 = 1000;
+/// A union of 1, 2, 3 and 4, 5, 6, with the length of the first ones before them or without.
+#[derive(Drop)]
+struct Union {
+    counted: bool,
+    whole: &'static [u8],
+}
+
+const UNIONS: [Union; 2] = [
+    Union {
+        counted: false,
+        whole: b"\x01\x02\x03\x04\x05\x06",
+    },
+    Union {
+        counted: true,
+        whole: b"\x03\x01\x02\x03\x04\x05\x06",
+    },
+];
+
+impl Refusable for Union {
+    fn outcome(&self, heap: Heap<'_>, granted: u64) -> Outcome {
+        let (front, back) = (b"\x01\x02\x03", b"\x04\x05\x06");
+        heap.restart(granted);
+        let text = if self.counted {
+            union_unique(heap, front, back)
+        } else {
+            union(heap, front, back)
+        };
+        match text {
+            Ok(text) => full(text.as_slice() == self.whole),
+            Err(_) => refused(true),
+        }
+    }
+}
 
 #[test]
 fn a_refused_union_gives_nothing(rt: HostRuntime) {
-    let (front, back) = (b"\x01\x02\x03", b"\x04\x05\x06");
-    for (counted, whole) in [
-        (false, b"\x01\x02\x03\x04\x05\x06".as_slice()),
-        (true, b"\x03\x01\x02\x03\x04\x05\x06"),
-    ] {
-        let mut runs = 0;
-        for granted in 0..ENOUGH {
-            let heap = Refusing::after(rt.alloc(), granted);
-            let text = if counted {
-                union_unique(&heap, front, back)
-            } else {
-                union(&heap, front, back)
-            };
-            match text {
-                Ok(text) => assert!(rt; text.as_slice() == whole),
-                Err(_) => assert!(rt; heap.has_refused()),
-            }
-            if !heap.has_refused() {
-                runs = granted;
-                break;
-            }
-        }
-        assert!(rt; runs > 0, "{counted} {runs}");
+    for union in UNIONS {
+        assert!(rt; asks_for(rt.alloc(), &union, 1), "{}", union.counted);
     }
 }

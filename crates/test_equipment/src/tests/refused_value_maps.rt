@@ -1,93 +1,87 @@
 //! The value maps with each of their requests for memory refused in turn: before a refusal the closure was called for no
 //! entry, or for every one where the clone of the keys is refused.
-use crate::Refusing;
+use super::walk::{Heap, Outcome, Refusable, full, refused, requests};
 use commonware_utils::ordered::{Map, MapError, Set};
-use std::alloc::{AllocError, Global};
-use std::test::Fail;
+use std::alloc::AllocError;
+
+/// A call that maps the values of a map.
+#[derive(Clone, Copy, Debug)]
+enum Call {
+    Lent,
+    LentTried,
+    /// As the one before, with a closure that fails.
+    LentFailed,
+    Owned,
+    OwnedTried,
+}
+
+/// Each call, and how many requests it makes: room for the values and the clone of the keys.
+const CALLS: [(Call, u64); 5] = [
+    (Call::Lent, 2),
+    (Call::LentTried, 2),
+    (Call::LentFailed, 1),
+    (Call::Owned, 1),
+    (Call::OwnedTried, 1),
+];
+
+type Tens<'a> = Map<u8, u8, Heap<'a>>;
 
 /// {1: 10, 2: 20, 3: 30}
-fn tens(heap: &Refusing<Global>) -> Result<Option<Map<u8, u8, &Refusing<Global>>>, AllocError> {
+fn tens(heap: Heap<'_>) -> Result<Option<Tens<'_>>, AllocError> {
     let keys = Set::from_iter_dedup(heap, [1u8, 2, 3])?;
     Ok(Map::from_parts(keys, vec![in heap; 10, 20, 30]?))
 }
 
-#[test]
-fn lent_values_are_mapped_after_there_is_room(rt: HostRuntime) -> Result<(), Fail> {
-    let heap = Refusing::after(rt.alloc(), u64::MAX);
-    let map = tens(&heap)?.ok_or("uneven")?;
-    for (granted, calls_before) in [(0u64, 0u32), (1, 3)] {
+/// Half of a value, which is counted.
+fn half(value: u8, calls: &mut u32) -> u8 {
+    *calls = calls.saturating_add(1);
+    value / 2
+}
+
+/// What the call answers where the closure halves a value or fails with its key, and how often the closure was called.
+fn call_on<'a>(
+    call: Call,
+    map: &Tens<'a>,
+    owned: Tens<'a>,
+) -> (Result<Tens<'a>, MapError<u8>>, u32) {
+    let mut calls = 0u32;
+    let answer = match call {
+        Call::Lent => map
+            .map_values(|_, value| half(*value, &mut calls))
+            .map_err(MapError::from),
+        Call::LentTried => map.try_map_values(|_, value| Ok(half(*value, &mut calls))),
+        Call::LentFailed => map.try_map_values(|key, _| Err(*key)),
+        Call::Owned => owned
+            .map_values_into(|_, value| half(value, &mut calls))
+            .map_err(MapError::from),
+        Call::OwnedTried => owned.try_map_values_into(|_, value| Ok(half(value, &mut calls))),
+    };
+    (answer, calls)
+}
+
+impl Refusable for Call {
+    fn outcome(&self, heap: Heap<'_>, granted: u64) -> Outcome {
+        let (Ok(Some(map)), Ok(Some(owned))) = (tens(heap), tens(heap)) else {
+            return Outcome::Wrong;
+        };
         heap.restart(granted);
-        let mut calls = 0u32;
-        let halves = map.map_values(|_, value| {
-            calls = calls.saturating_add(1);
-            *value / 2
-        });
-        assert!(rt; halves.is_err() && heap.has_refused());
-        assert_eq!(rt; calls, calls_before);
-        assert_eq!(rt; map.values(), [10, 20, 30].as_slice());
+        let (answer, calls) = call_on(*self, &map, owned);
+        let unchanged = map.values() == [10, 20, 30].as_slice();
+        match answer {
+            Ok(halves) => full(unchanged && halves.values() == [5, 10, 15].as_slice()),
+            Err(MapError::Closure(key)) => full(unchanged && key == 1),
+            Err(MapError::Memory) => {
+                // The second request is for the clone of the keys, after the last call.
+                refused(unchanged && calls == if granted == 0 { 0 } else { 3 })
+            }
+        }
     }
-    heap.restart(2);
-    let halves = map.map_values(|_, value| *value / 2)?;
-    assert_eq!(rt; halves.values(), [5, 10, 15].as_slice());
-    assert!(rt; !heap.has_refused());
-    Ok(())
 }
 
 #[test]
-fn lent_values_are_tried_after_there_is_room(rt: HostRuntime) -> Result<(), Fail> {
-    let heap = Refusing::after(rt.alloc(), u64::MAX);
-    let map = tens(&heap)?.ok_or("uneven")?;
-    for (granted, calls_before) in [(0u64, 0u32), (1, 3)] {
-        heap.restart(granted);
-        let mut calls = 0u32;
-        let halves: Result<_, MapError<u8>> = map.try_map_values(|_, value| {
-            calls = calls.saturating_add(1);
-            Ok(*value / 2)
-        });
-        assert!(rt; halves.err() == Some(MapError::Memory) && heap.has_refused());
-        assert_eq!(rt; calls, calls_before);
-        assert_eq!(rt; map.values(), [10, 20, 30].as_slice());
+fn the_closure_is_called_after_there_is_room(rt: HostRuntime) {
+    for (call, wanted) in CALLS {
+        let asked = requests(rt.alloc(), &call);
+        assert!(rt; asked == Some(wanted), "{call:?} {asked:?}");
     }
-    heap.restart(1);
-    let failed: Result<Map<u8, u8, _>, MapError<u8>> = map.try_map_values(|key, _| Err(*key));
-    assert!(rt; failed.err() == Some(MapError::Closure(1)) && !heap.has_refused());
-    Ok(())
-}
-
-#[test]
-fn owned_values_are_mapped_after_there_is_room(rt: HostRuntime) -> Result<(), Fail> {
-    let heap = Refusing::after(rt.alloc(), u64::MAX);
-    let map = tens(&heap)?.ok_or("uneven")?;
-    let more = tens(&heap)?.ok_or("uneven")?;
-    heap.restart(0);
-    let mut called = false;
-    let halves = map.map_values_into(|_, value| {
-        called = true;
-        value / 2
-    });
-    assert!(rt; halves.is_err() && heap.has_refused() && !called);
-    heap.restart(1);
-    let halves = more.map_values_into(|_, value| value / 2)?;
-    assert_eq!(rt; halves.values(), [5, 10, 15].as_slice());
-    assert!(rt; !heap.has_refused());
-    Ok(())
-}
-
-#[test]
-fn owned_values_are_tried_after_there_is_room(rt: HostRuntime) -> Result<(), Fail> {
-    let heap = Refusing::after(rt.alloc(), u64::MAX);
-    let map = tens(&heap)?.ok_or("uneven")?;
-    let more = tens(&heap)?.ok_or("uneven")?;
-    heap.restart(0);
-    let mut called = false;
-    let halves: Result<_, MapError<u8>> = map.try_map_values_into(|_, value| {
-        called = true;
-        Ok(value / 2)
-    });
-    assert!(rt; halves.err() == Some(MapError::Memory) && heap.has_refused() && !called);
-    heap.restart(1);
-    let halves: Result<_, MapError<u8>> = more.try_map_values_into(|_, value| Ok(value / 2));
-    assert!(rt; halves.is_ok_and(|halves| halves.values() == [5, 10, 15].as_slice()));
-    assert!(rt; !heap.has_refused());
-    Ok(())
 }

@@ -1,53 +1,112 @@
 //! What a session writes, says and answers.
-use super::{
-    FOUR, FOUR_REPORT, USAGE, WHOLE, failing_reader, failing_writer, reader, words_in, writer,
-};
-use crate::{Refusing, ScriptedWriter, WriteFault};
-use committee_core::{Command, parse_args, session};
+use super::bounds::{MOST, ONE, SIX, TEN};
+use super::walk::{Heap, Outcome, Refusable, asks_for, full, refused};
+use super::{FOUR, FOUR_REPORT, Input, Output, TAKEN, WHOLE};
+use crate::{Refusing, WriteFault};
+use committee_core::{Command, Watched, parse_args, session};
+use std::alloc::{AllocError, Global};
 use std::io::ErrorKind;
+use std::num::NonZeroU32;
 use std::test::Fail;
 
-#[test]
-fn a_committee_is_reported(rt: HostRuntime) -> Result<(), Fail> {
-    let words = words_in(rt.alloc(), "read")?;
-    let mut input = reader(FOUR, WHOLE);
-    let mut output = writer(rt.alloc(), WHOLE);
-    let mut errors: Vec<u8> = Vec::new(rt.alloc());
-    let status = session(rt.alloc(), &words, &mut input, &mut output, &mut errors);
-    assert_eq!(rt; status, 0);
-    assert_eq!(rt; output.inner().taken.as_slice(), FOUR_REPORT.as_bytes());
-    assert!(rt; errors.is_empty());
-    Ok(())
+/// A session, and what it has to come to.
+#[derive(Clone, Copy)]
+struct Session<'a> {
+    words: &'static [&'static str],
+    input: Input<'a>,
+    output: Output,
+    errors: Output,
+    /// How many requests for memory are granted before one is refused.
+    granted: u64,
+    status: u8,
+    /// What is written, where that is one text.
+    written: Option<&'a str>,
+    /// What is said on standard error.
+    said: &'static str,
 }
 
+/// The words that ask for the report on a committee.
+const READ: &[&str] = &["read"];
+
+/// A session that reads bytes and writes a report.
+fn read_session<'a>(bytes: &'a [u8], report: &'a str) -> Session<'a> {
+    let input = Input::of(bytes);
+    Session {
+        words: READ,
+        input,
+        output: TAKEN,
+        errors: TAKEN,
+        granted: u64::MAX,
+        status: 0,
+        written: Some(report),
+        said: "",
+    }
+}
+
+/// The session that reports on the committee of four.
+fn four_session() -> Session<'static> {
+    read_session(FOUR, FOUR_REPORT)
+}
+
+/// The words, as the program gets them.
+fn words_of<'a>(
+    heap: Heap<'a>,
+    words: &[&str],
+) -> Result<Vec<String<Heap<'a>>, Heap<'a>>, AllocError> {
+    let mut strings = Vec::new(heap);
+    for word in words {
+        strings.push(String::from_str(heap, word)?)?;
+    }
+    Ok(strings)
+}
+
+/// Whether the session comes to what it has to. Nothing is read but for the word `read`, the writer isn't called where
+/// nothing is to be written, and standard error isn't called again where it failed.
+fn is_right(alloc: Global, wanted: &Session<'_>) -> Result<bool, AllocError> {
+    let heap = Refusing::after(alloc, u64::MAX);
+    let words = words_of(&heap, wanted.words)?;
+    let mut input = wanted.input.reader();
+    let mut output = Watched::new(wanted.output.writer(alloc));
+    let mut errors = wanted.errors.writer(alloc);
+    heap.restart(wanted.granted);
+    let status = session(&heap, &words, &mut input, &mut output, &mut errors);
+    let device = output.inner();
+    let taken = device.taken.as_slice();
+    let reads = wanted.words == READ || input.inner().calls == 0;
+    let told = output.failed() == wanted.written.is_none();
+    let silent = wanted.written != Some("") || (device.calls, device.flushes) == (0, 0);
+    let tried = wanted.errors.fault.is_none() || errors.calls == (status > 0) as u32;
+    Ok(
+        status == wanted.status
+            && reads
+            && told
+            && silent
+            && tried
+            && !matches!(wanted.written, Some(text) if text.as_bytes() != taken)
+            && errors.taken.as_slice() == wanted.said.as_bytes(),
+    )
+}
+
+/// Words that ask for bounds, and the report on them.
+const BOUNDS: [(&[&str], &str); 5] = [
+    (&["bounds", "1"], ONE),
+    (&["bounds", "6"], SIX),
+    (&["bounds", "0000000006"], SIX),
+    (&["bounds", "10"], TEN),
+    (&["bounds", "4294967295"], MOST),
+];
+
 #[test]
-fn other_bytes_are_refused(rt: HostRuntime) -> Result<(), Fail> {
-    let words = words_in(rt.alloc(), "read")?;
-    for (bytes, said) in [
-        (b"\x00".as_slice(), "refused: length 0\n"),
-        (b"\x01\x05\x06", "refused: 1 bytes left over\n"),
-        (
-            b"\x02\x05\x05",
-            "refused: Set: items must be sorted and unique\n",
-        ),
-        (b"\x81\x02", "refused: length 257\n"),
-        (b"\xff\xff\xff\xff\x0f\x01", "refused: length 4294967295\n"),
-        (b"", "refused: end of input\n"),
-        (b"\x02\x01", "refused: end of input\n"),
-        (b"\x83\x00\x01\x02\x03", "refused: invalid varint\n"),
-        (b"\xff\xff\xff\xff\x10", "refused: invalid varint\n"),
-    ] {
-        let mut input = reader(bytes, WHOLE);
-        let mut output = writer(rt.alloc(), WHOLE);
-        let mut errors: Vec<u8> = Vec::new(rt.alloc());
-        let status = session(rt.alloc(), &words, &mut input, &mut output, &mut errors);
-        assert_eq!(rt; status, 1, "{bytes:?}");
-        assert_eq!(rt; errors.as_slice(), said.as_bytes(), "{bytes:?}");
-        assert_eq!(rt;
-            (output.inner().calls, output.inner().flushes),
-            (0, 0),
-            "{bytes:?}"
-        );
+fn reports_are_written(rt: HostRuntime) -> Result<(), Fail> {
+    assert!(rt; is_right(rt.alloc(), &four_session())?);
+    for (words, report) in BOUNDS {
+        let wanted = Session {
+            words,
+            input: Input::failing(b"", ErrorKind::BrokenPipe),
+            written: Some(report),
+            ..four_session()
+        };
+        assert!(rt; is_right(rt.alloc(), &wanted)?, "{words:?}");
     }
     Ok(())
 }
@@ -62,109 +121,212 @@ fn a_committee_has_at_most_256_members(rt: HostRuntime) -> Result<(), Fail> {
         writeln!(report, "{member} {member}")?;
     }
     report.push_str("N3f1 faults 85 quorum 171\nN5f1 faults 51 quorum 205 m-quorum 103\n")?;
-    let words = words_in(alloc, "read")?;
-    let mut input = reader(&bytes, WHOLE);
-    let mut output = writer(alloc, WHOLE);
-    let mut errors: Vec<u8> = Vec::new(alloc);
-    let status = session(alloc, &words, &mut input, &mut output, &mut errors);
-    assert_eq!(rt; status, 0);
-    assert_eq!(rt; output.inner().taken.as_slice(), report.as_bytes());
+    let wanted = read_session(&bytes, &report);
+    assert!(rt; is_right(alloc, &wanted)?);
     Ok(())
 }
 
 #[test]
+fn other_bytes_are_refused(rt: HostRuntime) -> Result<(), Fail> {
+    for (bytes, said) in [
+        (b"\x00".as_slice(), "refused: length 0\n"),
+        (b"\x01\x05\x06", "refused: 1 bytes left over\n"),
+        (
+            b"\x02\x05\x05",
+            "refused: Set: items must be sorted and unique\n",
+        ),
+        (b"\x81\x02", "refused: length 257\n"),
+        (b"\xff\xff\xff\xff\x0f\x01", "refused: length 4294967295\n"),
+        (b"", "refused: end of input\n"),
+        (b"\x02\x01", "refused: end of input\n"),
+        (b"\x83\x00\x01\x02\x03", "refused: invalid varint\n"),
+        (b"\xff\xff\xff\xff\x10", "refused: invalid varint\n"),
+    ] {
+        let wanted = Session {
+            input: Input::of(bytes),
+            status: 1,
+            written: Some(""),
+            said,
+            ..four_session()
+        };
+        assert!(rt; is_right(rt.alloc(), &wanted)?, "{bytes:?}");
+    }
+    Ok(())
+}
+
+/// Words that ask for no command.
+const OTHER_WORDS: [&[&str]; 27] = [
+    &[],
+    &["write"],
+    &["READ"],
+    &["read", "read"],
+    &["read", "6"],
+    &["bounds"],
+    &["bounds", "6", "6"],
+    &["bounds", "6", "read"],
+    &["BOUNDS", "6"],
+    &["6"],
+    &["6", "bounds"],
+    &["bounds", "0"],
+    &["bounds", "0000000000"],
+    &["bounds", "4294967296"],
+    &["bounds", "9999999999"],
+    &["bounds", "00000000006"],
+    &["bounds", "+6"],
+    &["bounds", "-6"],
+    &["bounds", "6 "],
+    &["bounds", " 6"],
+    &["bounds", " "],
+    &["bounds", ""],
+    &["bounds", "6."],
+    &["bounds", "0x6"],
+    &["bounds", "\u{666}"],
+    &["bounds", "\u{ff16}"],
+    &["bounds", "6", ""],
+];
+
+/// The first request for memory is refused, if there is one.
+#[test]
 fn other_words_get_the_usage_line(rt: HostRuntime) -> Result<(), Fail> {
-    for line in ["", "write", "READ", "read read", "bounds", "bounds 0"] {
-        let words = words_in(rt.alloc(), line)?;
-        assert_eq!(rt; parse_args(&words), None, "{line}");
-        let mut input = reader(FOUR, WHOLE);
-        let mut output = writer(rt.alloc(), WHOLE);
-        let mut errors: Vec<u8> = Vec::new(rt.alloc());
-        let status = session(rt.alloc(), &words, &mut input, &mut output, &mut errors);
-        assert_eq!(rt; status, 2, "{line}");
-        assert_eq!(rt; errors.as_slice(), USAGE.as_bytes(), "{line}");
-        assert_eq!(rt;
-            (input.inner().calls, output.inner().calls),
-            (0, 0),
-            "{line}"
+    for words in OTHER_WORDS {
+        let wanted = Session {
+            words,
+            granted: 0,
+            status: 2,
+            written: Some(""),
+            said: "usage: committee read, or committee bounds <n>\n",
+            ..four_session()
+        };
+        assert!(rt; is_right(rt.alloc(), &wanted)?, "{words:?}");
+    }
+    Ok(())
+}
+
+/// Words are looked at without memory.
+#[test]
+fn words_ask_for_a_command(rt: HostRuntime) -> Result<(), Fail> {
+    let heap = Refusing::after(rt.alloc(), u64::MAX);
+    let read = words_of(&heap, READ)?;
+    let bounds = words_of(&heap, &["bounds", "0000000006"])?;
+    heap.restart(0);
+    assert!(rt;
+        parse_args(&read) == Some(Command::Read)
+            && parse_args(&bounds) == NonZeroU32::new(6).map(Command::Bounds)
+    );
+    for line in OTHER_WORDS {
+        heap.restart(u64::MAX);
+        let words = words_of(&heap, line)?;
+        heap.restart(0);
+        assert!(rt;
+            parse_args(&words) == None && !heap.has_refused(),
+            "{line:?}"
         );
     }
     Ok(())
 }
 
 #[test]
-fn the_word_read_asks_for_the_command(rt: HostRuntime) -> Result<(), Fail> {
-    let words = words_in(rt.alloc(), "read")?;
-    assert_eq!(rt; parse_args(&words), Some(Command::Read));
-    Ok(())
-}
-
-#[test]
-fn a_failed_reader_gives_status_3(rt: HostRuntime) -> Result<(), Fail> {
-    let words = words_in(rt.alloc(), "read")?;
-    let mut input = failing_reader(b"\x04", ErrorKind::BrokenPipe);
-    let mut output = writer(rt.alloc(), WHOLE);
-    let mut errors: Vec<u8> = Vec::new(rt.alloc());
-    let status = session(rt.alloc(), &words, &mut input, &mut output, &mut errors);
-    assert_eq!(rt; status, 3);
-    assert_eq!(rt; errors.as_slice(), b"failed: read\n".as_slice());
-    Ok(())
-}
-
-#[test]
-fn a_failed_writer_gives_status_3(rt: HostRuntime) -> Result<(), Fail> {
-    let words = words_in(rt.alloc(), "read")?;
-    let mut input = reader(FOUR, WHOLE);
-    let mut output = failing_writer(rt.alloc(), WHOLE, 0, WriteFault::TakesNothing);
-    let mut errors: Vec<u8> = Vec::new(rt.alloc());
-    let status = session(rt.alloc(), &words, &mut input, &mut output, &mut errors);
-    assert_eq!(rt; status, 3);
-    assert_eq!(rt; errors.as_slice(), b"failed: write\n".as_slice());
-    Ok(())
-}
-
-#[test]
-fn a_refused_request_gives_status_3(rt: HostRuntime) -> Result<(), Fail> {
-    let heap = Refusing::after(rt.alloc(), u64::MAX);
-    let words = words_in(&heap, "read")?;
-    let mut input = reader(FOUR, WHOLE);
-    let mut output = writer(rt.alloc(), WHOLE);
-    let mut errors: Vec<u8> = Vec::new(rt.alloc());
-    heap.restart(0);
-    let status = session(&heap, &words, &mut input, &mut output, &mut errors);
-    assert_eq!(rt; status, 3);
-    assert_eq!(rt; errors.as_slice(), b"failed: out of memory\n".as_slice());
-    assert_eq!(rt; (output.inner().calls, output.inner().flushes), (0, 0));
-    Ok(())
-}
-
-#[test]
-fn a_failing_standard_error_changes_no_status(rt: HostRuntime) -> Result<(), Fail> {
-    let alloc = rt.alloc();
-    for (word, bytes, wanted) in [
-        ("write", b"".as_slice(), 2),
-        ("read", b"\x00", 1),
-        ("read", FOUR, 0),
+fn failures_give_status_3(rt: HostRuntime) -> Result<(), Fail> {
+    let broken = WriteFault::Fails(ErrorKind::BrokenPipe);
+    let failed_write = Session {
+        status: 3,
+        written: None,
+        said: "failed: write\n",
+        ..four_session()
+    };
+    let failed_bounds = Session {
+        words: &["bounds", "10"],
+        input: Input::failing(b"", ErrorKind::BrokenPipe),
+        ..failed_write
+    };
+    for wanted in [
+        Session {
+            input: Input::failing(b"\x04", ErrorKind::BrokenPipe),
+            status: 3,
+            written: Some(""),
+            said: "failed: read\n",
+            ..four_session()
+        },
+        Session {
+            granted: 0,
+            status: 3,
+            written: Some(""),
+            said: "failed: out of memory\n",
+            ..four_session()
+        },
+        Session {
+            output: Output::failing(WHOLE, 0, WriteFault::TakesNothing),
+            ..failed_write
+        },
+        Session {
+            output: Output::failing(WHOLE, 0, broken),
+            ..failed_bounds
+        },
+        Session {
+            output: Output::failing(1, 2, WriteFault::TakesNothing),
+            ..failed_bounds
+        },
     ] {
-        let words = words_in(alloc, word)?;
-        let mut input = reader(bytes, WHOLE);
-        let mut output = writer(alloc, WHOLE);
-        let fault = WriteFault::Fails(ErrorKind::BrokenPipe);
-        let mut errors = ScriptedWriter::new(alloc, WHOLE).with_fault(0, fault);
-        let status = session(alloc, &words, &mut input, &mut output, &mut errors);
-        assert_eq!(rt; status, wanted, "{word} {bytes:?}");
+        assert!(rt; is_right(rt.alloc(), &wanted)?, "{}", wanted.said);
     }
     Ok(())
 }
 
 #[test]
-fn a_failing_standard_error_leaves_status_3(rt: HostRuntime) -> Result<(), Fail> {
-    let words = words_in(rt.alloc(), "read")?;
-    let mut input = failing_reader(b"", ErrorKind::Interrupted);
-    let mut output = writer(rt.alloc(), WHOLE);
-    let mut errors = ScriptedWriter::new(rt.alloc(), WHOLE).with_fault(0, WriteFault::TakesNothing);
-    let status = session(rt.alloc(), &words, &mut input, &mut output, &mut errors);
-    assert_eq!(rt; status, 3);
-    assert_eq!(rt; errors.calls, 1);
+fn a_failing_standard_error_changes_no_status(rt: HostRuntime) -> Result<(), Fail> {
+    let broken = WriteFault::Fails(ErrorKind::BrokenPipe);
+    let interrupted = Input::failing(b"", ErrorKind::Interrupted);
+    let write: &[&str] = &["write"];
+    for (words, input, fault, status, written) in [
+        (write, Input::of(b""), broken, 2, ""),
+        (READ, Input::of(b"\x00"), broken, 1, ""),
+        (READ, Input::of(FOUR), broken, 0, FOUR_REPORT),
+        (READ, interrupted, WriteFault::TakesNothing, 3, ""),
+    ] {
+        let wanted = Session {
+            words,
+            input,
+            errors: Output::failing(WHOLE, 0, fault),
+            status,
+            written: Some(written),
+            ..four_session()
+        };
+        assert!(rt; is_right(rt.alloc(), &wanted)?, "{words:?} {fault:?}");
+    }
     Ok(())
+}
+
+/// The session on the committee of four. Its devices keep what they take in memory of their own.
+#[derive(Drop)]
+struct FourSession {
+    alloc: Global,
+}
+
+impl Refusable for FourSession {
+    fn outcome(&self, heap: Heap<'_>, granted: u64) -> Outcome {
+        let Ok(words) = words_of(heap, READ) else {
+            return Outcome::Wrong;
+        };
+        let mut input = Input::of(FOUR).reader();
+        let mut output = Watched::new(TAKEN.writer(self.alloc));
+        let mut errors = TAKEN.writer(self.alloc);
+        heap.restart(granted);
+        let status = session(heap, &words, &mut input, &mut output, &mut errors);
+        let device = output.inner();
+        let (taken, said) = (device.taken.as_slice(), errors.taken.as_slice());
+        match status {
+            0 => full(taken == FOUR_REPORT.as_bytes() && said.is_empty()),
+            3 => {
+                let silent = (device.calls, device.flushes) == (0, 0);
+                refused(silent && said == b"failed: out of memory\n".as_slice())
+            }
+            _ => Outcome::Wrong,
+        }
+    }
+}
+
+#[test]
+fn each_refused_request_gives_status_3(rt: HostRuntime) {
+    let alloc = rt.alloc();
+    assert!(rt; asks_for(alloc, &FourSession { alloc }, 3));
 }

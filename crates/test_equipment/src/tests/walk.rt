@@ -1,0 +1,71 @@
+//! Each request for memory of a call refused in turn, counting upwards until a run meets no refusal.
+use crate::Refusing;
+use std::alloc::Global;
+
+/// More requests than any call of these tests makes.
+const ENOUGH: u64 = 1000;
+
+/// An allocator that refuses one request.
+pub type Heap<'a> = &'a Refusing<Global>;
+
+/// What a run of a call came to.
+#[derive(Clone, Copy, Debug, PartialEq, Eq)]
+pub enum Outcome {
+    /// The full result.
+    Full,
+    /// A refusal for memory, after which all is as it has to be.
+    Refused,
+    /// Neither.
+    Wrong,
+}
+
+/// A full result, if it is the right one.
+pub fn full(right: bool) -> Outcome {
+    if right { Outcome::Full } else { Outcome::Wrong }
+}
+
+/// A refusal for memory, if all is as it has to be after it.
+pub fn refused(right: bool) -> Outcome {
+    if right {
+        Outcome::Refused
+    } else {
+        Outcome::Wrong
+    }
+}
+
+/// A call that takes memory.
+pub trait Refusable {
+    /// What the call comes to where its request after so many granted ones is refused. The heap refuses none before.
+    fn outcome(&self, heap: Heap<'_>, granted: u64) -> Outcome;
+
+    /// Whether the call may give the full result though a request was refused, as one for more room than it needs.
+    fn may_do_without(&self) -> bool {
+        false
+    }
+}
+
+/// How many requests the call makes where none is refused, and then it gives the full result. `None` where that isn't
+/// so, or where a run with one of them refused comes to anything else than it may.
+pub fn requests<C: Refusable>(alloc: Global, call: &C) -> Option<u64> {
+    for granted in 0..ENOUGH {
+        let heap = Refusing::after(alloc, u64::MAX);
+        let outcome = call.outcome(&heap, granted);
+        let is_full = outcome == Outcome::Full;
+        if !heap.has_refused() {
+            return is_full.then_some(granted);
+        }
+        if outcome != Outcome::Refused && !(is_full && call.may_do_without()) {
+            return None;
+        }
+    }
+    None
+}
+
+/// Whether the call makes at least so many requests, or none where that is 0, and comes to what it may where each is
+/// refused in turn.
+pub fn asks_for<C: Refusable>(alloc: Global, call: &C, least: u64) -> bool {
+    match requests(alloc, call) {
+        Some(asked) => asked >= least && (least > 0 || asked == 0),
+        None => false,
+    }
+}
