@@ -11,6 +11,6 @@ mod roots;
 
 pub use committees::{is_member, signatures_needed};
 pub use messages::{read_members, write_members};
-pub use queues::{doubled, highest, keep_the_first, remember};
-pub use registries::{owner, powers};
+pub use queues::{doubled, keep_the_first, latest, remember};
+pub use registries::{owner, powers, registry};
 pub use roots::{room, signed_text};

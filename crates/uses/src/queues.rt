@@ -1,29 +1,34 @@
 //! Module `vec`: the last votes, and lists that are never empty.
+ghost use Rattle.std.specs.Prelude.{◌≡◌, ◌-◌, ◌<◌, ◌++◌, ◌∷◌, [], IfErr, IfOk, OnOk, Some, length, slice_get, take};
+
 use commonware_utils::vec::{Bounded, Error, Mutate, NonEmptyVec};
 use std::alloc::Global;
 
 /// Remembers a vote, and answers the one that is forgotten for it, or the vote itself where memory is refused.
-pub fn remember(votes: &mut Bounded<u32, Global>, vote: u32) -> Result<Option<u32>, u32> {
+pub fn remember(votes: &mut Bounded<u32, Global>, vote: u32) -> Result<Option<u32>, u32>
+    ensures room { length votes.old.items < votes.old.capacity → OnOk result (votes.new.items ≡ votes.old.items ++ vote ∷ []) }
+    ensures full { length votes.old.items ≡ votes.old.capacity → IfOk result (λ oldest. oldest ≡ slice_get votes.old.items 0) }
+{
     votes.push(vote)
 }
 
-/// The highest of the votes, of which there is one at least.
-pub fn highest(votes: &NonEmptyVec<u32, Global>) -> u32 {
-    let mut highest = *votes.first();
-    for vote in votes.as_slice() {
-        if *vote > highest {
-            highest = *vote;
-        }
-    }
-    highest
+/// The latest of the votes, of which there is one at least.
+pub fn latest(votes: &NonEmptyVec<u32, Global>) -> u32
+    ensures { slice_get votes.now (length votes.now - 1) ≡ Some result }
+{
+    *votes.last()
 }
 
 /// Forgets all votes but the first.
-pub fn keep_the_first(votes: &mut NonEmptyVec<u32, Global>) {
+pub fn keep_the_first(votes: &mut NonEmptyVec<u32, Global>)
+    ensures { votes.new ≡ take 1 votes.old }
+{
     votes.mutate(|items| items.truncate(1))
 }
 
 /// Each vote twice.
-pub fn doubled(votes: &NonEmptyVec<u32, Global>) -> Result<NonEmptyVec<u32, Global>, Error> {
+pub fn doubled(votes: &NonEmptyVec<u32, Global>) -> Result<NonEmptyVec<u32, Global>, Error>
+    ensures { IfErr result (λ error. error ≡ Error.Memory) }
+{
     votes.map(|vote| vote.saturating_mul(2))
 }
