@@ -1,13 +1,13 @@
 //! Module `vec`: the last votes, and lists that are never empty.
-ghost use Rattle.std.specs.Prelude.{◌≡◌, ◌-◌, ◌<◌, ◌++◌, ◌∷◌, [], IfErr, IfOk, OnOk, Some, length, slice_get, take};
+ghost use Rattle.std.specs.Prelude.{◌≡◌, ◌*◌, ◌-◌, ◌<◌, ◌++◌, ◌∷◌, [], IfErr, IfOk, MatchResult, None, Some, drop, length, map, min, slice_get, take};
 
 use commonware_utils::vec::{Bounded, Error, Mutate, NonEmptyVec};
 use std::alloc::Global;
 
 /// Remembers a vote, and answers the one that is forgotten for it, or the vote itself where memory is refused.
 pub fn remember(votes: &mut Bounded<u32, Global>, vote: u32) -> Result<Option<u32>, u32>
-    ensures room { length votes.old.items < votes.old.capacity → OnOk result (votes.new.items ≡ votes.old.items ++ vote ∷ []) }
-    ensures full { length votes.old.items ≡ votes.old.capacity → IfOk result (λ oldest. oldest ≡ slice_get votes.old.items 0) }
+    ensures room { length votes.old.items < votes.old.capacity → MatchResult result (λ out. (out ≡ None) × (votes.new.items ≡ votes.old.items ++ vote ∷ [])) (λ back. (back ≡ vote) × (votes.new.items ≡ votes.old.items)) }
+    ensures full { length votes.old.items ≡ votes.old.capacity → MatchResult result (λ out. (out ≡ slice_get votes.old.items 0) × (votes.new.items ≡ drop 1 votes.old.items ++ vote ∷ [])) (λ _. ⊥) }
 {
     votes.push(vote)
 }
@@ -28,7 +28,12 @@ pub fn keep_the_first(votes: &mut NonEmptyVec<u32, Global>)
 
 /// Each vote twice.
 pub fn doubled(votes: &NonEmptyVec<u32, Global>) -> Result<NonEmptyVec<u32, Global>, Error>
-    ensures { IfErr result (λ error. error ≡ Error.Memory) }
+    ensures twice { IfOk result (λ list. list ≡ map (λ vote. min (vote * 2) 4294967295) votes.now) }
+    ensures memory { IfErr result (λ error. error ≡ Error.Memory) }
 {
-    votes.map(|vote| vote.saturating_mul(2))
+    votes.map(
+        |vote| -> u32
+            ensures { result ≡ min (vote.now * 2) 4294967295 }
+        { vote.saturating_mul(2) },
+    )
 }

@@ -1,28 +1,28 @@
 //! Module `ordered`: the powers of the members, and whose each key is.
-ghost use Rattle.std.specs.Prelude.{◌≡◌, ◌≢◌, ◌==◌, ℕ, IfErr, IfOk, IsSomeAnd, Some, length, true};
+ghost use Rattle.std.specs.Prelude.{◌≡◌, ◌==◌, ◌↔◌, ℕ, IsSomeAnd, true};
 ghost use Rattle.std.specs.Map.{lookup};
+ghost use Rattle.commonware_utils.specs.Ordered.{IsWholeBiMap, IsWholeSetOfClones};
 
 use commonware_utils::ordered::{BiMap, Error, Map};
 use std::alloc::Global;
 
 /// The powers of the members, none of whom may be named twice.
 pub fn powers(alloc: Global, members: &[(u32, u64)]) -> Result<Map<u32, u64, Global>, Error>
-    ensures { IfErr result (λ error. error ≢ Error.DuplicateValue) }
+    ensures { IsWholeSetOfClones (λ p q. p.0 == q.0) (λ p q. ⟦<u32 as Ord>⟧.cmp p.0 q.0) (λ p q. ⟦<u32 as Clone>⟧.is_clone p.0 q.0 × ⟦<u64 as Clone>⟧.is_clone p.1 q.1) members.now result }
 {
     Map::try_from_slice(alloc, members)
 }
 
 /// The keys of the members. No two members share one, and none is named twice.
-#[tactic(auto, using(std::proofs::lemmas::List::Sorted::length_permutation))]
 pub fn registry(members: Vec<(u32, u64)>) -> Result<BiMap<u32, u64, Global>, Error>
-    ensures { IfOk result (λ keys. length keys ≡ length members.items) }
+    ensures { IsWholeBiMap (λ k l. k == l) ⟦<u32 as Ord>⟧.cmp (λ v w. v == w) members.items result }
 {
     BiMap::try_from_vec(members)
 }
 
 /// The member that a key belongs to, or `None` where it belongs to none.
 pub fn owner(keys: &BiMap<u32, u64, Global>, key: u64) -> Option<u32>
-    ensures { (member : ℕ) → result ≡ Some member → IsSomeAnd (lookup (λ k. k == member) keys.now) (λ held. (held == key) ≡ true) }
+    ensures { (member : ℕ) → IsSomeAnd result (λ k. (k == member) ≡ true) ↔ IsSomeAnd (lookup (λ k. k == member) keys.now) (λ held. (held == key) ≡ true) }
 {
     keys.get_key(&key).copied()
 }

@@ -1,22 +1,26 @@
 //! The root: texts that are signed, and wider numbers.
-ghost use Rattle.std.specs.Prelude.{◌≡◌, ◌≤◌, ◌++◌, ℕ, List, IfSome};
+ghost use Rattle.std.specs.Prelude.{◌≡◌, ◌<◌, ◌≤◌, ◌^◌, ◌↔◌, IfOk, IfSome, IsSome, length};
 ghost use Rattle.std.specs.Int.NonZero.{non_zero_u32_get};
+ghost use Rattle.commonware_utils.specs.Roots.{union_text};
 
 use commonware_utils::{MAX_ALLOCATION_BYTES, Widen, max, union_unique};
-use std::alloc::Global;
+use std::alloc::{AllocError, Global};
 use std::num::NonZeroU32;
 
-/// The text that is signed for a message, or `None` where the namespace is too long, or memory is refused.
-pub fn signed_text(alloc: Global, namespace: &[u8], message: &[u8]) -> Option<Vec<u8>>
-    ensures { IfSome result (λ text. (length : List ℕ) × (text.items ≡ length ++ namespace.now ++ message.now)) }
+/// The text that is signed for a message: the length of the namespace as a varint, the namespace, and the message. `None`
+/// where the namespace is too long.
+pub fn signed_text(
+    alloc: Global,
+    namespace: &[u8],
+    message: &[u8],
+) -> Result<Option<Vec<u8>>, AllocError>
+    ensures short { IfOk result (λ text. IsSome text ↔ (length namespace.now < 2 ^ 32)) }
+    ensures text { IfOk result (λ text. IfSome text (λ v. v.items ≡ union_text namespace.now message.now)) }
 {
     if namespace.len() > 4294967295 {
-        return None;
+        return Ok(None);
     }
-    match union_unique(alloc, namespace, message) {
-        Ok(text) => Some(text),
-        Err(_) => None,
-    }
+    union_unique(alloc, namespace, message).map(Some)
 }
 
 /// How many bytes to make room for, at least one for each participant.

@@ -1,0 +1,3 @@
+-- The words of `faults`: sizes of committees, and sub-sets that overlap.
+pub use Rattle.commonware_faults.specs.Counts.{GreatestFit, IsCommitteeSize, IsU32, amount}
+pub use Rattle.commonware_faults.specs.Subsets.{Greatest3, Greatest5, LeastM, MeetsOutside, OverlapAtLeast}
