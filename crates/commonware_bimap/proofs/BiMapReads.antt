@@ -9,7 +9,7 @@ use Rattle.commonware_base.specs.ListLaws.{list_wants_memory}
 use Rattle.commonware_base.specs.Range.{Bounds}
 use Rattle.commonware_base.specs.Text.{Accepts, ReadLaws}
 use Rattle.commonware_base.specs.Varint.{varint}
-use Rattle.commonware_ordered.specs.Maps.{map_enc, IsWritableMap, IsAllowedMap}
+use Rattle.commonware_map.specs.Maps.{map_enc, IsWritableMap, IsAllowedMap}
 
 -- a map with pairs is read with memory
 pub pairs_want_memory : {K V : Type 0} (ek : K → List ℕ) (WK AK : K → Type 0) (cmp : K → K → Ordering) (fk : List ℕ → Fault → Type 0) (mk : List ℕ → Type 0) (key_laws : ReadLaws ek WK AK fk)

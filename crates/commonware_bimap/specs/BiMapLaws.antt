@@ -11,9 +11,9 @@ use Rattle.commonware_base.specs.Range.{Bounds}
 use Rattle.commonware_base.specs.Fault.{Fault}
 use Rattle.commonware_base.specs.Text.{Accepts, IsPrefixFree, ReadLaws, CanonicalLaws}
 use Rattle.commonware_ordered.specs.EqualItems.{equal_items_back, equal_items_or_none, equal_items_same}
-use Rattle.commonware_ordered.specs.MapLaws.{map_canonical, map_laws, map_prefix_free}
-use Rattle.commonware_ordered.specs.Maps.{map_enc, IsAllowedMap, IsWritableMap, MapFault}
-use Rattle.commonware_ordered.specs.Pairs.{are_equal_pairs, equal_by_parts}
+use Rattle.commonware_map.specs.MapLaws.{map_canonical, map_laws, map_prefix_free}
+use Rattle.commonware_map.specs.Maps.{map_enc, IsAllowedMap, IsWritableMap, MapFault}
+use Rattle.commonware_map.specs.Pairs.{are_equal_pairs, equal_by_parts}
 use Rattle.commonware_ordered.specs.Whole.{HasEqualItems}
 use Rattle.commonware_bimap.specs.BiMaps.{IsWritableBiMap, BeginsRepeated, repeated_fault, BiMapFault, bad_map, bad_values, bimap_cut, at_map, at_values}
 

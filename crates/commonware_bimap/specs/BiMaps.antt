@@ -4,7 +4,7 @@ use Rattle.std.specs.Map.{values_of}
 use Rattle.std.specs.declared.cmp.Ordering.{Ordering}
 use Rattle.commonware_base.specs.Range.{Bounds}
 use Rattle.commonware_base.specs.Fault.{Fault, Invalid}
-use Rattle.commonware_ordered.specs.Maps.{map_enc, IsAllowedMap, IsWritableMap, MapFault}
+use Rattle.commonware_map.specs.Maps.{map_enc, IsAllowedMap, IsWritableMap, MapFault}
 use Rattle.commonware_ordered.specs.Whole.{HasEqualItems}
 
 -- A bimap can be written where it can be written as a map. No two of its values are equal, as those of every bimap.

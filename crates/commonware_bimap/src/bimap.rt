@@ -18,7 +18,8 @@ mod refs;
 mod text;
 
 pub use codec::bimap_fault_law;
-use commonware_ordered::{Error, Map, Pairs, Set};
+use commonware_map::{Map, Pairs};
+use commonware_ordered::{Error, Set};
 use std::alloc::{AllocError, Allocator};
 use std::hash::Hash;
 use std::marker::Model;

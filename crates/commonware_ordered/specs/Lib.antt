@@ -1,16 +1,8 @@
 pub mod Dedup
 pub mod EqualItems
-pub mod Lends
-pub mod Lookups
-pub mod MapLaws
-pub mod Maps
-pub mod Pairs
-pub mod PairsMut
 pub mod SetLaws
-pub mod SetValues
 pub mod Sets
 pub mod Strict
 pub mod StrictLaws
-pub mod ValueMaps
 pub mod Whole
 pub mod WholeLaws

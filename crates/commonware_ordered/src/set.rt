@@ -11,9 +11,8 @@ mod compare;
 mod iterators;
 mod text;
 
-pub(crate) use builders::items_of;
-pub(crate) use codec::read_set;
-pub use codec::set_fault_law;
+pub use builders::items_of;
+pub use codec::{read_set, set_fault_law};
 use std::alloc::Allocator;
 use std::marker::Model;
 use std::ops::{Index, Range};
@@ -108,8 +107,8 @@ impl<T: Ord, A: Allocator> Set<T, A> {
 }
 
 impl<T: Ord, A: Allocator> Set<T, A> {
-    /// The set of items each of which is less than the next.
-    pub(crate) fn from_strict(items: Vec<T, A>) -> Self
+    /// The set of items each of which has to be less than the next. It takes no memory.
+    pub fn from_strict(items: Vec<T, A>) -> Self
         requires { IsStrict T.cmp items.items }
         ensures { result ≡ items.items }
     {
@@ -119,7 +118,7 @@ impl<T: Ord, A: Allocator> Set<T, A> {
 
 impl<T: Ord + Drop, A: Allocator> Set<T, A> {
     /// The first `len` items stay, or all of them where there are no more.
-    pub(crate) fn truncate(&mut self, len: usize)
+    pub fn truncate(&mut self, len: usize)
         ensures { self.new ≡ take len self.old }
     {
         self.items.truncate(len);

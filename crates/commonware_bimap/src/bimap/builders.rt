@@ -4,7 +4,8 @@ ghost use Rattle.std.specs.Prelude.{◌≡◌, true};
 
 use super::BiMap;
 use commonware_base::{EqClone, TryFromIterator};
-use commonware_ordered::{Error, Map};
+use commonware_map::Map;
+use commonware_ordered::Error;
 use std::alloc::Allocator;
 use std::hash::Hash;
 

@@ -2,15 +2,15 @@
 ghost use Rattle.std.specs.Prelude.{◌≡◌, ℕ, List};
 ghost use Rattle.commonware_base.specs.Fault.{Fault};
 ghost use Rattle.commonware_base.specs.Lists.{IsListMemoryFree};
-ghost use Rattle.commonware_ordered.specs.MapLaws.{map_bytes};
-ghost use Rattle.commonware_ordered.specs.Maps.{map_enc, IsAllowedMap};
+ghost use Rattle.commonware_map.specs.MapLaws.{map_bytes};
+ghost use Rattle.commonware_map.specs.Maps.{map_enc, IsAllowedMap};
 ghost use Rattle.commonware_bimap.specs.BiMapLaws.{bimap_canonical, bimap_laws, bimap_prefix_free};
 ghost use Rattle.commonware_bimap.specs.BiMaps.{BiMapFault, IsWritableBiMap, bimap_cut};
 
 use super::BiMap;
 use commonware_base::codec::{Canonical, EncodeSize, Error, RangeCfg, Read, Source, Write};
+use commonware_map::Map;
 use commonware_ordered as ordered;
-use commonware_ordered::Map;
 use std::alloc::{AllocError, Allocator};
 use std::hash::Hash;
 

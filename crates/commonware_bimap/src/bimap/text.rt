@@ -1,9 +1,9 @@
 //! Bimaps as texts.
 ghost use Rattle.std.specs.Fmt.{debug_list};
-ghost use Rattle.commonware_ordered.specs.Pairs.{pair_text};
+ghost use Rattle.commonware_map.specs.Pairs.{pair_text};
 
 use super::BiMap;
-use commonware_ordered::Map;
+use commonware_map::Map;
 use std::alloc::Allocator;
 use std::fmt;
 use std::hash::Hash;

@@ -88,8 +88,8 @@ impl<T: Ord + EqClone, A: Allocator + Copy> Set<T, A> {
     }
 }
 
-/// The items of pairs of an item and its position.
-pub(crate) fn items_of<T: Drop, A: Allocator + Copy>(
+/// The items of pairs of an item and its position, in that order. It is refused for want of memory alone.
+pub fn items_of<T: Drop, A: Allocator + Copy>(
     alloc: A,
     placed: Vec<(T, usize), A>,
 ) -> Result<Vec<T, A>, AllocError>

@@ -89,7 +89,7 @@ pub fn set_fault_law<T: Ord + Canonical + Read<A>, A: Allocator>(
 
 /// Reads a set under a range for its length and a configuration for its items. The order is looked at once the whole
 /// list is read, so a fault of a later item comes before that of the order.
-pub(crate) fn read_set<T: Ord + Canonical + Read<A> + Drop, A: Allocator + Copy>(
+pub fn read_set<T: Ord + Canonical + Read<A> + Drop, A: Allocator + Copy>(
     alloc: A,
     src: &mut Source<'_>,
     range: RangeCfg<usize>,

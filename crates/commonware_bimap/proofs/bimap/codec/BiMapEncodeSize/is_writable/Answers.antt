@@ -1,6 +1,6 @@
 use Rattle.std.proofs.Common.{subst, sym}
 use Rattle.std.specs.Map.{values_of}
-use Rattle.commonware_ordered.specs.Maps.{IsWritableMap}
+use Rattle.commonware_map.specs.Maps.{IsWritableMap}
 use Rattle.commonware_ordered.specs.Whole.{HasEqualItems}
 use Rattle.commonware_bimap.proofs.bimap.codec.BiMapEncodeSize.is_writable.Goals as goal
 

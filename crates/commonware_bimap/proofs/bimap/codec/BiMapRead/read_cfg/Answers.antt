@@ -3,7 +3,7 @@ use Rattle.std.specs.Map.{values_of}
 use Rattle.commonware_base.specs.Lists.{IsListMemoryFree}
 use Rattle.commonware_base.specs.Refusal.{refuses_from}
 use Rattle.commonware_base.specs.Source.{rest_of}
-use Rattle.commonware_ordered.specs.Maps.{MapFault}
+use Rattle.commonware_map.specs.Maps.{MapFault}
 use Rattle.commonware_ordered.specs.Whole.{HasEqualItems, MatchError}
 use Rattle.commonware_bimap.specs.BiMaps.{BiMapFault, bad_map, bad_values, repeated_fault}
 use Rattle.commonware_bimap.proofs.BiMapReads.{pairs_want_memory}

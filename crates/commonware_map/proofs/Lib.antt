@@ -1,0 +1,8 @@
+pub mod Calls
+pub mod Columns
+pub mod Lookups
+pub mod MapReads
+pub mod Split
+pub mod Stepped
+pub mod Walked
+pub mod Zipped

@@ -1,0 +1,8 @@
+pub mod Lends
+pub mod Lookups
+pub mod MapLaws
+pub mod Maps
+pub mod Pairs
+pub mod PairsMut
+pub mod SetValues
+pub mod ValueMaps

@@ -1,0 +1,47 @@
+-- What a map of the values calls, and what it answers.
+use Rattle.std.specs.Prelude.{◌≡◌, List, ◌∷◌, ◌++◌, Ok, Err}
+use Rattle.std.specs.Borrow.{Bor}
+use Rattle.std.specs.Fn.{Called, Mut, Takes}
+use Rattle.std.specs.declared.result.Result.{Result}
+use Rattle.commonware_base.specs.Calls.{CallsGive}
+use Rattle.commonware_map.specs.declared.map_error.MapError.{MapError}
+use Rattle.commonware_map.specs.declared.map_error.MapError.TheVariants.{Memory, Closure}
+
+-- A call of f at references to the key and the value of a pair answered r and left f'.
+pub record CalledAtRefs {F K V R : Type 0} (calls : Mut F (Bor K × (Bor V × Unit {0})) R) (f : F) (pair : K × V) (r : R) (f' : F) : Type 0 where
+  pub key : Bor K
+  pub value : Bor V
+  pub key_is : key.now ≡ pair.0
+  pub value_is : value.now ≡ pair.1
+  pub called : Called calls f (key, (value, tt)) r f'
+
+-- A call of f at a reference to the key of a pair and at its value answered r and left f'.
+pub record CalledAtPair {F K V R : Type 0} (calls : Mut F (Bor K × (V × Unit {0})) R) (f : F) (pair : K × V) (r : R) (f' : F) : Type 0 where
+  pub key : Bor K
+  pub key_is : key.now ≡ pair.0
+  pub called : Called calls f (key, (pair.1, tt)) r f'
+
+-- f may be called at references to the key and the value of a pair.
+abbrev pub TakesRefs : {F K V R : Type 0} → Mut F (Bor K × (Bor V × Unit {0})) R → F → K × V → Type 0
+TakesRefs {F} {K} {V} calls f pair = (key : Bor K) → (value : Bor V) → key.now ≡ pair.0 → value.now ≡ pair.1 → Takes calls f (key, (value, tt))
+
+-- f may be called at a reference to the key of a pair and at its value.
+abbrev pub TakesPair : {F K V R : Type 0} → Mut F (Bor K × (V × Unit {0})) R → F → K × V → Type 0
+TakesPair {F} {K} calls f pair = (key : Bor K) → key.now ≡ pair.0 → Takes calls f (key, (pair.1, tt))
+
+-- The calls at the first of xs answered `Ok`, and the one after them answered the error e.
+pub record IsFirstError {F X R E : Type 0} (step : F → X → Result R E → F → Type 0) (f : F) (xs : List X) (e : E) : Type 0 where
+  pub before : List X
+  pub at : X
+  pub after : List X
+  pub split : xs ≡ before ++ at ∷ after
+  pub answers : List R
+  pub now : F
+  pub calls : CallsGive (λ p x r q. step p x (Ok r) q) f before answers now
+  pub last : F
+  pub failed : step now at (Err e) last
+
+-- P holds of the closure's error, where it is one.
+abbrev pub IfClosure : {E : Type 0} → MapError E → (E → Type 0) → Type 0
+IfClosure Memory P = Unit {0}
+IfClosure (Closure e) P = P e

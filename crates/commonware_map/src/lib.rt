@@ -1,0 +1,8 @@
+//! Ordered collections: maps from strictly increasing keys to values.
+#![tactic(auto)]
+
+mod map;
+mod map_error;
+
+pub use map::{Map, MapIntoIter, Pairs, PairsMut, map_fault_law};
+pub use map_error::MapError;

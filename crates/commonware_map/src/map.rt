@@ -1,0 +1,194 @@
+//! A set of keys, and a value for each.
+ghost use Rattle.std.specs.Prelude.{◌≡◌, ◌↔◌, ◌<◌, ◌^◌, ◌==◌, [], IfOk, IfSome, IsSome, Some, length, slice_get, take, true, zip, ℕ};
+ghost use Rattle.std.specs.Iterator.Adapters.{IterYieldsInOrder, IterYieldsInReverse};
+ghost use Rattle.std.specs.Map.{keys_of, lookup, values_of};
+ghost use Rattle.std.specs.Option.{option_copied};
+ghost use Rattle.std.specs.Slice.{IsItemAt};
+ghost use Rattle.std.specs.Slice.Iter.{iter_rest};
+ghost use Rattle.commonware_ordered.specs.Strict.{IsPlaceOf, IsStrict};
+
+mod builders;
+mod codec;
+mod compare;
+mod into_iter;
+mod loans;
+mod pairs;
+mod pairs_mut;
+mod refs;
+mod text;
+mod value_maps;
+
+pub use codec::map_fault_law;
+use commonware_ordered::Set;
+pub use into_iter::MapIntoIter;
+pub use pairs::Pairs;
+pub use pairs_mut::PairsMut;
+use std::alloc::{AllocError, Allocator};
+use std::marker::Model;
+use std::slice;
+
+/// Keys in increasing order, each once, and a value for each.
+#[derive(Drop)]
+pub struct Map<K: Ord, V, A: Allocator> {
+    keys: Set<K, A>,
+    values: Vec<V, A>,
+}
+
+impl<K: Ord, V, A: Allocator> Model for Map<K, V, A> {
+    ghost use Rattle.std.specs.Prelude.{◌≡◌, List, length, zip};
+
+    ghost Value = { List (K × V) };
+
+    ghost view = { λ m. zip m.keys m.values.items };
+
+    ghost invariant = { λ m. length m.values.items ≡ length m.keys };
+}
+
+impl<K: Ord, V, A: Allocator + Copy> Map<K, V, A> {
+    /// The map without pairs. It takes no memory.
+    pub fn empty(alloc: A) -> Self
+        ensures { result ≡ [] }
+    {
+        Map {
+            keys: Set::empty(alloc),
+            values: Vec::new(alloc),
+        }
+    }
+}
+
+impl<K: Ord, V, A: Allocator> Map<K, V, A> {
+    /// The map of keys and of the values at their positions, of which there are as many.
+    pub(crate) fn from_columns(keys: Set<K, A>, values: Vec<V, A>) -> Self
+        requires { length values.items ≡ length keys }
+        ensures { result ≡ zip keys values.items }
+    {
+        Map { keys, values }
+    }
+
+    /// The keys, and the values at their positions.
+    pub(crate) fn into_columns(self) -> (Set<K, A>, Vec<V, A>)
+        ensures { (result.0 ≡ keys_of self) × (result.1.items ≡ values_of self) }
+    {
+        let Map { keys, values } = self;
+        (keys, values)
+    }
+
+    /// How many pairs there are.
+    pub fn len(&self) -> usize
+        ensures len { result ≡ length self.now }
+        ensures strict { IsStrict K.cmp (keys_of self.now) }
+    {
+        self.keys.as_slice().len()
+    }
+
+    /// Whether there are no pairs.
+    pub fn is_empty(&self) -> bool
+        ensures { result ≡ (length self.now == 0) }
+    {
+        self.len() == 0
+    }
+
+    /// The keys.
+    pub fn keys(&self) -> &Set<K, A>
+        ensures { result.now ≡ keys_of self.now }
+    {
+        &self.keys
+    }
+
+    /// The values in the order of their keys.
+    pub fn values(&self) -> &[V]
+        ensures { result.now ≡ values_of self.now }
+    {
+        self.values.as_slice()
+    }
+
+    /// The key at a position, or `None` past the last.
+    pub fn get(&self, index: usize) -> Option<&K>
+        ensures { IsItemAt (keys_of self.now) index result }
+    {
+        self.keys().get(index)
+    }
+
+    /// An iterator over the keys in order, from both ends.
+    pub fn iter(&self) -> slice::Iter<'_, K>
+        ensures rest { iter_rest result ≡ keys_of self.now }
+        ensures bound { length (iter_rest result) < 2 ^ 64 }
+        ensures runs { IterYieldsInOrder K }
+        ensures runs_back { IterYieldsInReverse K }
+    {
+        self.keys().iter()
+    }
+
+    /// The place of the key that equals the one asked, or `None` where none does. The keys are halved: O(log n)
+    /// comparisons.
+    pub fn position(&self, key: &K) -> Option<usize>
+        ensures place { IsPlaceOf K.eq (keys_of self.now) key.now result }
+        ensures only { (p : ℕ) → (result ≡ Some p) ↔ ((x : K) × (slice_get (keys_of self.now) p ≡ Some x) × (K.eq x key.now ≡ true)) }
+    {
+        self.keys().position(key)
+    }
+
+    /// The value at a position, or `None` past the last.
+    pub fn value(&self, index: usize) -> Option<&V>
+        ensures { IsItemAt (values_of self.now) index result }
+    {
+        self.values().get(index)
+    }
+
+    /// The value of the key that equals the one asked, or `None` where none does. The keys are halved: O(log n)
+    /// comparisons.
+    pub fn get_value(&self, key: &K) -> Option<&V>
+        ensures { option_copied result ≡ lookup (λ k. K.eq k key.now) self.now }
+    {
+        let index = self.position(key)?;
+        Some(&self.values()[index])
+    }
+}
+
+impl<K: Ord + Drop, V: Drop, A: Allocator> Map<K, V, A> {
+    /// The map of the keys, each with the value at its position, or `None` where there are not as many values as keys.
+    /// It takes no memory.
+    pub fn from_parts(keys: Set<K, A>, values: Vec<V, A>) -> Option<Self>
+        ensures whole { IsSome result ↔ (length values.items ≡ length keys) }
+        ensures pairs { IfSome result (λ m. m ≡ zip keys values.items) }
+    {
+        if values.len() == keys.len() {
+            Some(Map { keys, values })
+        } else {
+            None
+        }
+    }
+
+    /// The first `len` pairs stay, or all of them where there are no more.
+    pub fn truncate(&mut self, len: usize)
+        ensures { self.new ≡ take len self.old }
+    {
+        self.keys.truncate(len);
+        self.values.truncate(len);
+    }
+}
+
+impl<K: Ord, V: Drop, A: Allocator> Map<K, V, A> {
+    /// The keys. The values are given up. It takes no memory.
+    pub fn into_keys(self) -> Set<K, A>
+        ensures { result ≡ keys_of self }
+    {
+        let Map { keys, values: _ } = self;
+        keys
+    }
+}
+
+impl<K: Ord + Drop, V: Drop, A: Allocator + Copy> Map<K, V, A> {
+    /// All pairs in the order of their keys.
+    pub fn into_pairs(self) -> Result<Vec<(K, V), A>, AllocError>
+        ensures { IfOk result (λ pairs. pairs.items ≡ self) }
+    {
+        let alloc = *self.values.allocator();
+        let mut pairs = Vec::with_capacity(alloc, self.len())?;
+        let (keys, values) = self.into_columns();
+        for pair in keys.into_iter().zip(values) {
+            pairs.push(pair)?;
+        }
+        Ok(pairs)
+    }
+}

@@ -1,0 +1,118 @@
+//! The byte form of a map: the list of its keys, and then the list of its values, each with its count.
+ghost use Rattle.std.specs.Prelude.{◌≡◌, ◌+◌, ◌*◌, ◌<◌, ◌≤◌, ◌^◌, ℕ, List, length};
+ghost use Rattle.std.specs.List.{AllByRecursion};
+ghost use Rattle.std.specs.Map.{keys_of, values_of};
+ghost use Rattle.commonware_base.specs.Fault.{Fault};
+ghost use Rattle.commonware_base.specs.Lists.{IsListMemoryFree};
+ghost use Rattle.commonware_base.specs.Sequence.{sequence_cut};
+ghost use Rattle.commonware_base.specs.Varint.{varint_size};
+ghost use Rattle.commonware_map.specs.MapLaws.{map_bytes, map_canonical, map_laws, map_prefix_free};
+ghost use Rattle.commonware_map.specs.Maps.{map_enc, IsAllowedMap, IsWritableMap, MapFault};
+ghost use Rattle.commonware_ordered.specs.Sets.{IsWritableSet};
+
+use super::Map;
+use commonware_base::codec::{
+    Canonical, EncodeSize, Error, MaxEncodeSize, RangeCfg, Read, Source, UInt, Write, read_list,
+};
+use commonware_ordered::{Set, read_set};
+use std::alloc::{AllocError, Allocator};
+
+impl<K: Ord + EncodeSize, V: EncodeSize, A: Allocator> EncodeSize for Map<K, V, A> {
+    ghost enc = { map_enc K.enc V.enc };
+
+    ghost writable = { IsWritableMap K.writable K.cmp V.writable };
+
+    ghost prefix_free = { map_prefix_free K.enc K.writable K.cmp K.prefix_free V.enc V.writable V.prefix_free };
+
+    ghost text_of_bytes = { map_bytes K.enc K.writable K.cmp K.prefix_free V.enc V.writable K.text_of_bytes V.text_of_bytes };
+
+    fn encode_size(&self) -> usize {
+        self.keys.encode_size() + self.values.encode_size()
+    }
+
+    fn is_writable(&self) -> bool {
+        self.keys.is_writable() && self.values.is_writable()
+    }
+}
+
+impl<K: Ord + Write<A>, V: Write<A>, A: Allocator> Write<A> for Map<K, V, A> {
+    fn write(&self, sink: &mut Vec<u8, A>) -> Result<(), AllocError> {
+        let start = sink.len();
+        self.keys.write(sink)?;
+        match self.values.write(sink) {
+            Ok(()) => Ok(()),
+            Err(error) => {
+                sink.truncate(start);
+                Err(error)
+            }
+        }
+    }
+}
+
+impl<K: Ord + Canonical + Read<A> + Drop, V: Read<A> + Drop, A: Allocator + Copy> Read<A>
+    for Map<K, V, A> {
+    type Cfg = (RangeCfg<usize>, K::Cfg, V::Cfg);
+
+    ghost allowed = { λ c. IsAllowedMap c.0 (K.allowed c.1) (V.allowed c.2) };
+
+    ghost fault = { λ c. MapFault K.enc K.writable K.cmp (K.allowed c.1) (K.fault c.1) V.enc V.writable (V.allowed c.2) (V.fault c.2) c.0 };
+
+    ghost memory_free = { λ c. IsListMemoryFree (K.fault c.1) (K.memory_free c.1) c.0 };
+
+    ghost read_laws = { λ alloc c. map_laws K.enc K.writable K.cmp K.prefix_free V.enc V.writable V.prefix_free K.eq K.total K.matches_eq K.canonical c.0 (K.allowed c.1) (K.fault c.1) (V.allowed c.2) (V.fault c.2) (K.read_laws alloc c.1) (V.read_laws alloc c.2) };
+
+    /// Reads the keys as a set, and then the values as a list of as many.
+    fn read_cfg(alloc: A, src: &mut Source<'_>, cfg: &Self::Cfg) -> Result<Map<K, V, A>, Error> {
+        let mut here = *src;
+        let keys = match read_set::<K, A>(alloc, &mut here, cfg.0, &cfg.1) {
+            Ok(keys) => keys,
+            Err(error) => return Err(error),
+        };
+        match read_list::<V, A>(
+            alloc,
+            &mut here,
+            RangeCfg::<usize>::exact(keys.len()),
+            &cfg.2,
+        ) {
+            Ok(values) => {
+                *src = here;
+                Ok(Map { keys, values })
+            }
+            Err(error) => Err(error),
+        }
+    }
+}
+
+impl<K: Ord + Canonical, V: Canonical, A: Allocator> Canonical for Map<K, V, A> {
+    ghost canonical = { map_canonical K.enc K.writable K.cmp K.prefix_free V.enc V.writable V.prefix_free K.eq K.total K.matches_eq K.canonical V.eq V.canonical };
+}
+
+impl<K: Ord + MaxEncodeSize, V, A: Allocator> Map<K, V, A> {
+    /// The number of bytes that a map of at most `len` pairs can have, where each value takes at most `value` bytes:
+    /// the size of `len` as a varint, twice, and `len` times the bound of a key and that of a value. `len` is at most
+    /// 4294967295, and the result fits a `usize`.
+    pub fn max_encode_size(len: usize, value: usize) -> usize
+        requires short { len < 2 ^ 32 }
+        requires fits { varint_size len + len * K.MAX_ENCODE_SIZE + (varint_size len + len * value) < 2 ^ 64 }
+        ensures size { result ≡ varint_size len + len * K.MAX_ENCODE_SIZE + (varint_size len + len * value) }
+        ensures enough { (enc : V → List ℕ) (m : List (K × V)) → IsWritableSet K.writable K.cmp (keys_of m) → AllByRecursion (λ v. length (enc v) ≤ value) (values_of m) → length m ≤ len → length (map_enc K.enc enc m) ≤ result }
+    {
+        Set::<K, A>::max_encode_size(len) + (UInt(len as u32).encode_size() + len * value)
+    }
+}
+
+/// The cuts at which a text is no map exclude one another: no text has a fault of the keys and one of the values.
+pub fn map_fault_law<K: Ord + Canonical + Read<A>, V: Read<A>, A: Allocator>(
+    alloc: A,
+    range: RangeCfg<usize>,
+    key: &K::Cfg,
+    value: &V::Cfg,
+)
+    ensures { (s : List ℕ) (f g : Fault)
+        (v : MapFault K.enc K.writable K.cmp (K.allowed key.now) (K.fault key.now) V.enc V.writable (V.allowed value.now) (V.fault value.now) range s f)
+        (w : MapFault K.enc K.writable K.cmp (K.allowed key.now) (K.fault key.now) V.enc V.writable (V.allowed value.now) (V.fault value.now) range s g)
+        → sequence_cut v ≡ sequence_cut w }
+{
+    // The contract alone speaks of them.
+    let _ = (alloc, range);
+}

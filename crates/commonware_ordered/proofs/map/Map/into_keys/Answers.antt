@@ -1,5 +1,0 @@
-use Rattle.commonware_ordered.proofs.Columns.{opened}
-use Rattle.commonware_ordered.proofs.map.Map.into_keys.Goals as goal
-
-pub returns : goal.returns
-returns g c = (opened _ _ _ c.self.view_is c.self.invariant).keys

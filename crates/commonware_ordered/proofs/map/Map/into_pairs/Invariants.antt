@@ -1,5 +1,0 @@
-use Rattle.commonware_ordered.proofs.Zipped.{LeftOf}
-use Rattle.commonware_ordered.proofs.map.Map.into_pairs.Given as goal
-
-abbrev pub invariant-loop-pair : goal.invariant-loop-pair
-invariant-loop-pair g l = LeftOf l.fn.self l.pairs.items l.pair-iterator

@@ -1,6 +1,0 @@
-use Rattle.std.proofs.Common.{◌∙◌}
-use Rattle.commonware_ordered.proofs.Columns.{opened}
-use Rattle.commonware_ordered.proofs.map.Map.values.Goals as goal
-
-pub returns : goal.returns
-returns g c = c.as_slice.ensures.value ∙ (opened _ _ _ c.self.view_is c.self.invariant).values

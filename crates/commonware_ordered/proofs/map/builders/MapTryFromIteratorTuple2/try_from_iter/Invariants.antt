@@ -1,5 +1,0 @@
-use Rattle.std.proofs.Common.{◌≡◌}
-use Rattle.commonware_ordered.proofs.map.builders.MapTryFromIteratorTuple2.try_from_iter.Given as goal
-
-abbrev pub invariant-loop-pair : goal.invariant-loop-pair
-invariant-loop-pair g l = l.pairs.items ≡ l.yielded

@@ -1,4 +1,0 @@
-use Rattle.commonware_ordered.proofs.map.pairs.RefMapIntoIterator.into_iter.Goals as goal
-
-pub returns : goal.returns
-returns g c = record { into_iter_gives = (c.iter_pairs.ensures.pairs, c.iter_pairs.ensures.bound, c.iter_pairs.ensures.runs, c.iter_pairs.ensures.runs_back) }
