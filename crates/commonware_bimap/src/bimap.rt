@@ -18,8 +18,9 @@ mod refs;
 mod text;
 
 pub use codec::bimap_fault_law;
-use commonware_map::{Map, Pairs};
+use commonware_map::Map;
 use commonware_ordered::{Error, Set};
+use commonware_pairs::Pairs;
 use std::alloc::{AllocError, Allocator};
 use std::hash::Hash;
 use std::marker::Model;

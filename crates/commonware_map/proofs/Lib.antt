@@ -3,6 +3,5 @@ pub mod Columns
 pub mod Lookups
 pub mod MapReads
 pub mod Split
-pub mod Stepped
 pub mod Walked
 pub mod Zipped

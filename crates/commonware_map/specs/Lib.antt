@@ -3,6 +3,5 @@ pub mod Lookups
 pub mod MapLaws
 pub mod Maps
 pub mod Pairs
-pub mod PairsMut
 pub mod SetValues
 pub mod ValueMaps

@@ -4,5 +4,5 @@
 mod map;
 mod map_error;
 
-pub use map::{Map, MapIntoIter, Pairs, PairsMut, map_fault_law};
+pub use map::{Map, map_fault_law};
 pub use map_error::MapError;

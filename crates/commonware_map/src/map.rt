@@ -20,9 +20,6 @@ mod value_maps;
 
 pub use codec::map_fault_law;
 use commonware_ordered::Set;
-pub use into_iter::MapIntoIter;
-pub use pairs::Pairs;
-pub use pairs_mut::PairsMut;
 use std::alloc::{AllocError, Allocator};
 use std::marker::Model;
 use std::slice;

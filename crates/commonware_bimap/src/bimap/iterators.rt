@@ -3,7 +3,7 @@ ghost use Rattle.std.specs.Prelude.{◌≡◌, ◌<◌, ◌^◌, length};
 ghost use Rattle.std.specs.Map.Iter.{GivesInOrder, GivesInReverse, ShowsInOrder, ShowsInReverse, deref_pair};
 
 use super::BiMap;
-use commonware_map::{MapIntoIter, Pairs};
+use commonware_pairs::{MapIntoIter, Pairs};
 use std::alloc::Allocator;
 use std::hash::Hash;
 

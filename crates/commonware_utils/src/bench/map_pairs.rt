@@ -1,5 +1,5 @@
 //! Iterators over the pairs of maps: both ends, the number left, and what is written through them.
-use crate::ordered::{Map, MapIntoIter, Pairs, Set};
+use crate::ordered::{Map, MapIntoIter, Pairs, PairsMut, Set};
 use std::alloc::Global;
 use std::test::Fail;
 
@@ -152,5 +152,19 @@ fn values_are_written_in_a_loop(rt: HostRuntime) -> Result<(), Fail> {
     assert!(rt;
         map.values() == [11, 22, 33].as_slice() && map.keys().as_slice() == [1, 2, 3].as_slice()
     );
+    Ok(())
+}
+
+/// Lists that are no map's: the keys 7, 3 beside the values 1, 2.
+#[test]
+fn two_lists_are_walked_side_by_side(rt: HostRuntime) -> Result<(), Fail> {
+    let shown = Pairs::new([7u8, 3].as_slice(), [1u8, 2].as_slice());
+    assert!(rt; lends(shown, 2, &[(true, Some((&3, &2)), 1)]));
+    let mut values = [1u8, 2];
+    let mut lent = PairsMut::new([7u8, 3].as_slice(), values.as_mut_slice());
+    let told = add_key(lent.next_back());
+    assert!(rt; told == Some((3, 2)) && values == [1, 5]);
+    let given = MapIntoIter::new(vec![in rt.alloc(); 7u8, 3]?, vec![in rt.alloc(); 1u8, 2]?);
+    assert!(rt; gives(given, 2, &[(false, Some((7, 1)), 1)]));
     Ok(())
 }

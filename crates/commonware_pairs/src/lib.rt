@@ -1,0 +1,10 @@
+//! The pairs of a map, one by one: iterators over keys and the values at their positions.
+#![tactic(auto)]
+
+mod into_iter;
+mod pairs;
+mod pairs_mut;
+
+pub use into_iter::MapIntoIter;
+pub use pairs::Pairs;
+pub use pairs_mut::PairsMut;
