@@ -1,4 +1,5 @@
 pub mod Counts
 pub mod Ends
 pub mod Refusals
+pub mod Taken
 pub mod Words

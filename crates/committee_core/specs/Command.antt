@@ -20,3 +20,7 @@ pub record IsCount (word : List ℕ) (n : NonZeroU32) : Type 0 where
 abbrev pub IsAskedFor : List (List ℕ) → Command → Type 0
 IsAskedFor words Read = words ≡ codes "read" ∷ []
 IsAskedFor words (Bounds n) = (word : List ℕ) × (words ≡ codes "bounds" ∷ word ∷ []) × IsCount word n
+
+-- these words ask for no command
+abbrev pub AskForNone : List (List ℕ) → Type 0
+AskForNone words = (command : Command) → ¬ IsAskedFor words command

@@ -15,6 +15,7 @@ use Rattle.commonware_base.specs.declared.codec.error.Error.TheVariants as fault
 use Rattle.commonware_base.specs.declared.codec.error.Error.TheVariants.{EndOfBuffer, InvalidVarint, InvalidLength, Invalid}
 use Rattle.commonware_ordered.specs.Sets.{IsWritableSet, SetFault}
 use Rattle.committee_core.specs.BoundsReport.{IsBoundsReport}
+use Rattle.committee_core.specs.Command.{IsAskedFor}
 use Rattle.committee_core.specs.Report.{IsMembersReport}
 use Rattle.committee_core.specs.declared.command.Command.{Command}
 use Rattle.committee_core.specs.declared.command.Command.TheVariants as commands
@@ -70,6 +71,10 @@ refusal_of faults.Memory = Memory
 abbrev pub IsReport : (List ℕ → Type 0) → Command → List ℕ → Type 0
 IsReport Given commands.Read text = (s : List ℕ) × Given s × (members : List ℕ) × IsCommittee s members [] × IsMembersReport members text
 IsReport Given (commands.Bounds n) text = IsBoundsReport (non_zero_u32_get n) text
+
+-- the report that the words ask for was written, where the reader gave bytes of which Given holds, and Written of the text
+abbrev pub IsDone : List (List ℕ) → (List ℕ → Type 0) → (List ℕ → Type 0) → Type 0
+IsDone words Given Written = (command : Command) × IsAskedFor words command × ((text : List ℕ) × Written text × IsReport Given command text)
 
 -- the exit status where no report was written: 1 where the bytes are refused, 3 where memory or a device failed
 abbrev pub status_of : RunError → ℕ

@@ -1,6 +1,6 @@
 //! Why a run has written no report.
 
-use commonware_utils::codec;
+use commonware_base::codec;
 
 /// Why a run has written no report. Its text is the line that a session says.
 #[derive(Debug, PartialEq, Eq, Drop, thiserror::Error)]

@@ -4,9 +4,11 @@
 //! request for memory and each failing device can be tried. The program itself only hands in the real ones.
 #![tactic(auto)]
 
+mod arguments;
 mod bounds_report;
 mod command;
 mod error;
+mod line;
 mod outcome;
 mod program;
 mod ranges;
@@ -15,6 +17,7 @@ mod report;
 mod transfer;
 mod watched;
 
+pub use arguments::{on_host, start};
 pub use command::{Command, parse_args};
 pub use error::RunError;
 pub use outcome::run;

@@ -9,9 +9,9 @@ use crate::error::RunError;
 use crate::report::committee_report;
 use crate::transfer::{read_all, write_whole};
 use crate::watched::Watched;
-use commonware_utils::codec;
-use commonware_utils::codec::{RangeCfg, Source};
-use commonware_utils::ordered::Set;
+use commonware_base::codec;
+use commonware_base::codec::{RangeCfg, Source};
+use commonware_ordered::Set;
 use std::alloc::Allocator;
 use std::io::{Read, Write};
 
@@ -38,6 +38,7 @@ pub fn run<A: Allocator + Copy, R: Read, W: Write>(
 
     // The devices.
     ensures nothing_written { OnErr result (result ≢ Err RunError.WriteFailed → output.new ≡ output.old) }
+    ensures broken { result ≡ Err RunError.WriteFailed → output.new.failed ≡ true }
     ensures read_failed { input.old.failed ≡ false
         → ((result ≡ Err RunError.ReadFailed) ↔ (input.new.failed ≡ true)) }
     ensures write_failed { output.old.failed ≡ false

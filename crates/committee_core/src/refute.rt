@@ -4,7 +4,7 @@ ghost use Rattle.commonware_faults.specs.Subsets.{shared, size};
 ghost use Rattle.committee_core.specs.Refutations.{subset_of};
 
 use crate::Refutation;
-use commonware_utils::{Faults, N3f1, N5f1};
+use commonware_faults::{Faults, N3f1, N5f1};
 
 /// The first n - f and the last n - f of `n` positions, and how many stand in both. `n` is at least 1 and `f` at most
 /// `n`.

@@ -5,7 +5,7 @@ ghost use Rattle.std.specs.Prelude.{◌≡◌, ◌^◌, ◌<◌, ◌≤◌, ◌+
 ghost use Rattle.committee_core.specs.Report.{IsMembersReport, members_line, member_line};
 ghost use Rattle.committee_core.specs.Report.{n3f1_line, n5f1_line};
 
-use commonware_utils::{Faults, N3f1, N5f1};
+use commonware_faults::{Faults, N3f1, N5f1};
 use std::alloc::{AllocError, Allocator};
 
 /// The report on the members: how many they are, each with its position, and the numbers of the

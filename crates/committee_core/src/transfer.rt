@@ -57,6 +57,24 @@ pub(crate) fn write_whole<W: Write>(output: &mut Watched<W>, bytes: &[u8]) -> Re
     // Where it gives up.
     ensures failed { IfErr result (λ e. (e ≡ RunError.WriteFailed) × (output.new.failed ≡ true)) }
 {
+    write_bytes(output, bytes)?;
+    match output.flush() {
+        Ok(()) => Ok(()),
+        Err(_) => Err(RunError::WriteFailed),
+    }
+}
+
+/// Writes all the bytes.
+///
+/// The error is `WriteFailed`, at the first write that fails or takes none.
+pub(crate) fn write_bytes<W: Write>(output: &mut Watched<W>, bytes: &[u8]) -> Result<(), RunError>
+    ensures bytes { OnOk result
+        (Appends (W.contents output.old.inner) (W.contents output.new.inner) bytes.now) }
+    ensures sound { OnOk result (output.new.failed ≡ output.old.failed) }
+
+    // Where it gives up.
+    ensures failed { IfErr result (λ e. (e ≡ RunError.WriteFailed) × (output.new.failed ≡ true)) }
+{
     let mut rest = bytes;
     while !rest.is_empty() {
         match output.write(rest) {
@@ -64,8 +82,5 @@ pub(crate) fn write_whole<W: Write>(output: &mut Watched<W>, bytes: &[u8]) -> Re
             _ => return Err(RunError::WriteFailed),
         }
     }
-    match output.flush() {
-        Ok(()) => Ok(()),
-        Err(_) => Err(RunError::WriteFailed),
-    }
+    Ok(())
 }

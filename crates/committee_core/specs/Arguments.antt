@@ -1,0 +1,13 @@
+-- The arguments that a program gets, and the words that follow the first of them.
+use Rattle.std.specs.Prelude.{◌≡◌, ℕ, List, String, Result, IsOkAnd, drop, map, string_bytes}
+use Rattle.std.specs.Iterator.{Drains}
+use Rattle.std.specs.Vec.Iter.{into_iter_steps}
+use Rattle.std.specs.declared.vec.IntoIter.{IntoIter}
+
+-- the arguments are these texts, of which the first is the program's name: the words follow it
+abbrev pub AreWords : {A : Type 0} → IntoIter (String A) A → List (List ℕ) → Type 0
+AreWords {A} arguments words = (texts : List (String A)) × Drains into_iter_steps arguments texts × (words ≡ map string_bytes (drop 1 texts))
+
+-- the arguments were taken, and P holds of the words
+abbrev pub HasWords : {A E : Type 0} → Result (IntoIter (String A) A) E → (List (List ℕ) → Type 0) → Type 0
+HasWords taken P = IsOkAnd taken (λ arguments. (words : List (List ℕ)) × AreWords arguments words × P words)
