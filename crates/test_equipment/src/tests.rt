@@ -12,6 +12,7 @@ mod refused_unions;
 mod refused_value_maps;
 mod runs;
 mod sessions;
+mod starts;
 mod walk;
 mod watched;
 

@@ -49,7 +49,7 @@ fn four_session() -> Session<'static> {
 }
 
 /// The words, as the program gets them.
-fn words_of<'a>(
+pub fn words_of<'a>(
     heap: Heap<'a>,
     words: &[&str],
 ) -> Result<Vec<String<Heap<'a>>, Heap<'a>>, AllocError> {
