@@ -5,6 +5,7 @@ use Rattle.std.specs.declared.num.NonZeroUsize.{NonZeroUsize}
 use Rattle.std.specs.declared.ops.Bound.{Bound}
 use Rattle.std.specs.declared.ops.Bound.TheVariants.{Included, Excluded, Unbounded}
 use Rattle.std.specs.Int.NonZero.{non_zero_usize_get}
+use Rattle.std.specs.Range.Bound.{bound_map}
 
 -- What a range is seen as: a lower bound, where it has one, and an upper bound.
 pub record Bounds (T : Type 0) : Type 0 where
@@ -31,12 +32,10 @@ pub record Within (range : Bounds ℕ) (n : ℕ) : Type 0 where
 abbrev pub exactly : {T : Type 0} → T → Bounds T
 exactly n = record { lower = Some n; upper = Included n }
 
--- a bound that is not 0, as a number
-abbrev pub bound_as_number : Bound NonZeroUsize → Bound ℕ
-bound_as_number (Included n) = Included (non_zero_usize_get n)
-bound_as_number (Excluded n) = Excluded (non_zero_usize_get n)
-bound_as_number Unbounded = Unbounded
+-- the same bounds, each seen as a number
+abbrev pub numbers_of : {T : Type 0} → (T → ℕ) → Bounds T → Bounds ℕ
+numbers_of number range = record { lower = option_map number range.lower; upper = bound_map number range.upper }
 
--- the same bounds as numbers
+-- bounds that are not 0, as numbers
 abbrev pub as_numbers : Bounds NonZeroUsize → Bounds ℕ
-as_numbers range = record { lower = option_map non_zero_usize_get range.lower; upper = bound_as_number range.upper }
+as_numbers = numbers_of non_zero_usize_get

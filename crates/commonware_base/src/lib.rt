@@ -14,7 +14,7 @@ mod widen;
 pub use eq_clone::EqClone;
 pub use golden_ratio::{GOLDEN_RATIO, golden_ratio_law};
 pub use participant::Participant;
-pub use sizes::{MAX_ALLOCATION_BYTES, max};
+pub use sizes::{MAX_ALLOCATION_BYTES, max, max_allocation_law};
 pub use try_from_iterator::{TryCollect, TryFromIterator};
 pub use unions::{union, union_unique};
 pub use widen::Widen;

@@ -12,6 +12,6 @@ pub mod vec;
 
 pub use commonware_base::{
     EqClone, GOLDEN_RATIO, MAX_ALLOCATION_BYTES, Participant, TryCollect, TryFromIterator, Widen,
-    codec, golden_ratio_law, max, union, union_unique,
+    codec, golden_ratio_law, max, max_allocation_law, union, union_unique,
 };
 pub use commonware_faults::{Faults, N3f1, N5f1};

@@ -61,8 +61,13 @@ impl<T, A: Allocator> Bounded<T, A> {
     /// Where memory is refused, the item comes back, and the queue is as it was.
     pub fn push(&mut self, value: T) -> Result<Option<T>, T>
         ensures capacity { self.new.capacity ≡ self.old.capacity }
-        ensures room { length self.old.items < self.old.capacity → MatchResult result (λ out. (out ≡ None) × (self.new.items ≡ self.old.items ++ value ∷ [])) (λ back. (back ≡ value) × (self.new.items ≡ self.old.items)) }
-        ensures full { length self.old.items ≡ self.old.capacity → MatchResult result (λ out. (out ≡ slice_get self.old.items 0) × (self.new.items ≡ drop 1 self.old.items ++ value ∷ [])) (λ _. ⊥) }
+        ensures room { length self.old.items < self.old.capacity → MatchResult result
+            (λ out. (out ≡ None) × (self.new.items ≡ self.old.items ++ value ∷ []))
+            (λ back. (back ≡ value) × (self.new.items ≡ self.old.items)) }
+        ensures full { self.old.capacity ≤ length self.old.items → MatchResult result
+            (λ out. (out ≡ slice_get self.old.items 0)
+            × (self.new.items ≡ drop 1 self.old.items ++ value ∷ []))
+            (λ _. ⊥) }
     {
         let len = self.deque.len();
         if len < self.capacity.get() {

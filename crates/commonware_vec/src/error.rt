@@ -10,7 +10,7 @@ pub enum Error {
     /// There are no items.
     #[error("cannot create NonEmptyVec from empty collection")]
     Empty,
-    /// Memory was refused. It says nothing of the items.
+    /// Memory was refused. Where there are no items, the answer is `Empty`.
     #[error("out of memory")]
     Memory,
 }

@@ -6,11 +6,13 @@ mod committees;
 mod macros;
 mod messages;
 mod queues;
+mod ranges;
 mod registries;
 mod roots;
 
 pub use committees::{is_member, signatures_needed};
 pub use messages::{read_members, write_members};
 pub use queues::{doubled, keep_the_first, latest, remember};
+pub use ranges::{only, only_one_above_zero};
 pub use registries::{owner, powers, registry};
 pub use roots::{room, signed_text};

@@ -1,13 +1,18 @@
 //! Module `vec`: the last votes, and lists that are never empty.
-ghost use Rattle.std.specs.Prelude.{◌≡◌, ◌*◌, ◌-◌, ◌<◌, ◌++◌, ◌∷◌, [], IfErr, IfOk, MatchResult, None, Some, drop, length, map, min, slice_get, take};
+ghost use Rattle.std.specs.Prelude.{◌≡◌, ◌*◌, ◌-◌, ◌<◌, ◌≤◌, ◌++◌, ◌∷◌, [], IfErr, IfOk, MatchResult, None, Some, drop, length, map, min, slice_get, take};
 
 use commonware_utils::vec::{Bounded, Error, Mutate, NonEmptyVec};
 use std::alloc::Global;
 
 /// Remembers a vote, and answers the one that is forgotten for it, or the vote itself where memory is refused.
 pub fn remember(votes: &mut Bounded<u32, Global>, vote: u32) -> Result<Option<u32>, u32>
-    ensures room { length votes.old.items < votes.old.capacity → MatchResult result (λ out. (out ≡ None) × (votes.new.items ≡ votes.old.items ++ vote ∷ [])) (λ back. (back ≡ vote) × (votes.new.items ≡ votes.old.items)) }
-    ensures full { length votes.old.items ≡ votes.old.capacity → MatchResult result (λ out. (out ≡ slice_get votes.old.items 0) × (votes.new.items ≡ drop 1 votes.old.items ++ vote ∷ [])) (λ _. ⊥) }
+    ensures room { length votes.old.items < votes.old.capacity → MatchResult result
+        (λ out. (out ≡ None) × (votes.new.items ≡ votes.old.items ++ vote ∷ []))
+        (λ back. (back ≡ vote) × (votes.new.items ≡ votes.old.items)) }
+    ensures full { votes.old.capacity ≤ length votes.old.items → MatchResult result
+        (λ out. (out ≡ slice_get votes.old.items 0)
+        × (votes.new.items ≡ drop 1 votes.old.items ++ vote ∷ []))
+        (λ _. ⊥) }
 {
     votes.push(vote)
 }

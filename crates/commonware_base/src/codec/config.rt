@@ -3,7 +3,8 @@ ghost use Rattle.std.specs.Prelude.{◌≡◌, ℕ, ◌↔◌, IsTrue, Some, Non
 ghost use Rattle.std.specs.declared.ops.Bound.TheVariants.{Included, Excluded, Unbounded};
 ghost use Rattle.std.specs.Int.NonZero.{non_zero_usize_get};
 ghost use Rattle.std.specs.Range.{range_inclusive_start, range_inclusive_end};
-ghost use Rattle.commonware_base.specs.Range.{Within, as_numbers, bound_as_number, exactly};
+ghost use Rattle.std.specs.Range.Bound.{bound_map};
+ghost use Rattle.commonware_base.specs.Range.{Within, as_numbers, exactly, numbers_of};
 
 use std::marker::Model;
 use std::num::NonZeroUsize;
@@ -27,18 +28,22 @@ impl<T> Model for RangeCfg<T> {
     ghost inverse = { λ bounds. record { lower = bounds.lower; upper = bounds.upper } };
 }
 
-impl RangeCfg<usize> {
+impl<T: Copy> RangeCfg<T> {
     /// The range of one number alone.
-    pub fn exact(number: usize) -> Self
+    pub fn exact(number: T) -> Self
         ensures bounds { result ≡ exactly number }
-        ensures holds { (n : ℕ) → Within result n ↔ (n ≡ number) }
+        // in whichever way a `T` is seen as a number
+        ensures holds { (seen : T → ℕ) (n : ℕ) →
+            Within (numbers_of seen result) n ↔ (n ≡ seen number) }
     {
         RangeCfg {
             lower: Some(number),
             upper: Bound::Included(number),
         }
     }
+}
 
+impl RangeCfg<usize> {
     /// Whether the number is between the bounds.
     pub fn contains(&self, number: &usize) -> bool
         ensures { IsTrue result ↔ Within self.now number.now }
@@ -57,17 +62,6 @@ impl RangeCfg<usize> {
 }
 
 impl RangeCfg<NonZeroUsize> {
-    /// The range of one number alone.
-    pub fn exact(number: NonZeroUsize) -> Self
-        ensures bounds { as_numbers result ≡ exactly (non_zero_usize_get number) }
-        ensures holds { (n : ℕ) → Within (as_numbers result) n ↔ (n ≡ non_zero_usize_get number) }
-    {
-        RangeCfg {
-            lower: Some(number),
-            upper: Bound::Included(number),
-        }
-    }
-
     /// Whether the number is between the bounds.
     pub fn contains(&self, number: &NonZeroUsize) -> bool
         ensures { IsTrue result ↔ Within (as_numbers self.now) (non_zero_usize_get number.now) }
@@ -156,7 +150,7 @@ impl From<RangeCfg<NonZeroUsize>> for RangeCfg<usize> {
 
 /// The bound as a number.
 fn number_bound(bound: Bound<NonZeroUsize>) -> Bound<usize>
-    ensures { result ≡ bound_as_number bound }
+    ensures { result ≡ bound_map non_zero_usize_get bound }
 {
     match bound {
         Bound::Included(n) => Bound::Included(n.get()),

@@ -68,12 +68,7 @@ impl<K: Ord + Canonical + Read<A> + Drop, V: Read<A> + Drop, A: Allocator + Copy
             Ok(keys) => keys,
             Err(error) => return Err(error),
         };
-        match read_list::<V, A>(
-            alloc,
-            &mut here,
-            RangeCfg::<usize>::exact(keys.len()),
-            &cfg.2,
-        ) {
+        match read_list::<V, A>(alloc, &mut here, RangeCfg::exact(keys.len()), &cfg.2) {
             Ok(values) => {
                 *src = here;
                 Ok(Map { keys, values })

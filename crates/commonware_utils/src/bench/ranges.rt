@@ -33,7 +33,7 @@ fn ranges_hold_what_is_between_their_bounds(rt: HostRuntime) {
         (RangeCfg::from(1..=3), &[1, 3], &[0, 4]),
         (RangeCfg::from(3..3), &[], &[0, 2, 3, 4, usize::MAX]),
         (RangeCfg::from(5..=2), &[], &[0, 2, 3, 5, usize::MAX]),
-        (RangeCfg::<usize>::exact(2), &[2], &[1, 3]),
+        (RangeCfg::exact(2), &[2], &[1, 3]),
     ] {
         assert!(rt; holds(&range, held, others));
     }
@@ -44,7 +44,7 @@ fn ranges_that_leave_zero_out_keep_their_bounds(rt: HostRuntime) {
     let (one, two, ten) = (NZUsize!(1), NZUsize!(2), NZUsize!(10));
     let below_ten: RangeCfg<NonZeroUsize> = RangeCfg::from(..ten);
     let from_one: RangeCfg<NonZeroUsize> = RangeCfg::from(one..ten);
-    let exactly_two = RangeCfg::<NonZeroUsize>::exact(two);
+    let exactly_two = RangeCfg::exact(two);
     assert!(rt;
         holds(&RangeCfg::from(below_ten), &[0, 9], &[10])
             && holds(&RangeCfg::from(from_one), &[1, 9], &[0, 10])

@@ -1,6 +1,7 @@
 //! The root: unions of bytes, sizes, wider numbers and the constants.
 use crate::{
-    GOLDEN_RATIO, MAX_ALLOCATION_BYTES, Widen, golden_ratio_law, max, union, union_unique,
+    GOLDEN_RATIO, MAX_ALLOCATION_BYTES, Widen, golden_ratio_law, max, max_allocation_law, union,
+    union_unique,
 };
 use std::num::{NonZeroU8, NonZeroU16, NonZeroU32, NonZeroU64};
 use std::test::Fail;
@@ -114,6 +115,7 @@ fn the_constants_are_known(rt: HostRuntime) {
     assert!(rt;
         MAX_ALLOCATION_BYTES == 0x7fff_ffff_ffff_ffff && GOLDEN_RATIO == 11_400_714_819_323_198_485
     );
+    max_allocation_law();
     golden_ratio_law(1, 2);
     assert!(rt; GOLDEN_RATIO.wrapping_mul(17_428_512_612_931_826_493) == 1);
 }
