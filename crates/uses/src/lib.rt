@@ -5,12 +5,14 @@ mod committees;
 #[cfg(test)]
 mod macros;
 mod messages;
+mod peers;
 mod queues;
 mod registries;
 mod roots;
 
 pub use committees::{is_member, signatures_needed};
 pub use messages::{read_members, write_members};
+pub use peers::{Peer, read_peers};
 pub use queues::{doubled, keep_the_first, latest, remember};
-pub use registries::{owner, powers, registry};
-pub use roots::{room, signed_text};
+pub use registries::{owner, powers, registry, registry_of};
+pub use roots::{first, is_before, room, signed_text};
