@@ -34,3 +34,4 @@ pub use Rattle.commonware_base.specs.Varint.{varint_size}
 pub use Rattle.commonware_base.specs.VarintLaws.{varint-length, varint_bytes}
 pub use Rattle.commonware_base.specs.Words.{IsWord, word_bytes, word_canonical, word_fault}
 pub use Rattle.commonware_base.specs.Words.{word_laws, word_length, word_prefix_free, word_text}
+pub use Rattle.commonware_base.specs.declared.codec.source.Source.{Source}

@@ -26,3 +26,4 @@ pub use Rattle.commonware_map.specs.ValueMaps.{TakesPair, TakesRefs}
 pub use Rattle.commonware_ordered.specs.Whole.{HasEqualItems, IsRefusedFor, IsSetOfAll}
 pub use Rattle.commonware_ordered.specs.Whole.{IsSetOfClones, IsWholeSet, IsWholeSetOfClones}
 pub use Rattle.commonware_ordered.specs.Whole.{MatchError}
+pub use Rattle.commonware_pairs.specs.declared.pairs_mut.PairsMut.{PairsMut}
