@@ -2,8 +2,10 @@
 ghost use Rattle.std.specs.Prelude.{◌≡◌, ◌++◌, ◌==◌, ℕ, List, IfErr, IfOk, false, length, refl};
 ghost use Rattle.std.proofs.Common.{ap};
 ghost use Rattle.std.proofs.lemmas.Cmp.{nat_eq_equiv};
-ghost use Rattle.commonware_utils.specs.Codec.{IsWord, Refuses, Within, canonical_on, laws_on, prefix_free_on};
-ghost use Rattle.commonware_utils.specs.Codec.{word_bytes, word_canonical, word_fault, word_laws, word_length, word_prefix_free, word_text};
+ghost use Rattle.commonware_utils.specs.Codec.{Refuses, Within};
+ghost use Rattle.commonware_utils.specs.Codec.{canonical_on, laws_on, prefix_free_on};
+ghost use Rattle.commonware_utils.specs.Codec.{IsWord, word_bytes, word_canonical, word_fault, word_laws};
+ghost use Rattle.commonware_utils.specs.Codec.{word_length, word_prefix_free, word_text};
 ghost use Rattle.commonware_utils.specs.Roots.{equal_from_same};
 
 use commonware_utils::EqClone;
@@ -13,17 +15,20 @@ use commonware_utils::codec::{
 use commonware_utils::ordered::Set;
 use std::alloc::{AllocError, Allocator, Global};
 
-/// A peer: its number, and whether it was heard of, which is neither compared, hashed nor written.
+/// A peer. Its number alone is compared, hashed and written.
 #[derive(Clone, Copy)]
 #[derive_where(Debug, PartialEq, Eq, PartialOrd, Ord, Hash)]
 pub struct Peer {
-    number: u32,
+    /// What it is known by.
+    pub number: u32,
+    /// Whether it was heard of.
     #[derive_where(skip(EqHashOrd))]
-    heard: bool,
+    pub heard: bool,
 }
 
 impl EqClone for Peer {
-    ghost clones_are_equal = { λ x y same. equal_from_same nat_eq_equiv x.number y.number (ap (λ p. p.number) same) };
+    ghost clones_are_equal = { λ x y same. equal_from_same nat_eq_equiv x.number y.number
+        (ap (λ p. p.number) same) };
 }
 
 impl EncodeSize for Peer {
@@ -67,7 +72,8 @@ impl<A: Allocator> Read<A> for Peer {
 
     ghost memory_free = { λ _ _. Unit {0} };
 
-    ghost read_laws = { λ _ _. laws_on (λ p. p.number) word_bytes IsWord (λ _. Unit {0}) word_fault (λ n _ _. (record { number = n; heard = false }, refl)) word_laws };
+    ghost read_laws = { λ _ _. laws_on (λ p. p.number) word_bytes IsWord (λ _. Unit {0}) word_fault
+        (λ n _ _. (record { number = n; heard = false }, refl)) word_laws };
 
     fn read_cfg(alloc: A, src: &mut Source<'_>, cfg: &()) -> Result<Peer, Error> {
         match u32::read_cfg(alloc, src, cfg) {
@@ -90,9 +96,12 @@ pub fn read_peers(
     bytes: &[u8],
     allowed: RangeCfg<usize>,
 ) -> Result<Set<Peer, Global>, Error>
-    ensures bytes { IfOk result (λ peers. (after : List ℕ) × (bytes.now ≡ ⟦<Set<Peer, Global> as EncodeSize>⟧.enc peers ++ after)) }
+    ensures bytes { IfOk result (λ peers. (after : List ℕ)
+        × (bytes.now ≡ ⟦<Set<Peer, Global> as EncodeSize>⟧.enc peers ++ after)) }
     ensures count { IfOk result (λ peers. Within allowed (length peers)) }
-    ensures refused { IfErr result (Refuses (⟦<Set<Peer, Global> as Read<Global>>⟧.fault (allowed, tt) bytes.now) (⟦<Set<Peer, Global> as Read<Global>>⟧.memory_free (allowed, tt) bytes.now)) }
+    ensures refused { IfErr result (Refuses
+        (⟦<Set<Peer, Global> as Read<Global>>⟧.fault (allowed, tt) bytes.now)
+        (⟦<Set<Peer, Global> as Read<Global>>⟧.memory_free (allowed, tt) bytes.now)) }
 {
     Set::read_cfg(alloc, &mut Source::new(bytes), &(allowed, ()))
 }

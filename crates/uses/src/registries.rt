@@ -1,7 +1,8 @@
 //! Module `ordered`: the powers of the members, and whose each key is.
 ghost use Rattle.std.specs.Prelude.{◌≡◌, ◌==◌, ◌↔◌, ℕ, [], IsOk, IsSomeAnd, MatchResult, true};
 ghost use Rattle.std.specs.Map.{lookup, values_of};
-ghost use Rattle.commonware_utils.specs.Ordered.{HasEqualItems, IsWholeBiMap, IsWholeSetOfClones, MatchError};
+ghost use Rattle.commonware_utils.specs.Ordered.{HasEqualItems, MatchError};
+ghost use Rattle.commonware_utils.specs.Ordered.{IsWholeBiMap, IsWholeSetOfClones};
 
 use commonware_utils::ordered::{BiMap, Error, Map};
 use std::alloc::Global;
@@ -22,7 +23,9 @@ pub fn registry(members: Vec<(u32, u64)>) -> Result<BiMap<u32, u64, Global>, Err
 
 /// The keys of the members, or `DuplicateValue` where two of them share one.
 pub fn registry_of(keys: Map<u32, u64, Global>) -> Result<BiMap<u32, u64, Global>, Error>
-    ensures whole { MatchResult result (λ b. (b ≡ keys) × (¬ HasEqualItems ◌==◌ (values_of keys))) (λ error. MatchError error ⊥ (HasEqualItems ◌==◌ (values_of keys))) }
+    ensures whole { MatchResult result
+        (λ b. (b ≡ keys) × (¬ HasEqualItems ◌==◌ (values_of keys)))
+        (λ error. MatchError error ⊥ (HasEqualItems ◌==◌ (values_of keys))) }
     ensures empty { keys ≡ [] → IsOk result }
 {
     BiMap::try_from_map(keys)
