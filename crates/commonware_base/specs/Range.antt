@@ -36,6 +36,10 @@ exactly n = record { lower = Some n; upper = Included n }
 abbrev pub numbers_of : {T : Type 0} → (T → ℕ) → Bounds T → Bounds ℕ
 numbers_of number range = record { lower = option_map number range.lower; upper = bound_map number range.upper }
 
+-- a bound that is not 0, as a number
+abbrev pub bound_as_number : Bound NonZeroUsize → Bound ℕ
+bound_as_number = bound_map non_zero_usize_get
+
 -- bounds that are not 0, as numbers
 abbrev pub as_numbers : Bounds NonZeroUsize → Bounds ℕ
 as_numbers = numbers_of non_zero_usize_get

@@ -1,5 +1,9 @@
 pub mod Codec
+pub mod CodecError
 pub mod Faults
+pub mod MapError
 pub mod Ordered
+pub mod OrderedError
 pub mod Roots
 pub mod Vec
+pub mod VecError

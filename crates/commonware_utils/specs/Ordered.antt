@@ -1,13 +1,29 @@
--- The words of `ordered`: strict order, places, what the builders answer, loans and value maps.
-pub use Rattle.commonware_bimap.specs.BiMaps.{BiMapFault, IsWritableBiMap}
+-- The words of `ordered`: strict order, places, what the builders answer, faults and their cuts, loans and value maps.
+pub use Rattle.commonware_bimap.specs.BiMaps.{BeginsRepeated, IsWritableBiMap, repeated_fault}
+pub use Rattle.commonware_bimap.specs.BiMaps.{BiMapFault, bad_map, bad_values}
+pub use Rattle.commonware_bimap.specs.BiMaps.{BiMapCut, at_map, at_values, bimap_cut}
 pub use Rattle.commonware_bimap.specs.Swapped.{swapped}
-pub use Rattle.commonware_bimap.specs.WholeBiMaps.{IsBiMapOfAll, IsRefusedBiMap, IsWholeBiMap, IsWholeBiMapOfClones}
-pub use Rattle.commonware_ordered.specs.Dedup.{EqualsSameItems, IsDedup}
+pub use Rattle.commonware_bimap.specs.WholeBiMaps.{HasEqualKeys, HasEqualValues, IsBiMapOfAll}
+pub use Rattle.commonware_bimap.specs.WholeBiMaps.{IsBiMapOfClones, IsRefusedBiMap, IsWholeBiMap}
+pub use Rattle.commonware_bimap.specs.WholeBiMaps.{IsWholeBiMapOfClones}
+pub use Rattle.commonware_ordered.specs.Dedup.{EqualsSameItems, HaveSameItems, IsDedup, IsKept}
 pub use Rattle.commonware_map.specs.Lends.{LendsValueAt, LendsValueOf, LendsValues, LendsValuesTo}
-pub use Rattle.commonware_map.specs.Maps.{IsAllowedMap, IsWritableMap, MapFault, map_enc}
-pub use Rattle.commonware_map.specs.Pairs.{are_equal_pairs, both_equal, pair_text}
+pub use Rattle.commonware_map.specs.Lends.{map_row, set_value_at, set_values}
+pub use Rattle.commonware_map.specs.Maps.{AreAllowedValues, IsAllowedMap, IsWritableMap, MapFault}
+pub use Rattle.commonware_map.specs.Maps.{columns, map_enc}
+pub use Rattle.commonware_map.specs.Pairs.{are_equal_pairs, both_equal, is_equal_pair, pair_text}
+pub use Rattle.commonware_map.specs.Pairs.{pairs_respect_eq}
 pub use Rattle.commonware_pairs.specs.PairsMut.{CanStep, LendsInOrder, LendsInReverse}
-pub use Rattle.commonware_ordered.specs.Sets.{IsWritableSet, SetFault}
+pub use Rattle.commonware_pairs.specs.PairsMut.{pairs_mut_left, pairs_mut_name, pairs_mut_steps}
+pub use Rattle.commonware_pairs.specs.PairsMut.{pairs_mut_steps_back}
+pub use Rattle.commonware_map.specs.SetValues.{keys_of-set_values, values_of-set_values}
+pub use Rattle.commonware_ordered.specs.Sets.{BeginsUnsorted, IsWritableSet, unsorted_fault}
+pub use Rattle.commonware_ordered.specs.Sets.{SetFault, bad_list, bad_order}
+pub use Rattle.commonware_ordered.specs.Sets.{SetCut, at_list, at_order, set_cut}
 pub use Rattle.commonware_ordered.specs.Strict.{IsPlaceOf, IsStrict}
-pub use Rattle.commonware_map.specs.ValueMaps.{CalledAtPair, CalledAtRefs, IfClosure, IsFirstError, TakesPair, TakesRefs}
-pub use Rattle.commonware_ordered.specs.Whole.{HasEqualItems, IsRefusedFor, IsSetOfAll, IsSetOfClones, IsWholeSet, IsWholeSetOfClones}
+pub use Rattle.commonware_map.specs.ValueMaps.{CalledAtPair, CalledAtRefs, IfClosure, IsFirstError}
+pub use Rattle.commonware_map.specs.ValueMaps.{TakesPair, TakesRefs}
+pub use Rattle.commonware_ordered.specs.Whole.{HasEqualItems, IsRefusedFor, IsSetOfAll}
+pub use Rattle.commonware_ordered.specs.Whole.{IsSetOfClones, IsWholeSet, IsWholeSetOfClones}
+pub use Rattle.commonware_ordered.specs.Whole.{MatchError}
+pub use Rattle.commonware_pairs.specs.declared.pairs_mut.PairsMut.{PairsMut}

@@ -1,4 +1,6 @@
--- The words of the root: signed texts, what is drawn from an iterator, and what closures are asked and answer.
-pub use Rattle.commonware_base.specs.Calls.{CallableAlong, CallsGiveAll, answers_are}
+-- The words of the root: signed texts, clones that are equal, what is drawn from an iterator, and what closures are
+-- asked and answer.
+pub use Rattle.commonware_base.specs.Calls.{CallableAlong, CallsGive, CallsGiveAll, answers_are}
+pub use Rattle.commonware_base.specs.Clones.{equal_from_all_zip, equal_from_same}
 pub use Rattle.commonware_base.specs.Taken.{DrawsSome, TakesAll, TakesSome}
 pub use Rattle.commonware_base.specs.Unions.{union_text}

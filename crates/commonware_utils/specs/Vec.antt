@@ -1,7 +1,11 @@
--- The words of `vec`: lists with an item, rings, loans and closures.
-pub use Rattle.commonware_vec.specs.Closures.{CalledWith, CalledWithNothing, TakesNothing, TakesWith}
+-- The words of `vec`: lists with an item, their faults and cuts, rings, loans and closures.
+pub use Rattle.commonware_vec.specs.Closures.{CalledWith, CalledWithNothing, TakesNothing}
+pub use Rattle.commonware_vec.specs.Closures.{TakesWith}
 pub use Rattle.commonware_vec.specs.Lends.{LendsItemAt, LendsItems, LendsItemsTo}
 pub use Rattle.commonware_vec.specs.Mutate.{LeavesSome, ReturnsAtItems, TakesItems}
-pub use Rattle.commonware_vec.specs.NonEmpty.{IsWritableNonEmpty, NonEmptyFault}
-pub use Rattle.commonware_vec.specs.Refusals.{IsAll, IsRefusedForDrawn, IsWholeOfClones}
+pub use Rattle.commonware_vec.specs.NonEmpty.{BeginsEmpty, IsWritableNonEmpty, empty_fault}
+pub use Rattle.commonware_vec.specs.NonEmpty.{NonEmptyFault, bad_list, no_items}
+pub use Rattle.commonware_vec.specs.NonEmpty.{NonEmptyCut, at_end, at_list, non_empty_cut}
+pub use Rattle.commonware_vec.specs.Refusals.{IsAll, IsRefusedFor, IsRefusedForDrawn}
+pub use Rattle.commonware_vec.specs.Refusals.{IsWholeOfClones}
 pub use Rattle.commonware_vec.specs.Rings.{Ring, capacities_alike}

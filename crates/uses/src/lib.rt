@@ -5,6 +5,7 @@ mod committees;
 #[cfg(test)]
 mod macros;
 mod messages;
+mod peers;
 mod queues;
 mod ranges;
 mod registries;
@@ -12,7 +13,8 @@ mod roots;
 
 pub use committees::{is_member, signatures_needed};
 pub use messages::{read_members, write_members};
+pub use peers::{Peer, read_peers};
 pub use queues::{doubled, keep_the_first, latest, remember};
 pub use ranges::{only, only_one_above_zero};
-pub use registries::{owner, powers, registry};
-pub use roots::{room, signed_text};
+pub use registries::{owner, powers, registry, registry_of};
+pub use roots::{first, is_before, room, signed_text};

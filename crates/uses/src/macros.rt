@@ -2,6 +2,7 @@
 use commonware_utils::vec::NonEmptyVec;
 use commonware_utils::{NZU8, NZU16, NZU32, NZU64, NZUsize, non_empty_vec};
 use std::alloc::Global;
+use std::num::NonZeroUsize;
 use std::test::Fail;
 
 #[test]
@@ -36,5 +37,31 @@ fn lists_of_one_item_many_times(rt: HostRuntime) -> Result<(), Fail> {
     assert!(rt;
         counted.as_slice() == [4, 4, 4].as_slice() && counted == by_macro && by_macro == by_number
     );
+    Ok(())
+}
+
+/// Whether the list has these items.
+fn has(list: &NonEmptyVec<u8, Global>, items: &[u8]) -> bool {
+    list.as_slice() == items
+}
+
+#[test]
+fn lists_of_other_counts(rt: HostRuntime) -> Result<(), Fail> {
+    let alloc = rt.alloc();
+    assert!(rt;
+        has(&non_empty_vec!(alloc => 7)?, &[7])
+            && has(&non_empty_vec!(alloc => 7, 8)?, &[7, 8])
+            && has(&non_empty_vec!(alloc => 7, 8, 9, 7, 8)?, &[7, 8, 9, 7, 8])
+    );
+    for items in [[7u8].as_slice(), &[7, 7], &[7; 5]] {
+        let whole = Vec::from_slice(alloc, items)?;
+        let count = NonZeroUsize::new(items.len()).ok_or("no items")?;
+        assert!(rt;
+            has(&non_empty_vec!(@whole), items)
+                && has(&non_empty_vec!(alloc => 7; count.get())?, items)
+                && has(&non_empty_vec!(alloc => 7; NZUsize!(items.len()))?, items)
+                && has(&non_empty_vec!(alloc => 7; @count)?, items)
+        );
+    }
     Ok(())
 }

@@ -1,6 +1,7 @@
 //! Module `ordered`: the powers of the members, and whose each key is.
-ghost use Rattle.std.specs.Prelude.{◌≡◌, ◌==◌, ◌↔◌, ℕ, IsSomeAnd, true};
-ghost use Rattle.std.specs.Map.{lookup};
+ghost use Rattle.std.specs.Prelude.{◌≡◌, ◌==◌, ◌↔◌, ℕ, [], IsOk, IsSomeAnd, MatchResult, true};
+ghost use Rattle.std.specs.Map.{lookup, values_of};
+ghost use Rattle.commonware_utils.specs.Ordered.{HasEqualItems, MatchError};
 ghost use Rattle.commonware_utils.specs.Ordered.{IsWholeBiMap, IsWholeSetOfClones};
 
 use commonware_utils::ordered::{BiMap, Error, Map};
@@ -18,6 +19,16 @@ pub fn registry(members: Vec<(u32, u64)>) -> Result<BiMap<u32, u64, Global>, Err
     ensures { IsWholeBiMap (λ k l. k == l) ⟦<u32 as Ord>⟧.cmp (λ v w. v == w) members.items result }
 {
     BiMap::try_from_vec(members)
+}
+
+/// The keys of the members, or `DuplicateValue` where two of them share one.
+pub fn registry_of(keys: Map<u32, u64, Global>) -> Result<BiMap<u32, u64, Global>, Error>
+    ensures whole { MatchResult result
+        (λ b. (b ≡ keys) × (¬ HasEqualItems ◌==◌ (values_of keys)))
+        (λ error. MatchError error ⊥ (HasEqualItems ◌==◌ (values_of keys))) }
+    ensures empty { keys ≡ [] → IsOk result }
+{
+    BiMap::try_from_map(keys)
 }
 
 /// The member that a key belongs to, or `None` where it belongs to none.

@@ -1,9 +1,9 @@
-//! The root: texts that are signed, and wider numbers.
-ghost use Rattle.std.specs.Prelude.{◌≡◌, ◌<◌, ◌≤◌, ◌^◌, ◌↔◌, IfOk, IfSome, IsSome, length};
+//! The root: texts that are signed, wider numbers, and participants in their order.
+ghost use Rattle.std.specs.Prelude.{◌≡◌, ◌<◌, ◌≤◌, ◌^◌, ◌↔◌, IfOk, IfSome, IsSome, IsTrue, length};
 ghost use Rattle.std.specs.Int.NonZero.{non_zero_u32_get};
 ghost use Rattle.commonware_utils.specs.Roots.{union_text};
 
-use commonware_utils::{MAX_ALLOCATION_BYTES, Widen, max, union_unique};
+use commonware_utils::{MAX_ALLOCATION_BYTES, Participant, Widen, max, union_unique};
 use std::alloc::{AllocError, Global};
 use std::num::NonZeroU32;
 
@@ -30,4 +30,18 @@ pub fn room(participants: NonZeroU32, wanted: usize) -> usize
 {
     let least: u64 = participants.widen();
     max(least as usize, wanted).min(MAX_ALLOCATION_BYTES)
+}
+
+/// The first participant.
+pub fn first() -> Participant
+    ensures { result ≡ 0 }
+{
+    Participant::default()
+}
+
+/// Whether a participant comes before another.
+pub fn is_before(participant: Participant, other: Participant) -> bool
+    ensures { IsTrue result ↔ (participant < other) }
+{
+    participant < other
 }

@@ -3,8 +3,7 @@ ghost use Rattle.std.specs.Prelude.{◌≡◌, ℕ, ◌↔◌, IsTrue, Some, Non
 ghost use Rattle.std.specs.declared.ops.Bound.TheVariants.{Included, Excluded, Unbounded};
 ghost use Rattle.std.specs.Int.NonZero.{non_zero_usize_get};
 ghost use Rattle.std.specs.Range.{range_inclusive_start, range_inclusive_end};
-ghost use Rattle.std.specs.Range.Bound.{bound_map};
-ghost use Rattle.commonware_base.specs.Range.{Within, as_numbers, exactly, numbers_of};
+ghost use Rattle.commonware_base.specs.Range.{Within, as_numbers, bound_as_number, exactly, numbers_of};
 
 use std::marker::Model;
 use std::num::NonZeroUsize;
@@ -150,7 +149,7 @@ impl From<RangeCfg<NonZeroUsize>> for RangeCfg<usize> {
 
 /// The bound as a number.
 fn number_bound(bound: Bound<NonZeroUsize>) -> Bound<usize>
-    ensures { result ≡ bound_map non_zero_usize_get bound }
+    ensures { result ≡ bound_as_number bound }
 {
     match bound {
         Bound::Included(n) => Bound::Included(n.get()),

@@ -2,8 +2,8 @@
 ghost use Rattle.std.specs.Prelude.{◌≡◌, true, IfOk};
 
 use crate::codec::UInt;
-use crate::ordered::{BiMap, Set};
-use crate::{EqClone, Participant, TryFromIterator};
+use crate::ordered::{BiMap, Map, Set};
+use crate::{EqClone, Participant, TryFromIterator, non_empty_vec};
 use std::alloc::{AllocError, Allocator};
 use std::test::Fail;
 
@@ -49,5 +49,32 @@ fn collections_equal_their_clones(rt: HostRuntime) -> Result<(), Fail> {
     assert!(rt; clones_equal(&nest)?);
     let pairs = BiMap::try_from_iter(alloc, [(2u8, 'b'), (1, 'a')])?;
     assert!(rt; clones_equal(&pairs)?);
+    Ok(())
+}
+
+#[test]
+fn lists_that_are_never_empty_are_cloned_as_items(rt: HostRuntime) -> Result<(), Fail> {
+    let alloc = rt.alloc();
+    let lists = [
+        non_empty_vec!(alloc => 2u8, 1)?,
+        non_empty_vec!(alloc => 2)?,
+    ];
+    let [long, short] = &lists;
+    assert!(rt; clones_equal(long)?);
+    let set = Set::try_from_slice(alloc, &lists)?;
+    assert!(rt; set.len() == 2 && set.get(0) == Some(short) && set.get(1) == Some(long));
+    assert!(rt; clones_equal(&set)?);
+    Ok(())
+}
+
+#[test]
+fn maps_are_cloned_as_values(rt: HostRuntime) -> Result<(), Fail> {
+    let alloc = rt.alloc();
+    let map = Map::try_from_iter(alloc, [(2u8, 'b'), (1, 'a')])?;
+    assert!(rt; clones_equal(&map)?);
+    let pairs = [(7u8, map)];
+    let bimap = BiMap::try_from_slice(alloc, &pairs)?;
+    let [(_, map)] = &pairs;
+    assert!(rt; bimap.len() == 1 && bimap.get_value(&7) == Some(map) && clones_equal(&bimap)?);
     Ok(())
 }

@@ -55,8 +55,11 @@ fn quorums_of<N: Count + Copy>(n: N) -> Option<(u32, u32, u32)> {
 
 #[test]
 fn test_bft3f1_quorum_and_max_faults(rt: HostRuntime) {
-    for (n, thirds, _) in NUMBERS {
-        assert!(rt; numbers_of::<N3f1, u32>(n) == Some(thirds));
+    for (n, (faults, quorum), _) in NUMBERS {
+        assert!(rt;
+            numbers_of::<N3f1, u32>(n) == Some((faults, quorum))
+                && u64::from(n) == u64::from(faults) + u64::from(quorum)
+        );
     }
 }
 
@@ -66,6 +69,8 @@ fn test_bft5f1_quorums(rt: HostRuntime) {
         assert!(rt;
             numbers_of::<N5f1, u32>(n) == Some((faults, larger))
                 && quorums_of(n) == Some((faults, larger, smaller))
+                && u64::from(n) == u64::from(faults) + u64::from(larger)
+                && u64::from(smaller) == 2 * u64::from(faults) + 1
         );
     }
 }

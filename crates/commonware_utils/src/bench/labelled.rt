@@ -2,10 +2,9 @@
 ghost use Rattle.std.specs.Prelude.{◌≡◌, ◌==◌, ℕ, refl};
 ghost use Rattle.std.proofs.Common.{ap};
 ghost use Rattle.std.proofs.lemmas.Cmp.{nat_eq_equiv};
-ghost use Rattle.commonware_base.specs.Bytes.{byte, byte_canonical, byte_fault, byte_laws, byte_length, byte_prefix_free};
-ghost use Rattle.commonware_base.specs.Clones.{equal_from_same};
-ghost use Rattle.commonware_base.specs.Text.{IsByte};
-ghost use Rattle.commonware_base.specs.TextLaws.{canonical_on, laws_on, prefix_free_on};
+ghost use Rattle.commonware_utils.specs.Codec.{IsByte, byte, byte_canonical, byte_fault, byte_laws, byte_length, byte_prefix_free};
+ghost use Rattle.commonware_utils.specs.Codec.{canonical_on, laws_on, prefix_free_on};
+ghost use Rattle.commonware_utils.specs.Roots.{equal_from_same};
 
 use super::{is_written_as, read};
 use crate::codec::{

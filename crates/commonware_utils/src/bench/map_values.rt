@@ -90,7 +90,7 @@ fn test_map_values_borrowed(rt: HostRuntime) -> Result<(), Fail> {
     assert!(rt; mapped.keys() == map.keys() && mapped.values() == expected.as_slice());
     let tried: Result<_, MapError<()>> = map.try_map_values(|key, value| Ok((key, &value.0)));
     assert!(rt;
-        tried.is_ok_and(|tried| tried.values() == expected.as_slice())
+        tried.is_ok_and(|tried| tried.keys() == map.keys() && tried.values() == expected.as_slice())
             && map.get_value(&2).is_some_and(|value| value.0 == 20)
     );
     Ok(())
@@ -103,22 +103,31 @@ fn owned(alloc: Global) -> Result<Map<Key, Value, Global>, Fail> {
     Ok(Map::from_parts(keys, values).ok_or("uneven")?)
 }
 
+/// Whether the keys are 1, 2 and 3, and the values 11, 22 and 33.
+fn are_sums(map: &Map<Key, u8, Global>) -> bool {
+    map.keys().as_slice() == [Key(1), Key(2), Key(3)].as_slice()
+        && map.values() == [11, 22, 33].as_slice()
+}
+
 #[test]
 fn test_map_values_into_reuses_keys(rt: HostRuntime) -> Result<(), Fail> {
-    let mut visited = 0u32;
-    let mapped = owned(rt.alloc())?.map_values_into(|key, value| {
-        visited = visited.wrapping_mul(10).wrapping_add(u32::from(key.0));
-        key.0.wrapping_add(value.0)
-    })?;
-    assert!(rt;
-        visited == 123
-            && mapped.keys().as_slice() == [Key(1), Key(2), Key(3)].as_slice()
-            && mapped.values() == [11, 22, 33].as_slice()
-    );
-    let tried: Result<_, MapError<()>> = owned(rt.alloc())?.try_map_values_into(|key, value| Ok(
-        key.0.wrapping_add(value.0),
-    ));
-    assert!(rt; tried.is_ok_and(|tried| tried.values() == [11, 22, 33].as_slice()));
+    for fallible in [false, true] {
+        let map = owned(rt.alloc())?;
+        let mut visited = 0u32;
+        let mut transform = |key: &Key, value: Value| {
+            visited = visited.wrapping_mul(10).wrapping_add(u32::from(key.0));
+            key.0.wrapping_add(value.0)
+        };
+        let mapped = if fallible {
+            let tried: Result<_, MapError<()>> = map.try_map_values_into(|key, value| Ok(transform(
+                key, value,
+            )));
+            tried.ok()
+        } else {
+            map.map_values_into(transform).ok()
+        };
+        assert!(rt; visited == 123 && mapped.is_some_and(|mapped| are_sums(&mapped)));
+    }
     Ok(())
 }
 

@@ -309,8 +309,10 @@ fn test_iterators(rt: HostRuntime) -> Result<(), Fail> {
         sum = sum.wrapping_add(*item);
     }
     assert!(rt; sum == 6);
-    let lent: Vec<u8> = (&v).into_iter().rev().copied().collect(rt.alloc())?;
-    assert!(rt; lent.as_slice() == [3, 2, 1].as_slice());
+    let lent: Vec<u8> = (&v).into_iter().copied().collect(rt.alloc())?;
+    assert!(rt; lent.as_slice() == [1, 2, 3].as_slice());
+    let back: Vec<u8> = (&v).into_iter().rev().copied().collect(rt.alloc())?;
+    assert!(rt; back.as_slice() == [3, 2, 1].as_slice());
     for item in v.as_mut_slice() {
         *item = item.wrapping_mul(2);
     }
