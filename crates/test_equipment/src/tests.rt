@@ -1,6 +1,10 @@
 //! The program over scripted devices, and every call that takes memory with each of its requests refused.
 
 mod bounds;
+mod committee_sizes;
+mod counting;
+mod every_bound;
+mod long_inputs;
 mod memory_free_texts;
 mod refused_bimaps;
 mod refused_codec;
@@ -11,8 +15,10 @@ mod refused_sets;
 mod refused_unions;
 mod refused_value_maps;
 mod runs;
+mod session_trial;
 mod sessions;
 mod starts;
+mod stated_lengths;
 mod walk;
 mod watched;
 

@@ -20,3 +20,18 @@ fn later_requests_are_granted_again(rt: HostRuntime) {
     heap.restart(0);
     assert!(rt; !heap.has_refused());
 }
+
+#[test]
+fn large_requests_are_refused_each_time(rt: HostRuntime) {
+    let heap = Refusing::above(rt.alloc(), 64);
+    for (items, granted) in [(64, true), (65, false), (1, true), (65, false), (64, true)] {
+        heap.restart(u64::MAX);
+        let bytes: Result<Vec<u8, &Refusing<Global>>, _> = Vec::with_capacity(&heap, items);
+        assert!(rt;
+            bytes.is_ok() == granted && heap.has_refused() != granted,
+            "{items}"
+        );
+    }
+    let mut words: Vec<u32, &Refusing<Global>> = Vec::new(&heap);
+    assert!(rt; words.reserve(16).is_ok() && words.reserve(17).is_err());
+}

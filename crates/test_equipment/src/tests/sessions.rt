@@ -1,91 +1,14 @@
 //! What a session writes, says and answers.
 use super::bounds::{MOST, ONE, SIX, TEN};
+use super::session_trial::{READ, Session, four_session, is_right, read_session, words_of};
 use super::walk::{Heap, Outcome, Refusable, asks_for, full, refused};
 use super::{FOUR, FOUR_REPORT, Input, Output, TAKEN, WHOLE};
 use crate::{Refusing, WriteFault};
 use committee_core::{Command, Watched, parse_args, session};
-use std::alloc::{AllocError, Global};
+use std::alloc::Global;
 use std::io::ErrorKind;
 use std::num::NonZeroU32;
 use std::test::Fail;
-
-/// A session, and what it has to come to.
-#[derive(Clone, Copy)]
-struct Session<'a> {
-    words: &'static [&'static str],
-    input: Input<'a>,
-    output: Output,
-    errors: Output,
-    /// How many requests for memory are granted before one is refused.
-    granted: u64,
-    status: u8,
-    /// What is written, where that is one text.
-    written: Option<&'a str>,
-    /// What is said on standard error.
-    said: &'static str,
-}
-
-/// The words that ask for the report on a committee.
-const READ: &[&str] = &["read"];
-
-/// A session that reads bytes and writes a report.
-fn read_session<'a>(bytes: &'a [u8], report: &'a str) -> Session<'a> {
-    let input = Input::of(bytes);
-    Session {
-        words: READ,
-        input,
-        output: TAKEN,
-        errors: TAKEN,
-        granted: u64::MAX,
-        status: 0,
-        written: Some(report),
-        said: "",
-    }
-}
-
-/// The session that reports on the committee of four.
-fn four_session() -> Session<'static> {
-    read_session(FOUR, FOUR_REPORT)
-}
-
-/// The words, as the program gets them.
-pub fn words_of<'a>(
-    heap: Heap<'a>,
-    words: &[&str],
-) -> Result<Vec<String<Heap<'a>>, Heap<'a>>, AllocError> {
-    let mut strings = Vec::new(heap);
-    for word in words {
-        strings.push(String::from_str(heap, word)?)?;
-    }
-    Ok(strings)
-}
-
-/// Whether the session comes to what it has to. Nothing is read but for the word `read`, the writer isn't called where
-/// nothing is to be written, and standard error isn't called again where it failed.
-fn is_right(alloc: Global, wanted: &Session<'_>) -> Result<bool, AllocError> {
-    let heap = Refusing::after(alloc, u64::MAX);
-    let words = words_of(&heap, wanted.words)?;
-    let mut input = wanted.input.reader();
-    let mut output = Watched::new(wanted.output.writer(alloc));
-    let mut errors = wanted.errors.writer(alloc);
-    heap.restart(wanted.granted);
-    let status = session(&heap, &words, &mut input, &mut output, &mut errors);
-    let device = output.inner();
-    let taken = device.taken.as_slice();
-    let reads = wanted.words == READ || input.inner().calls == 0;
-    let told = output.failed() == wanted.written.is_none();
-    let silent = wanted.written != Some("") || (device.calls, device.flushes) == (0, 0);
-    let tried = wanted.errors.fault.is_none() || errors.calls == (status > 0) as u32;
-    Ok(
-        status == wanted.status
-            && reads
-            && told
-            && silent
-            && tried
-            && !matches!(wanted.written, Some(text) if text.as_bytes() != taken)
-            && errors.taken.as_slice() == wanted.said.as_bytes(),
-    )
-}
 
 /// Words that ask for bounds, and the report on them.
 const BOUNDS: [(&[&str], &str); 5] = [

@@ -1,6 +1,6 @@
 //! The program from its arguments: the words that are asked for are those after its name.
 use super::bounds::SIX;
-use super::sessions::words_of;
+use super::session_trial::words_of;
 use super::walk::{Heap, Outcome, Refusable, asks_for, full, refused};
 use super::{FOUR, FOUR_REPORT, Input, TAKEN};
 use crate::Refusing;

@@ -1,4 +1,4 @@
--- `allocate` counts the request: it refuses the one that is to be refused, and hands any other to the inner allocator.
+-- `allocate` counts the request: it refuses one that is to be refused, and hands any other to the inner allocator.
 use Rattle.std.proofs.Common.{◌≡◌, ℕ, ◌^◌, ◌<◌, Bool, true, false, List, [], ◌∷◌, refl, w64, Bor}
 use seplogic.Ra.Ura.{Ura}
 use mir.Syntax.{Ty, Fn}
@@ -36,7 +36,7 @@ use Rattle.std.specs.Allocator.{block_if_ok}
 use Rattle.std.proofs.alloc.Calls.{Al, token, seen, got, Answer, answer_val, Answer-typed, takes_key, Takes, at_takes, Takes-goes, Takes-gives}
 use Rattle.std.proofs.alloc.Resizes.{result_of, result_own}
 use Rattle.std.proofs.alloc.Shapes.{after}
-use Rattle.test_equipment.proofs.Handle.{Count, Refuser, args, self, inner_at, until_at, parts, Counts, counting, counts_from, counts_to}
+use Rattle.test_equipment.proofs.Handle.{Rule, Refuser, args, self, inner_at, rule_at, parts, Counts, counting, counts_from, counts_to}
 use Rattle.test_equipment.proofs.refusing.refuses.Symbol as refuses_key
 use Rattle.test_equipment.proofs.refusing.refuses.Met as refuses_met
 use Rattle.test_equipment.specs.contracts.refusing.RefusingAllocator.allocate as F
@@ -104,21 +104,21 @@ module _ (Z : Al) {M : Type 1} {𝓤 : Ura M} (𝓛 : Logic 𝓤) (at_mem : Memo
     walk fits_n fits_a =
         let h : (Refuser Z).Denot = r.now in
         let inner : ℕ × ℕ = inner_at Z r.ref_ptr in
-        let until : ℕ × ℕ = until_at Z r.ref_ptr in
+        let rule : ℕ × ℕ = rule_at Z r.ref_ptr in
         let asked : Asks.Ghost = at_takes Z 𝓛 at_mem run κ q inner h.inner n a τ in
-        let counted : Counted.Ghost = counting 𝓛 at_mem run κ q until h.until in
+        let counted : Counted.Ghost = counting 𝓛 at_mem run κ q rule h.refusals n in
         qed 𝓛 (((‵ (flft κ q) ⊛ ‵ (flft ρ s) ⊛ ‵ ftrue) ⊛ ‵ (owns (types_at (ended Z).signature.params bound.0.0) bound.0.3 bound.0.4))
         ∷ (raw (fact 𝓤 (ρ ⊑ Z.row.lives)) ⊛ raw (fact 𝓤 Said)) ∷ []) ∵
         move ! (1 ∷ []) $ split ! $ heard ! (ρ ⊑ Z.row.lives) (λ lives. heard ! Said (λ said.
         split ! $ split ! $ move ! (2 ∷ []) $ fsplit ! $ fsplit ! $ keep ! (1 ∷ 3 ∷ 4 ∷ []) $
-        use1 𝓛 (‵ (seen Z κ inner h.inner) ⊛ ‵ (hidden_shr Count κ h.until until.0 until.1)) (parts Z 𝓛 κ r.ref_ptr h) $ split ! $
+        use1 𝓛 (‵ (seen Z κ inner h.inner) ⊛ ‵ (hidden_shr Rule κ h.refusals rule.0 rule.1)) (parts Z 𝓛 κ r.ref_ptr h) $ split ! $
         enter ! 𝓣.C 𝓣.Λ (here Z) vs _ $ alloc_all ! (λ l. pass_all ! refl ((tt, tt), ((tt, record { fits = fits_n }), ((tt, record { fits = fits_a }), tt))) $
         let En : Env 𝓤 H = env (here Z).locals l in
-        -- [the `&` to the inner allocator; the `&` to the count; κ's token; ρ's]
+        -- [the `&` to the inner allocator; the `&` to what is refused; κ's token; ρ's]
         sets ! (addr ! (through ! refl (fld ! refl (stop !)))) refl (tt, tt) $
-        move ! (1 ∷ 2 ∷ []) $ use2 𝓛 (raw (Counted.pre counted)) (counts_from 𝓛 at_mem run κ q until h.until) $
-        calls_at ! (fm_of 𝓤 H 𝓛.laws 𝓣) Counted count_meets counted (and_then ! (get ! refl) (no_more !)) (λ u.
-        use1 𝓛 (later (some (λ (y : Bool). given (u ≡ vbool y) (‵ (flft κ q))))) (counts_to 𝓛 at_mem run κ q until h.until u) $ await ! tt $
+        move ! (1 ∷ 2 ∷ []) $ use2 𝓛 (raw (Counted.pre counted)) (counts_from 𝓛 at_mem run κ q rule h.refusals n fits_n) $
+        calls_at ! (fm_of 𝓤 H 𝓛.laws 𝓣) Counted count_meets counted (and_then ! (get ! refl) (and_then ! (get ! refl) (no_more !))) (λ u.
+        use1 𝓛 (later (some (λ (y : Bool). given (u ≡ vbool y) (‵ (flft κ q))))) (counts_to 𝓛 at_mem run κ q rule h.refusals n u) $ await ! tt $
         pick ! (λ y. learn ! (λ is_y. lands_as ! is_y refl (tt, tt) $
         -- [κ's token; the `&` to the inner allocator; ρ's token]
         first ! $ branches ! (get ! refl)

@@ -33,7 +33,7 @@ use denote.Triple.Statement.{Contract, Triple}
 use denote.Triple.Table.{entered}
 use denote.Triple.Walked.{Stays, stay_dropped, walk_of, ends_at, walked, Goes-dropped, walk_Meets}
 use Rattle.std.proofs.alloc.Calls.{Al, token, seen, gives_key, Gives, at_gives, Gives-goes, Gives-Gives}
-use Rattle.test_equipment.proofs.Handle.{Count, Refuser, args, self, inner_at, until_at, parts}
+use Rattle.test_equipment.proofs.Handle.{Rule, Refuser, args, self, inner_at, rule_at, parts}
 use Rattle.test_equipment.specs.contracts.refusing.RefusingAllocator.deallocate as F
 use Rattle.test_equipment.specs.contracts.refusing.RefusingAllocator.deallocate.Key as key
 use Rattle.test_equipment.proofs.refusing.RefusingAllocator.deallocate.Statement as stated
@@ -95,15 +95,15 @@ module _ (Z : Al) {M : Type 1} {𝓤 : Ura M} (𝓛 : Logic 𝓤) (at_mem : Memo
         let x : Ptr = block_ptr b o in
         let h : (Refuser Z).Denot = r.now in
         let inner : ℕ × ℕ = inner_at Z r.ref_ptr in
-        let until : ℕ × ℕ = until_at Z r.ref_ptr in
+        let rule : ℕ × ℕ = rule_at Z r.ref_ptr in
         let freed : Frees.Ghost = at_gives Z 𝓛 at_mem run κ q inner h.inner b o n a τ in
         qed 𝓛 (entry x ∷ (raw (fact 𝓤 (ρ ⊑ Z.row.lives)) ⊛ raw (fact 𝓤 Said) ⊛ ‵ (fsep (froom τ b o) (token Z h.inner τ x))) ∷ []) ∵
         move ! (1 ∷ []) $ split3 ! $ heard ! (ρ ⊑ Z.row.lives) (λ lives. heard ! Said (λ said. fsplit ! $
         move ! (2 ∷ []) $ split ! $ split ! $ move ! (2 ∷ []) $ fsplit ! $ fsplit ! $ keep ! (1 ∷ 3 ∷ 4 ∷ 5 ∷ 6 ∷ []) $
-        use1 𝓛 (‵ (seen Z κ inner h.inner) ⊛ ‵ (hidden_shr Count κ h.until until.0 until.1)) (parts Z 𝓛 κ r.ref_ptr h) $ split ! $
+        use1 𝓛 (‵ (seen Z κ inner h.inner) ⊛ ‵ (hidden_shr Rule κ h.refusals rule.0 rule.1)) (parts Z 𝓛 κ r.ref_ptr h) $ split ! $
         enter ! 𝓣.C 𝓣.Λ (here Z) (vs x) _ $
         alloc_all ! (λ l. pass_all ! refl ((tt, tt), ((tt, tt), ((tt, record { fits = fits_n }), ((tt, record { fits = fits_a }), tt)))) $
-        -- [the `&` to the inner allocator; the `&` to the count; κ's token; ρ's; the block's room; its token]
+        -- [the `&` to the inner allocator; the `&` to what is refused; κ's token; ρ's; the block's room; its token]
         sets ! (addr ! (through ! refl (fld ! refl (stop !)))) refl (tt, tt) $
         move ! (0 ∷ 2 ∷ []) $ join ! $ move ! (4 ∷ 0 ∷ []) $ join ! $ move ! (3 ∷ 0 ∷ []) $ join ! $
         use1 𝓛 (raw (Frees.pre freed)) (Gives-goes Z 𝓛 at_mem run κ q inner h.inner (⊑_trans κ ρ Z.row.lives out lives) b o n a τ said.0 said.1 fits_n fits_a) $

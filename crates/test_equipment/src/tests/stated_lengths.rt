@@ -1,0 +1,120 @@
+//! Texts read with a heap that refuses each request for more than 512 bytes.
+//!
+//! A reader that made room for the length that a text states, before its first item or after a good one, would be refused
+//! memory for it here: it would answer `Memory`, or read on and have been refused. A reader that makes room for an item
+//! once it is read needs few bytes for few items.
+use super::walk::Heap;
+use crate::Refusing;
+use commonware_utils::codec::{Error, RangeCfg, Read, Source};
+use commonware_utils::ordered::{BiMap, Map, Set};
+use commonware_utils::vec::NonEmptyVec;
+use std::alloc::Allocator;
+use std::num::NonZeroUsize;
+use std::test::Fail;
+
+/// More than any reader of these tests needs at once.
+const MOST_BYTES: usize = 512;
+
+/// What a text is read as.
+#[derive(Clone, Copy, Debug)]
+enum Form {
+    List,
+    Set,
+    Map,
+    BiMap,
+    NonEmpty,
+    /// A list of lists.
+    Nest,
+    /// A list of lists, of which none is ever empty.
+    NonEmptyNest,
+    /// Lists by their keys.
+    Lists,
+}
+
+/// What is said of a reading: the error, if there is one, and how many bytes were read.
+fn outcome<T: Read<A> + Drop, A: Allocator>(
+    alloc: A,
+    bytes: &[u8],
+    cfg: &T::Cfg,
+) -> (Option<Error>, usize) {
+    let mut src = Source::new(bytes);
+    let read: Result<T, Error> = T::read_cfg(alloc, &mut src, cfg);
+    (read.err(), src.position())
+}
+
+impl Form {
+    /// What reading the form from the bytes comes to.
+    fn read(self, heap: Heap<'_>, bytes: &[u8]) -> (Option<Error>, usize) {
+        let any = RangeCfg::from(..);
+        let some: RangeCfg<NonZeroUsize> = RangeCfg::from(..);
+        match self {
+            Form::List => outcome::<Vec<u8, _>, _>(heap, bytes, &(any, ())),
+            Form::Set => outcome::<Set<u8, _>, _>(heap, bytes, &(any, ())),
+            Form::Map => outcome::<Map<u8, u8, _>, _>(heap, bytes, &(any, (), ())),
+            Form::BiMap => outcome::<BiMap<u8, u8, _>, _>(heap, bytes, &(any, (), ())),
+            Form::NonEmpty => outcome::<NonEmptyVec<u8, _>, _>(heap, bytes, &(some, ())),
+            Form::Nest => outcome::<Vec<Vec<u8, _>, _>, _>(heap, bytes, &(any, (any, ()))),
+            Form::NonEmptyNest => {
+                outcome::<NonEmptyVec<NonEmptyVec<u8, _>, _>, _>(heap, bytes, &(some, (some, ())))
+            }
+            Form::Lists => outcome::<Map<u8, Vec<u8, _>, _>, _>(heap, bytes, &(any, (), (any, ()))),
+        }
+    }
+}
+
+/// The bytes of the lengths 100000 and 4294967295.
+const STATED: [&[u8]; 2] = [b"\xa0\x8d\x06", b"\xff\xff\xff\xff\x0f"];
+
+/// A form, and what stands before and after the stated length: good items, and too few.
+const SHORT: [(Form, &[u8], &[u8]); 10] = [
+    (Form::List, b"", b"\x01\x02\x03\x04\x05"),
+    (Form::Set, b"", b"\x01\x02\x03\x04\x05"),
+    (Form::Map, b"", b"\x01\x02\x03\x04\x05"),
+    (Form::BiMap, b"", b"\x01\x02\x03\x04\x05"),
+    (Form::NonEmpty, b"", b"\x01\x02\x03\x04\x05"),
+    (Form::Nest, b"", b"\x01\x07\x02\x05\x06"),
+    (Form::Nest, b"\x02\x01\x07", b"\x05\x06"),
+    (Form::NonEmptyNest, b"", b"\x01\x07\x02\x05\x06"),
+    (Form::NonEmptyNest, b"\x02\x01\x07", b"\x05\x06"),
+    (Form::Lists, b"\x01\x09\x01", b"\x05\x06"),
+];
+
+#[test]
+fn nothing_is_reserved_for_a_stated_length(rt: HostRuntime) -> Result<(), Fail> {
+    for (form, before, after) in SHORT {
+        for stated in STATED {
+            let heap = Refusing::above(rt.alloc(), MOST_BYTES);
+            let mut bytes = before.to_vec(rt.alloc())?;
+            bytes.extend_from_slice(stated)?;
+            bytes.extend_from_slice(after)?;
+            let outcome = form.read(&heap, &bytes);
+            assert!(rt;
+                outcome == (Some(Error::EndOfBuffer), 0) && !heap.has_refused(),
+                "{form:?} {bytes:?}"
+            );
+        }
+    }
+    Ok(())
+}
+
+/// With as little memory at once, what is not short is accepted.
+#[test]
+fn short_lists_are_accepted(rt: HostRuntime) {
+    for (form, bytes) in [
+        (Form::List, b"\x05\x01\x02\x03\x02\x01".as_slice()),
+        (Form::Set, b"\x05\x01\x02\x03\x04\x05"),
+        (Form::Map, b"\x02\x01\x02\x02\x07\x07"),
+        (Form::BiMap, b"\x02\x01\x02\x02\x08\x07"),
+        (Form::NonEmpty, b"\x01\x00"),
+        (Form::Nest, b"\x03\x01\x07\x00\x02\x05\x06"),
+        (Form::NonEmptyNest, b"\x02\x01\x07\x02\x05\x06"),
+        (Form::Lists, b"\x01\x09\x01\x02\x05\x06"),
+    ] {
+        let heap = Refusing::above(rt.alloc(), MOST_BYTES);
+        let outcome = form.read(&heap, bytes);
+        assert!(rt;
+            outcome == (None, bytes.len()) && !heap.has_refused(),
+            "{form:?} {bytes:?}"
+        );
+    }
+}
