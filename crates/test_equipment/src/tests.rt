@@ -17,6 +17,7 @@ mod refused_value_maps;
 mod runs;
 mod session_trial;
 mod sessions;
+mod standard_error;
 mod starts;
 mod stated_lengths;
 mod walk;
