@@ -105,7 +105,7 @@ fn many_numbers_are_reported(rt: HostRuntime) -> Result<(), Fail> {
             assert!(rt; is_reported(rt.alloc(), n)?, "{n}");
         }
     }
-    for exponent in 0..=32 {
+    for exponent in 0..=32u32 {
         let power = 1u64 << exponent;
         for near in [power.saturating_sub(1), power, power.saturating_add(1)] {
             let Ok(near) = u32::try_from(near) else {
