@@ -23,17 +23,16 @@ type Row = (
 );
 
 /// Whether a program comes to what it has to.
-fn is_right(alloc: Global, row: &Row) -> Result<bool, AllocError> {
+fn is_right(heap: Heap<'_>, alloc: Global, row: &Row) -> Result<bool, AllocError> {
     let (texts, wanted, written, said) = *row;
-    let heap = Refusing::after(alloc, u64::MAX);
     let arguments = match texts {
-        Some(texts) => Ok(words_of(&heap, texts)?.into_iter()),
+        Some(texts) => Ok(words_of(heap, texts)?.into_iter()),
         None => Err(io::Error::from(ErrorKind::InvalidData)),
     };
     let mut input = Input::of(FOUR).reader();
     let mut output = Watched::new(TAKEN.writer(alloc));
     let mut errors = TAKEN.writer(alloc);
-    let status = start(&heap, arguments, &mut input, &mut output, &mut errors);
+    let status = start(heap, arguments, &mut input, &mut output, &mut errors);
     let taken = output.inner().taken.as_slice();
     Ok(
         status == wanted
@@ -55,8 +54,9 @@ fn the_words_follow_the_programs_name(rt: HostRuntime) -> Result<(), Fail> {
         (Some(&["committee", "bounds", "6", "6"]), 2, "", USAGE),
         (None, 3, "", "failed: out of memory\n"),
     ];
+    let heap = Refusing::after(rt.alloc(), u64::MAX);
     for row in &rows {
-        assert!(rt; is_right(rt.alloc(), row)?, "{row:?}");
+        assert!(rt; is_right(&heap, rt.alloc(), row)?, "{row:?}");
     }
     Ok(())
 }
