@@ -22,6 +22,7 @@ use commonware_map::Map;
 use commonware_ordered::{Error, Set};
 use commonware_pairs::Pairs;
 use std::alloc::{AllocError, Allocator};
+use std::collections::HashSet;
 use std::hash::Hash;
 use std::marker::Model;
 use std::slice;
@@ -56,13 +57,15 @@ impl<K: Ord, V: Eq + Hash, A: Allocator + Copy> BiMap<K, V, A> {
 }
 
 impl<K: Ord + Drop, V: Eq + Hash + Drop, A: Allocator + Copy> BiMap<K, V, A> {
-    /// The bimap of the pairs of a map, or `DuplicateValue` where two of its values are equal. A map without pairs is
-    /// never refused. Every two values are compared: O(n²) comparisons.
+    /// The bimap of the pairs of a map, or `DuplicateValue` where two of its values are equal. Each
+    /// value is looked up among those before it in a hash set: linear time, unless hashes collide,
+    /// and memory for a reference to each value, without which the answer is `Memory`. A map
+    /// without pairs takes none and is never refused.
     pub fn try_from_map(map: Map<K, V, A>) -> Result<Self, Error>
         ensures whole { MatchResult result (λ b. (b ≡ map) × (¬ HasEqualItems V.eq (values_of map))) (λ error. MatchError error ⊥ (HasEqualItems V.eq (values_of map))) }
         ensures empty { map ≡ [] → IsOk result }
     {
-        if has_equal_values(map.values()) {
+        if has_equal_values(*map.allocator(), map.values())? {
             Err(Error::DuplicateValue)
         } else {
             Ok(BiMap { map })
@@ -70,16 +73,23 @@ impl<K: Ord + Drop, V: Eq + Hash + Drop, A: Allocator + Copy> BiMap<K, V, A> {
     }
 }
 
-/// Whether two positions hold equal values.
-fn has_equal_values<V: Eq>(values: &[V]) -> bool
-    ensures { IsTrue result ↔ HasEqualItems V.eq values.now }
+/// Whether two positions hold equal values. It takes memory for as many references, and none for no
+/// values.
+fn has_equal_values<V: Eq + Hash, A: Allocator + Copy>(
+    alloc: A,
+    values: &[V],
+) -> Result<bool, AllocError>
+    ensures found { IfOk result (λ found. IsTrue found ↔ HasEqualItems V.eq values.now) }
+    ensures empty { values.now ≡ [] → IsOk result }
 {
-    for (index, value) in values.iter().enumerate() {
-        if values[..index].contains(value) {
-            return true;
+    let mut seen = HashSet::new(alloc);
+    seen.reserve(values.len())?;
+    for value in values {
+        if !seen.insert(value)? {
+            return Ok(true);
         }
     }
-    false
+    Ok(false)
 }
 
 impl<K: Ord, V: Eq + Hash, A: Allocator> BiMap<K, V, A> {
@@ -141,8 +151,8 @@ impl<K: Ord, V: Eq + Hash, A: Allocator> BiMap<K, V, A> {
         self.map.iter_pairs()
     }
 
-    /// The place of the key that equals the one asked, or `None` where none does. The keys are halved: O(log n)
-    /// comparisons.
+    /// The place of the key that equals the one asked, or `None` where none does. The keys are
+    /// halved: O(log n) comparisons.
     pub fn position(&self, key: &K) -> Option<usize>
         ensures place { IsPlaceOf K.eq (keys_of self.now) key.now result }
         ensures only { (p : ℕ) → (result ≡ Some p) ↔ ((x : K) × (slice_get (keys_of self.now) p ≡ Some x) × (K.eq x key.now ≡ true)) }
@@ -157,16 +167,16 @@ impl<K: Ord, V: Eq + Hash, A: Allocator> BiMap<K, V, A> {
         self.map.value(index)
     }
 
-    /// The value of the key that equals the one asked, or `None` where none does. The keys are halved: O(log n)
-    /// comparisons.
+    /// The value of the key that equals the one asked, or `None` where none does. The keys are
+    /// halved: O(log n) comparisons.
     pub fn get_value(&self, key: &K) -> Option<&V>
         ensures { option_copied result ≡ lookup (λ k. K.eq k key.now) self.now }
     {
         self.map.get_value(key)
     }
 
-    /// The key whose value equals the one asked, or `None` where none does. It equals a key exactly where that key's
-    /// value equals the one asked. The values are compared one by one.
+    /// The key whose value equals the one asked, or `None` where none does. It equals a key exactly
+    /// where that key's value equals the one asked. The values are compared one by one.
     pub fn get_key(&self, value: &V) -> Option<&K>
         ensures key { option_copied result ≡ lookup (λ v. V.eq v value.now) (swapped self.now) }
         ensures law { (k : K) → IsSomeAnd (option_copied result) (λ q. K.eq q k ≡ true) ↔ IsSomeAnd (lookup (λ q. K.eq q k) self.now) (λ v. V.eq v value.now ≡ true) }

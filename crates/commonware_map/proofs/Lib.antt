@@ -1,7 +1,7 @@
+pub mod ByKeys
 pub mod Calls
 pub mod Columns
 pub mod Lookups
 pub mod MapReads
-pub mod Split
 pub mod Walked
 pub mod Zipped

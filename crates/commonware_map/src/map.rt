@@ -70,6 +70,11 @@ impl<K: Ord, V, A: Allocator> Map<K, V, A> {
         (keys, values)
     }
 
+    /// The allocator of the map.
+    pub fn allocator(&self) -> &A {
+        self.keys.allocator()
+    }
+
     /// How many pairs there are.
     pub fn len(&self) -> usize
         ensures len { result ≡ length self.now }
@@ -116,8 +121,8 @@ impl<K: Ord, V, A: Allocator> Map<K, V, A> {
         self.keys().iter()
     }
 
-    /// The place of the key that equals the one asked, or `None` where none does. The keys are halved: O(log n)
-    /// comparisons.
+    /// The place of the key that equals the one asked, or `None` where none does. The keys are
+    /// halved: O(log n) comparisons.
     pub fn position(&self, key: &K) -> Option<usize>
         ensures place { IsPlaceOf K.eq (keys_of self.now) key.now result }
         ensures only { (p : ℕ) → (result ≡ Some p) ↔ ((x : K) × (slice_get (keys_of self.now) p ≡ Some x) × (K.eq x key.now ≡ true)) }
@@ -132,8 +137,8 @@ impl<K: Ord, V, A: Allocator> Map<K, V, A> {
         self.values().get(index)
     }
 
-    /// The value of the key that equals the one asked, or `None` where none does. The keys are halved: O(log n)
-    /// comparisons.
+    /// The value of the key that equals the one asked, or `None` where none does. The keys are
+    /// halved: O(log n) comparisons.
     pub fn get_value(&self, key: &K) -> Option<&V>
         ensures { option_copied result ≡ lookup (λ k. K.eq k key.now) self.now }
     {
@@ -143,8 +148,8 @@ impl<K: Ord, V, A: Allocator> Map<K, V, A> {
 }
 
 impl<K: Ord + Drop, V: Drop, A: Allocator> Map<K, V, A> {
-    /// The map of the keys, each with the value at its position, or `None` where there are not as many values as keys.
-    /// It takes no memory.
+    /// The map of the keys, each with the value at its position, or `None` where there are not as
+    /// many values as keys. It takes no memory.
     pub fn from_parts(keys: Set<K, A>, values: Vec<V, A>) -> Option<Self>
         ensures whole { IsSome result ↔ (length values.items ≡ length keys) }
         ensures pairs { IfSome result (λ m. m ≡ zip keys values.items) }

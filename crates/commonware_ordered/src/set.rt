@@ -11,7 +11,6 @@ mod compare;
 mod iterators;
 mod text;
 
-pub use builders::items_of;
 pub use codec::{read_set, set_fault_law};
 use std::alloc::Allocator;
 use std::marker::Model;
@@ -20,8 +19,8 @@ use std::slice;
 
 /// Items in increasing order, each once.
 ///
-/// A look-up takes O(log n) comparisons, a builder O(n log n), and every other call at most linear time. No contract
-/// says so.
+/// A look-up takes O(log n) comparisons, a builder O(n log n), or O(n) where each item is greater
+/// than the last, and every other call at most linear time. No contract says so.
 #[derive(Drop)]
 pub struct Set<T: Ord, A: Allocator> {
     items: Vec<T, A>,
@@ -46,6 +45,11 @@ impl<T: Ord, A: Allocator> Set<T, A> {
         Set {
             items: Vec::new(alloc),
         }
+    }
+
+    /// The allocator of the set.
+    pub fn allocator(&self) -> &A {
+        self.items.allocator()
     }
 
     /// How many items there are.
@@ -96,8 +100,8 @@ impl<T: Ord, A: Allocator> Set<T, A> {
         self.as_slice().iter()
     }
 
-    /// The place of the item that equals the one asked, or `None` where none does. The list is halved: O(log n)
-    /// comparisons.
+    /// The place of the item that equals the one asked, or `None` where none does. The list is
+    /// halved: O(log n) comparisons.
     pub fn position(&self, item: &T) -> Option<usize>
         ensures place { IsPlaceOf T.eq self.now item.now result }
         ensures only { (p : ℕ) → (result ≡ Some p) ↔ ((x : T) × (slice_get self.now p ≡ Some x) × (T.eq x item.now ≡ true)) }

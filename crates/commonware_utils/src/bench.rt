@@ -1,11 +1,13 @@
-//! The worked rows and vectors, and the tests of the Rust crate under the names that they have there, through the
-//! facade: a file a subject, a table a kind.
+//! The worked rows and vectors, and the tests of the Rust crate under the names that they have
+//! there, through the facade: a file a subject, a table a kind.
 ghost use Rattle.std.specs.Prelude.{IfOk, ◌≡◌, OnErr};
 
+mod bimap_values;
 mod bimaps;
 mod clones;
 mod example;
 mod faults;
+mod insertion;
 mod labelled;
 mod lists;
 mod map_builders;
@@ -139,7 +141,8 @@ fn are_equal<T: Eq + Hash>(a: &T, b: &T, equal: bool) -> bool {
     (*a == *b) == equal && (hash_of(a) == hash_of(b)) == equal
 }
 
-/// Whether the two stand in this order, by each comparison, and their hashes are equal where they are.
+/// Whether the two stand in this order, by each comparison, and their hashes are equal where they
+/// are.
 fn are_ordered<T: Ord + Hash>(a: &T, b: &T, order: Ordering) -> bool {
     a.cmp(b) == order
         && (*a < *b) == (order == Ordering::Less)

@@ -1,19 +1,23 @@
-//! The program over scripted devices, and every call that takes memory with each of its requests refused.
+//! The program over scripted devices, and every call that takes memory with each of its requests
+//! refused.
 
 mod bounds;
 mod committee_sizes;
 mod counting;
+mod drawn;
 mod every_bound;
 mod long_inputs;
 mod memory_free_texts;
 mod refused_bimaps;
 mod refused_codec;
+mod refused_insertions;
 mod refused_lists;
 mod refused_maps;
 mod refused_queues;
 mod refused_sets;
 mod refused_unions;
 mod refused_value_maps;
+mod repeat_or_refusal;
 mod runs;
 mod session_trial;
 mod sessions;

@@ -1,4 +1,5 @@
-//! Bimaps of many pairs: equal keys are refused, and then equal values.
+//! Bimaps of many pairs: equal keys are refused, and then equal values. Each builder makes the map
+//! of the pairs, and takes the time and the memory of `try_from_map` for its values.
 ghost use Rattle.commonware_bimap.specs.WholeBiMaps.{IsBiMapOfAll, IsRefusedBiMap, IsWholeBiMap, IsWholeBiMapOfClones};
 ghost use Rattle.std.specs.Prelude.{◌≡◌, true};
 
@@ -10,8 +11,8 @@ use std::alloc::Allocator;
 use std::hash::Hash;
 
 impl<K: Ord + Drop, V: Eq + Hash + Drop, A: Allocator + Copy> BiMap<K, V, A> {
-    /// The bimap of all the pairs; `DuplicateKey` where two of their keys are equal; else `DuplicateValue` where two of
-    /// their values are. Every two values are compared: O(n²) comparisons.
+    /// The bimap of all the pairs; `DuplicateKey` where two of their keys are equal; else
+    /// `DuplicateValue` where two of their values are, which are looked up in a hash set.
     pub fn try_from_vec(vec: Vec<(K, V), A>) -> Result<Self, Error>
         ensures { IsWholeBiMap K.eq K.cmp V.eq vec.items result }
     {
@@ -27,32 +28,34 @@ impl<K: Ord + Drop, V: Eq + Hash + Drop, A: Allocator + Copy> TryFromIterator<(K
 
     ghost refuses = { λ drawn ended error. IsRefusedBiMap K.eq V.eq (ended ≡ true) drawn error };
 
-    /// The bimap of all the pairs; `DuplicateKey` where two keys of those that were drawn are equal; else
-    /// `DuplicateValue` where two values are, and then all were drawn. Every two values are compared: O(n²) comparisons.
+    /// The bimap of all the pairs; `DuplicateKey` where two keys of those that were drawn are
+    /// equal; else `DuplicateValue` where two values are, which are looked up in a hash set, and
+    /// then all were drawn.
     fn try_from_iter<I: IntoIterator<Item = (K, V)>>(alloc: A, iter: I) -> Result<Self, Error> {
         BiMap::try_from_map(Map::try_from_iter(alloc, iter)?)
     }
 }
 
 impl<K: Ord + EqClone, V: EqClone + Hash, A: Allocator + Copy> BiMap<K, V, A> {
-    /// The bimap of clones of all the pairs; `DuplicateKey` where two of their keys are equal; else `DuplicateValue`
-    /// where two of their values are. Every two values are compared: O(n²) comparisons.
+    /// The bimap of clones of all the pairs; `DuplicateKey` where two of their keys are equal; else
+    /// `DuplicateValue` where two of their values are, which are looked up in a hash set.
     pub fn try_from_slice(alloc: A, pairs: &[(K, V)]) -> Result<Self, Error>
         ensures { IsWholeBiMapOfClones K.eq K.cmp V.eq (λ p q. K.is_clone p.0 q.0 × V.is_clone p.1 q.1) pairs.now result }
     {
         BiMap::try_from_map(Map::try_from_slice(alloc, pairs)?)
     }
 
-    /// The bimap of clones of all the pairs; `DuplicateKey` where two of their keys are equal; else `DuplicateValue`
-    /// where two of their values are. The array is given up. Every two values are compared: O(n²) comparisons.
+    /// The bimap of clones of all the pairs; `DuplicateKey` where two of their keys are equal; else
+    /// `DuplicateValue` where two of their values are, which are looked up in a hash set. The array
+    /// is given up.
     pub fn try_from_array<const N: usize>(alloc: A, pairs: [(K, V); N]) -> Result<Self, Error>
         ensures { IsWholeBiMapOfClones K.eq K.cmp V.eq (λ p q. K.is_clone p.0 q.0 × V.is_clone p.1 q.1) pairs result }
     {
         BiMap::try_from_slice(alloc, &pairs)
     }
 
-    /// The bimap of clones of all the pairs; `DuplicateKey` where two of their keys are equal; else `DuplicateValue`
-    /// where two of their values are. Every two values are compared: O(n²) comparisons.
+    /// The bimap of clones of all the pairs; `DuplicateKey` where two of their keys are equal; else
+    /// `DuplicateValue` where two of their values are, which are looked up in a hash set.
     pub fn try_from_array_ref<const N: usize>(alloc: A, pairs: &[(K, V); N]) -> Result<Self, Error>
         ensures { IsWholeBiMapOfClones K.eq K.cmp V.eq (λ p q. K.is_clone p.0 q.0 × V.is_clone p.1 q.1) pairs.now result }
     {

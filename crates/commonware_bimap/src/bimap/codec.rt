@@ -53,7 +53,8 @@ impl<
 
     ghost read_laws = { λ alloc c. bimap_laws K.enc K.writable K.cmp K.prefix_free V.enc V.writable V.prefix_free K.eq K.total K.matches_eq K.canonical V.eq V.Eq.laws V.canonical c.0 (K.allowed c.1) (K.fault c.1) (V.allowed c.2) (V.fault c.2) (K.read_laws alloc c.1) (V.read_laws alloc c.2) };
 
-    /// Reads a map, and then looks for equal values: a fault of any byte of the map comes before equal values.
+    /// Reads a map, and then looks for equal values, in a hash set on the same allocator: a fault
+    /// of any byte of the map comes before equal values.
     fn read_cfg(alloc: A, src: &mut Source<'_>, cfg: &Self::Cfg) -> Result<BiMap<K, V, A>, Error> {
         let mut here = *src;
         let map = match Map::<K, V, A>::read_cfg(alloc, &mut here, cfg) {
@@ -79,7 +80,8 @@ impl<K: Ord + Canonical, V: Canonical + Hash, A: Allocator> Canonical for BiMap<
     ghost canonical = { bimap_canonical K.enc K.writable K.cmp K.prefix_free V.enc V.writable V.prefix_free K.eq K.total K.matches_eq K.canonical V.eq V.Eq.laws V.canonical };
 }
 
-/// The cuts at which a text is no bimap exclude one another: no text has a fault of the map and one of equal values.
+/// The cuts at which a text is no bimap exclude one another: no text has a fault of the map and one
+/// of equal values.
 pub fn bimap_fault_law<K: Ord + Canonical + Read<A>, V: Canonical + Read<A>, A: Allocator>(
     alloc: A,
     range: RangeCfg<usize>,

@@ -1,5 +1,5 @@
 //! Maps of many pairs: of equal keys the first pair stays, or equal keys are refused.
-ghost use Rattle.std.specs.Prelude.{◌≡◌, ◌↔◌, IfOk, IsTrue};
+ghost use Rattle.std.specs.Prelude.{◌≡◌, IfOk};
 ghost use Rattle.std.specs.Iterator.{IsFiniteIterable};
 ghost use Rattle.std.specs.Map.{keys_of, values_of};
 ghost use Rattle.commonware_base.specs.Taken.{TakesAll};
@@ -9,12 +9,13 @@ ghost use Rattle.commonware_ordered.specs.Whole.{IsRefusedFor, IsSetOfAll, IsWho
 
 use super::Map;
 use commonware_base::{EqClone, TryFromIterator};
-use commonware_ordered::{Error, Set, items_of};
+use commonware_ordered::{Error, Gathered, Set};
 use std::alloc::{AllocError, Allocator};
 
 impl<K: Ord + Drop, V: Drop, A: Allocator + Copy> Map<K, V, A> {
-    /// The map of the pairs that an iterator gives, where of equal keys the first pair stays. It is refused for want of
-    /// memory alone. It takes O(n log n) comparisons.
+    /// The map of the pairs that an iterator gives, where of equal keys the first pair stays. It is
+    /// refused for want of memory alone, and takes memory for the pairs that stay. It takes O(n log
+    /// n) comparisons.
     pub fn from_iter_dedup<I: IntoIterator<Item = (K, V)>>(
         alloc: A,
         iter: I,
@@ -22,29 +23,21 @@ impl<K: Ord + Drop, V: Drop, A: Allocator + Copy> Map<K, V, A> {
         requires { IsFiniteIterable I.into_iter_gives I.IntoIter.can_next I.IntoIter.remaining iter }
         ensures { IfOk result (λ m. TakesAll I.into_iter_gives I.IntoIter.next_gives iter (λ ps. IsDedup (λ p q. K.eq p.0 q.0) (λ p q. K.cmp p.0 q.0) ps m)) }
     {
-        let mut placed = Vec::new(alloc);
-        for pair in iter {
-            let place = placed.len();
-            placed.push((pair, place))?;
+        let rest = iter.into_iter();
+        let mut gathered = Gathered::with_room(alloc, rest.size_hint().0)?;
+        for (key, value) in rest {
+            gathered.insert(key, value)?;
         }
-        placed.sort_unstable_by(|p, q| p.0.0.cmp(&q.0.0).then(p.1.cmp(&q.1)));
-        let mut pairs = items_of(alloc, placed)?;
-        pairs.dedup_by(|p, q| p.0 == q.0);
-        map_of(alloc, pairs)
+        map_of(gathered)
     }
 
-    /// The map of all the pairs, or `DuplicateKey` where two of their keys are equal. It takes O(n log n) comparisons.
+    /// The map of all the pairs, or `DuplicateKey` where two of their keys are equal. It takes O(n
+    /// log n) comparisons.
     pub fn try_from_vec(vec: Vec<(K, V), A>) -> Result<Self, Error>
         ensures { IsWholeSet (λ p q. K.eq p.0 q.0) (λ p q. K.cmp p.0 q.0) vec.items result }
     {
-        let mut pairs = vec;
-        pairs.sort_unstable_by(|p, q| p.0.cmp(&q.0));
-        if has_strict_keys(pairs.as_slice()) {
-            let alloc = *pairs.allocator();
-            Ok(map_of(alloc, pairs)?)
-        } else {
-            Err(Error::DuplicateKey)
-        }
+        let alloc = *vec.allocator();
+        Map::try_from_iter(alloc, vec)
     }
 }
 
@@ -55,36 +48,39 @@ impl<K: Ord + Drop, V: Drop, A: Allocator + Copy> TryFromIterator<(K, V), A> for
 
     ghost refuses = { λ drawn _ error. IsRefusedFor (λ p q. K.eq p.0 q.0) drawn error };
 
-    /// The map of all the pairs, or `DuplicateKey` where two keys of those that were drawn are equal. It takes
-    /// O(n log n) comparisons.
+    /// The map of all the pairs, or `DuplicateKey` where two keys of those that were drawn are
+    /// equal: none is drawn after the first repeat. It takes O(n log n) comparisons.
     fn try_from_iter<I: IntoIterator<Item = (K, V)>>(alloc: A, iter: I) -> Result<Self, Error> {
-        let mut pairs = Vec::new(alloc);
-        for pair in iter {
-            pairs.push(pair)?;
+        let rest = iter.into_iter();
+        let mut gathered = Gathered::with_room(alloc, rest.size_hint().0)?;
+        for (key, value) in rest {
+            if !gathered.insert(key, value)? {
+                return Err(Error::DuplicateKey);
+            }
         }
-        Map::try_from_vec(pairs)
+        Ok(map_of(gathered)?)
     }
 }
 
 impl<K: Ord + EqClone, V: Clone, A: Allocator + Copy> Map<K, V, A> {
-    /// The map of clones of all the pairs, or `DuplicateKey` where two of their keys are equal. It takes O(n log n)
-    /// comparisons.
+    /// The map of clones of all the pairs, or `DuplicateKey` where two of their keys are equal. It
+    /// takes O(n log n) comparisons.
     pub fn try_from_slice(alloc: A, pairs: &[(K, V)]) -> Result<Self, Error>
         ensures { IsWholeSetOfClones (λ p q. K.eq p.0 q.0) (λ p q. K.cmp p.0 q.0) (λ p q. K.is_clone p.0 q.0 × V.is_clone p.1 q.1) pairs.now result }
     {
         Map::try_from_vec(Vec::from_clones(alloc, pairs)?)
     }
 
-    /// The map of clones of all the pairs, or `DuplicateKey` where two of their keys are equal. The array is given up.
-    /// It takes O(n log n) comparisons.
+    /// The map of clones of all the pairs, or `DuplicateKey` where two of their keys are equal. The
+    /// array is given up. It takes O(n log n) comparisons.
     pub fn try_from_array<const N: usize>(alloc: A, pairs: [(K, V); N]) -> Result<Self, Error>
         ensures { IsWholeSetOfClones (λ p q. K.eq p.0 q.0) (λ p q. K.cmp p.0 q.0) (λ p q. K.is_clone p.0 q.0 × V.is_clone p.1 q.1) pairs result }
     {
         Map::try_from_slice(alloc, &pairs)
     }
 
-    /// The map of clones of all the pairs, or `DuplicateKey` where two of their keys are equal. It takes O(n log n)
-    /// comparisons.
+    /// The map of clones of all the pairs, or `DuplicateKey` where two of their keys are equal. It
+    /// takes O(n log n) comparisons.
     pub fn try_from_array_ref<const N: usize>(alloc: A, pairs: &[(K, V); N]) -> Result<Self, Error>
         ensures { IsWholeSetOfClones (λ p q. K.eq p.0 q.0) (λ p q. K.cmp p.0 q.0) (λ p q. K.is_clone p.0 q.0 × V.is_clone p.1 q.1) pairs.now result }
     {
@@ -92,26 +88,13 @@ impl<K: Ord + EqClone, V: Clone, A: Allocator + Copy> Map<K, V, A> {
     }
 }
 
-/// Whether each key is less than the next.
-fn has_strict_keys<K: Ord, V>(pairs: &[(K, V)]) -> bool
-    ensures { IsTrue result ↔ IsStrict (λ p q. K.cmp p.0 q.0) pairs.now }
-{
-    pairs.is_sorted_by(|p, q| p.0.cmp(&q.0).is_lt())
-}
-
-/// The map of pairs whose keys are strict.
+/// The map of pairs that were gathered.
 fn map_of<K: Ord + Drop, V: Drop, A: Allocator + Copy>(
-    alloc: A,
-    pairs: Vec<(K, V), A>,
+    gathered: Gathered<K, V, A>,
 ) -> Result<Map<K, V, A>, AllocError>
-    requires { IsStrict (λ p q. K.cmp p.0 q.0) pairs.items }
-    ensures { IfOk result (λ m. m ≡ pairs.items) }
+    ensures pairs { IfOk result (λ m. m ≡ gathered) }
+    ensures strict { IfOk result (λ m. IsStrict (λ p q. K.cmp p.0 q.0) m) }
 {
-    let mut keys = Vec::with_capacity(alloc, pairs.len())?;
-    let mut values = Vec::with_capacity(alloc, pairs.len())?;
-    for (key, value) in pairs {
-        keys.push(key)?;
-        values.push(value)?;
-    }
+    let (keys, values) = gathered.into_columns()?;
     Ok(Map::from_columns(Set::from_strict(keys), values))
 }

@@ -1,4 +1,5 @@
-//! A type as a stranger writes it: its `==` isn't identity, and it proves the laws of order, clones and codec itself.
+//! A type as a stranger writes it: its `==` isn't identity, and it proves the laws of order, clones
+//! and codec itself.
 ghost use Rattle.std.specs.Prelude.{◌≡◌, ◌==◌, ℕ, refl};
 ghost use Rattle.std.proofs.Common.{ap};
 ghost use Rattle.std.proofs.lemmas.Cmp.{nat_eq_equiv};
@@ -15,13 +16,14 @@ use crate::{EqClone, TryFromIterator};
 use std::alloc::{AllocError, Allocator};
 use std::test::Fail;
 
-/// A number and a label. The number alone is compared, hashed and written; what is read has the label `r`.
+/// A number and a label. The number alone is compared, hashed and written; what is read has the
+/// label `r`.
 #[derive(Clone, Copy)]
 #[derive_where(Debug, PartialEq, Eq, PartialOrd, Ord, Hash)]
-struct Labelled {
-    number: u8,
+pub(super) struct Labelled {
+    pub(super) number: u8,
     #[derive_where(skip(EqHashOrd))]
-    label: char,
+    pub(super) label: char,
 }
 
 impl EqClone for Labelled {
@@ -84,7 +86,8 @@ impl Canonical for Labelled {
     ghost canonical = { canonical_on (λ v. v.number) byte IsByte ◌==◌ byte_canonical };
 }
 
-const fn item(number: u8, label: char) -> Labelled {
+/// An item of this number and label.
+pub(super) const fn item(number: u8, label: char) -> Labelled {
     Labelled { number, label }
 }
 

@@ -1,5 +1,6 @@
-//! The builders of bimaps and their pairs with each request for memory refused in turn, and the calls that take none.
-use super::walk::{Heap, Outcome, Refusable, asks_for, full, refused, requests};
+//! The builders of bimaps and their pairs with each request for memory refused in turn, and the
+//! calls that take none.
+use super::walk::{Heap, Outcome, Refusable, asks_for, full, refused};
 use crate::Refusing;
 use commonware_utils::TryFromIterator;
 use commonware_utils::ordered::{BiMap, Error, Map};
@@ -88,7 +89,7 @@ impl Refusable for IntoPairs {
     }
 }
 
-/// A map made a bimap, for which its values are compared: with memory or without.
+/// A map made a bimap, for which its values are looked up in a hash set.
 struct FromMap;
 
 impl Refusable for FromMap {
@@ -117,7 +118,17 @@ fn each_request_is_refused_in_turn(rt: HostRuntime) {
         }
     }
     assert!(rt; asks_for(rt.alloc(), &IntoPairs, 1));
-    assert!(rt; requests(rt.alloc(), &FromMap).is_some());
+    assert!(rt; asks_for(rt.alloc(), &FromMap, 1));
+}
+
+/// The map is there; the set in which its values are looked up is refused.
+#[test]
+fn a_map_is_no_bimap_without_memory(rt: HostRuntime) -> Result<(), Fail> {
+    let heap = Refusing::after(rt.alloc(), u64::MAX);
+    let map = Map::try_from_iter(&heap, [(1u8, 10u8), (2, 20)])?;
+    heap.restart(0);
+    assert!(rt; BiMap::try_from_map(map).err() == Some(Error::Memory) && heap.has_refused());
+    Ok(())
 }
 
 /// A map without pairs is taken without memory too.

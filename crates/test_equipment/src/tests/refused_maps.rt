@@ -1,4 +1,5 @@
-//! The builders of maps and their pairs with each request for memory refused in turn, and the calls that take none.
+//! The builders of maps and their pairs with each request for memory refused in turn, and the calls
+//! that take none.
 use super::walk::{Heap, Outcome, Refusable, asks_for, full, refused};
 use crate::Refusing;
 use commonware_utils::TryFromIterator;
@@ -8,7 +9,7 @@ use std::test::Fail;
 
 /// A way to make a map of pairs.
 #[derive(Clone, Copy, Debug)]
-enum Builder {
+pub(super) enum Builder {
     Dedup,
     Iterator,
     List,
@@ -17,7 +18,8 @@ enum Builder {
     ArrayRef,
 }
 
-const BUILDERS: [Builder; 6] = [
+/// Each of them.
+pub(super) const BUILDERS: [Builder; 6] = [
     Builder::Dedup,
     Builder::Iterator,
     Builder::List,
@@ -33,10 +35,10 @@ const PAIRS: [(u32, u8); 4] = [(5, 50), (1, 10), (9, 90), (3, 30)];
 const REPEAT: [(u32, u8); 4] = [(5, 50), (1, 10), (5, 90), (3, 30)];
 
 /// What the builder answers for the pairs.
-fn build<'a>(
+pub(super) fn build<'a, const N: usize>(
     builder: Builder,
     heap: Heap<'a>,
-    pairs: &[(u32, u8); 4],
+    pairs: &[(u32, u8); N],
 ) -> Result<Map<u32, u8, Heap<'a>>, Error> {
     match builder {
         Builder::Dedup => Ok(Map::from_iter_dedup(heap, *pairs)?),

@@ -1,4 +1,5 @@
-//! The builders of sets with each request for memory refused in turn, and the calls on sets that take none.
+//! The builders of sets with each request for memory refused in turn, and the calls on sets that
+//! take none.
 use super::walk::{Heap, Outcome, Refusable, asks_for, full, refused};
 use crate::Refusing;
 use commonware_utils::codec::EncodeSize;
@@ -8,7 +9,7 @@ use std::test::Fail;
 
 /// A way to make a set of items.
 #[derive(Clone, Copy, Debug)]
-enum Builder {
+pub(super) enum Builder {
     Dedup,
     Iterator,
     Collect,
@@ -18,7 +19,8 @@ enum Builder {
     ArrayRef,
 }
 
-const BUILDERS: [Builder; 7] = [
+/// Each of them.
+pub(super) const BUILDERS: [Builder; 7] = [
     Builder::Dedup,
     Builder::Iterator,
     Builder::Collect,
@@ -36,10 +38,10 @@ const ITEMS: [([u32; 5], &[u32], bool); 3] = [
 ];
 
 /// What the builder answers for the items.
-fn build<'a>(
+pub(super) fn build<'a, const N: usize>(
     builder: Builder,
     heap: Heap<'a>,
-    items: &[u32; 5],
+    items: &[u32; N],
 ) -> Result<Set<u32, Heap<'a>>, Error> {
     match builder {
         Builder::Dedup => Ok(Set::from_iter_dedup(heap, *items)?),

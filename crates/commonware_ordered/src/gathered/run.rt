@@ -1,0 +1,111 @@
+//! Pairs whose keys rise, as they come.
+ghost use Rattle.std.specs.Prelude.{◌≡◌, ◌++◌, ◌∷◌, [], IfOk, OnOk, true};
+ghost use Rattle.std.specs.List.{AllByRecursion, list_any};
+ghost use Rattle.std.specs.List.Sorted.{IsStrictlySortedBy};
+ghost use Rattle.std.specs.Map.{keys_of, values_of};
+ghost use Rattle.std.specs.Ordering.{MatchOrdering, is_eq};
+ghost use Rattle.std.specs.declared.cmp.Ordering.TheVariants.{Less};
+
+use super::tree::put;
+use std::alloc::{AllocError, Allocator};
+use std::cmp::Ordering;
+use std::collections::BTreeMap;
+use std::marker::Model;
+use std::mem;
+
+/// Keys in increasing order, each once, and a value for each.
+#[derive(Drop)]
+pub(super) struct Run<K: Ord, V, A: Allocator> {
+    keys: Vec<K, A>,
+    values: Vec<V, A>,
+}
+
+impl<K: Ord, V, A: Allocator> Model for Run<K, V, A> {
+    ghost use Rattle.std.specs.Prelude.{◌≡◌, List, length, zip};
+    ghost use Rattle.std.specs.List.Sorted.{IsStrictlySortedBy};
+
+    ghost Value = { List (K × V) };
+
+    ghost view = { λ r. zip r.keys.items r.values.items };
+
+    ghost invariant = { λ r. (length r.values.items ≡ length r.keys.items) × IsStrictlySortedBy K.cmp r.keys.items };
+}
+
+impl<K: Ord + Drop, V: Drop, A: Allocator + Copy> Run<K, V, A> {
+    /// No pairs, with room for as many as are said. It takes no memory where none are.
+    pub(super) fn with_room(alloc: A, room: usize) -> Result<Self, AllocError>
+        ensures { IfOk result (λ run. run ≡ []) }
+    {
+        Ok(Run {
+            keys: Vec::with_capacity(alloc, room)?,
+            values: Vec::with_capacity(alloc, room)?,
+        })
+    }
+
+    /// No pairs. It takes no memory.
+    pub(super) fn new(alloc: A) -> Self
+        ensures { result ≡ [] }
+    {
+        Run {
+            keys: Vec::new(alloc),
+            values: Vec::new(alloc),
+        }
+    }
+
+    /// How the last key stands to a key; `Less` where there is none.
+    #[inline(always)]
+    pub(super) fn last_to(&self, key: &K) -> Ordering
+        ensures { MatchOrdering result (AllByRecursion (λ p. K.cmp p.0 key.now ≡ Less) self.now) (list_any (λ p. is_eq (K.cmp key.now p.0)) self.now ≡ true) (Unit {0}) }
+    {
+        match self.keys.last() {
+            Some(last) => last.cmp(key),
+            None => Ordering::Less,
+        }
+    }
+
+    /// Puts a pair last, whose key is greater than all.
+    #[inline(always)]
+    pub(super) fn push(&mut self, key: K, value: V) -> Result<(), AllocError>
+        requires { AllByRecursion (λ p. K.cmp p.0 key ≡ Less) self.old }
+        ensures { OnOk result (self.new ≡ self.old ++ (key, value) ∷ []) }
+    {
+        self.keys.reserve(1)?;
+        self.values.reserve(1)?;
+        self.keys.push_reserved(key);
+        self.values.push_reserved(value);
+        Ok(())
+    }
+
+    /// The pairs, of which none stay.
+    pub(super) fn take(&mut self) -> Self
+        ensures taken { result ≡ self.old }
+        ensures left { self.new ≡ [] }
+    {
+        let alloc = *self.keys.allocator();
+        mem::replace(self, Run::new(alloc))
+    }
+
+    /// The keys, and the values at their positions.
+    pub(super) fn into_columns(self) -> (Vec<K, A>, Vec<V, A>)
+        ensures keys { result.0.items ≡ keys_of self }
+        ensures values { result.1.items ≡ values_of self }
+        ensures strict { IsStrictlySortedBy K.cmp (keys_of self) }
+    {
+        let Run { keys, values } = self;
+        (keys, values)
+    }
+
+    /// The pairs in a tree.
+    #[cold]
+    #[inline(never)]
+    pub(super) fn into_tree(self) -> Result<BTreeMap<K, V, A>, AllocError>
+        ensures { IfOk result (λ tree. tree.entries ≡ self) }
+    {
+        let (keys, values) = self.into_columns();
+        let mut tree = BTreeMap::new(*keys.allocator());
+        for (key, value) in keys.into_iter().zip(values) {
+            put(&mut tree, key, value)?;
+        }
+        Ok(tree)
+    }
+}

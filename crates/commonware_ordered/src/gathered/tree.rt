@@ -1,0 +1,28 @@
+//! A tree of pairs in which the first of equal keys stays.
+ghost use Rattle.std.specs.Prelude.{IfOk};
+ghost use Rattle.commonware_ordered.specs.Put.{IsPut};
+
+use std::alloc::{AllocError, Allocator};
+use std::collections::BTreeMap;
+use std::collections::btree_map::Entry;
+
+/// Puts a pair at its place unless an equal key stands there, and answers whether it did.
+#[inline(never)]
+pub(super) fn put<K: Ord + Drop, V: Drop, A: Allocator + Copy>(
+    tree: &mut BTreeMap<K, V, A>,
+    key: K,
+    value: V,
+) -> Result<bool, AllocError>
+    ensures { IfOk result (λ new. IsPut (λ p q. K.cmp p.0 q.0) tree.old.entries (key, value) new tree.new.entries) }
+{
+    match tree.entry(key)? {
+        Entry::Vacant(place) => {
+            place.insert(value);
+            Ok(true)
+        }
+        Entry::Occupied(place) => {
+            place.into_mut();
+            Ok(false)
+        }
+    }
+}
