@@ -51,7 +51,8 @@ impl<K: Ord + Drop, V: Drop, A: Allocator + Copy> Gathered<K, V, A> {
     /// Puts a pair at its place unless an equal key stands there, and answers whether it did.
     #[inline(always)]
     pub fn insert(&mut self, key: K, value: V) -> Result<bool, AllocError>
-        ensures { IfOk result (λ new. IsPut (λ p q. K.cmp p.0 q.0) self.old (key, value) new self.new) }
+        ensures { IfOk result (λ new.
+            IsPut (λ p q. K.cmp p.0 q.0) self.old (key, value) new self.new) }
     {
         if self.tree.is_empty() {
             match self.run.last_to(&key) {
@@ -60,7 +61,7 @@ impl<K: Ord + Drop, V: Drop, A: Allocator + Copy> Gathered<K, V, A> {
                     return Ok(true);
                 }
                 Ordering::Equal => return Ok(false),
-                Ordering::Greater => self.tree = self.run.take().into_tree()?,
+                Ordering::Greater => self.run.move_into(&mut self.tree)?,
             }
         }
         put(&mut self.tree, key, value)

@@ -28,7 +28,8 @@ impl<K: Ord, V, A: Allocator> Model for Run<K, V, A> {
 
     ghost view = { λ r. zip r.keys.items r.values.items };
 
-    ghost invariant = { λ r. (length r.values.items ≡ length r.keys.items) × IsStrictlySortedBy K.cmp r.keys.items };
+    ghost invariant = { λ r.
+        (length r.values.items ≡ length r.keys.items) × IsStrictlySortedBy K.cmp r.keys.items };
 }
 
 impl<K: Ord + Drop, V: Drop, A: Allocator + Copy> Run<K, V, A> {
@@ -55,7 +56,10 @@ impl<K: Ord + Drop, V: Drop, A: Allocator + Copy> Run<K, V, A> {
     /// How the last key stands to a key; `Less` where there is none.
     #[inline(always)]
     pub(super) fn last_to(&self, key: &K) -> Ordering
-        ensures { MatchOrdering result (AllByRecursion (λ p. K.cmp p.0 key.now ≡ Less) self.now) (list_any (λ p. is_eq (K.cmp key.now p.0)) self.now ≡ true) (Unit {0}) }
+        ensures { MatchOrdering result
+            (AllByRecursion (λ p. K.cmp p.0 key.now ≡ Less) self.now)
+            (list_any (λ p. is_eq (K.cmp key.now p.0)) self.now ≡ true)
+            (Unit {0}) }
     {
         match self.keys.last() {
             Some(last) => last.cmp(key),
@@ -95,17 +99,18 @@ impl<K: Ord + Drop, V: Drop, A: Allocator + Copy> Run<K, V, A> {
         (keys, values)
     }
 
-    /// The pairs in a tree.
+    /// Moves the pairs into a tree that has none. No pair stays, even where there is no memory.
     #[cold]
     #[inline(never)]
-    pub(super) fn into_tree(self) -> Result<BTreeMap<K, V, A>, AllocError>
-        ensures { IfOk result (λ tree. tree.entries ≡ self) }
+    pub(super) fn move_into(&mut self, tree: &mut BTreeMap<K, V, A>) -> Result<(), AllocError>
+        requires { tree.old.entries ≡ [] }
+        ensures moved { OnOk result (tree.new.entries ≡ self.old) }
+        ensures left { self.new ≡ [] }
     {
-        let (keys, values) = self.into_columns();
-        let mut tree = BTreeMap::new(*keys.allocator());
+        let (keys, values) = self.take().into_columns();
         for (key, value) in keys.into_iter().zip(values) {
-            put(&mut tree, key, value)?;
+            put(tree, key, value)?;
         }
-        Ok(tree)
+        Ok(())
     }
 }

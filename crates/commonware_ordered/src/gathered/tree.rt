@@ -13,7 +13,8 @@ pub(super) fn put<K: Ord + Drop, V: Drop, A: Allocator + Copy>(
     key: K,
     value: V,
 ) -> Result<bool, AllocError>
-    ensures { IfOk result (λ new. IsPut (λ p q. K.cmp p.0 q.0) tree.old.entries (key, value) new tree.new.entries) }
+    ensures { IfOk result (λ new.
+        IsPut (λ p q. K.cmp p.0 q.0) tree.old.entries (key, value) new tree.new.entries) }
 {
     match tree.entry(key)? {
         Entry::Vacant(place) => {

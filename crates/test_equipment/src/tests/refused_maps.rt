@@ -41,8 +41,8 @@ pub(super) fn build<'a, const N: usize>(
     pairs: &[(u32, u8); N],
 ) -> Result<Map<u32, u8, Heap<'a>>, Error> {
     match builder {
-        Builder::Dedup => Ok(Map::from_iter_dedup(heap, *pairs)?),
-        Builder::Iterator => Map::try_from_iter(heap, *pairs),
+        Builder::Dedup => Ok(Map::from_iter_dedup(heap, pairs.iter().copied())?),
+        Builder::Iterator => Map::try_from_iter(heap, pairs.iter().copied()),
         Builder::List => Map::try_from_vec(Vec::from_slice(heap, pairs)?),
         Builder::Slice => Map::try_from_slice(heap, pairs),
         Builder::Array => Map::try_from_array(heap, *pairs),

@@ -44,9 +44,9 @@ pub(super) fn build<'a, const N: usize>(
     items: &[u32; N],
 ) -> Result<Set<u32, Heap<'a>>, Error> {
     match builder {
-        Builder::Dedup => Ok(Set::from_iter_dedup(heap, *items)?),
-        Builder::Iterator => Set::try_from_iter(heap, *items),
-        Builder::Collect => TryCollect::try_collect((*items).into_iter(), heap),
+        Builder::Dedup => Ok(Set::from_iter_dedup(heap, items.iter().copied())?),
+        Builder::Iterator => Set::try_from_iter(heap, items.iter().copied()),
+        Builder::Collect => TryCollect::try_collect(items.iter().copied(), heap),
         Builder::List => Set::try_from_vec(Vec::from_slice(heap, items)?),
         Builder::Slice => Set::try_from_slice(heap, items),
         Builder::Array => Set::try_from_array(heap, *items),

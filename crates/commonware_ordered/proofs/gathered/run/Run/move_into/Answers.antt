@@ -4,7 +4,7 @@ use Rattle.std.specs.Vec.Iter.{into_iter_items, into_iter_len}
 use Rattle.commonware_ordered.proofs.Columns.{zip-parts}
 use Rattle.commonware_ordered.proofs.Entries.{pair_more}
 use Rattle.commonware_ordered.proofs.Zipped.{left_none, left_start}
-use Rattle.commonware_ordered.proofs.gathered.run.Run.into_tree.Goals as goal
+use Rattle.commonware_ordered.proofs.gathered.run.Run.move_into.Goals as goal
 
 pub loop-key-init : goal.loop-key-init
 loop-key-init g c =
@@ -13,10 +13,12 @@ loop-key-init g c =
     let d = c.into_columns-keys.ensures in
     left_start c.into_columns-keys.result.0.items c.into_columns-keys.result.1.items _ _ c.zip-key-items.result c.into_iter-key-iterator.ensures.into_iter_gives
     (ap into_iter_items a.first ∙ b.rest) (ap into_iter_len a.first ∙ (b.len ∙ c.into_columns-keys.result.0.ok.0)) a.second.0 (a.second.1 ∙ c.into_columns-keys.result.1.ok.0)
-    ((λ j. zip (d.keys j) (d.values j)) ∙ zip-parts c.args.self) _ c.new-tree.ensures.empty
+    ((λ j. zip (d.keys j) (d.values j)) ∙ zip-parts c.take.result ∙ c.take.ensures.taken) _ c.requires
 
 pub loop-key-preserved : goal.loop-key-preserved
-loop-key-preserved g c = pair_more g.met.K.Ord.total _ _ _ _ _ _ c.in_ok-put.field-0 c.into_columns-keys.ensures.strict c.loop-key.invariant c.in-Some.ensures.steps c.in_ok-put.ensures
+loop-key-preserved g c =
+    let strict = rw c.take.ensures.taken at c.into_columns-keys.ensures.strict in
+    pair_more g.met.K.Ord.total _ _ _ _ _ _ c.in_ok-put.field-0 strict c.loop-key.invariant c.in-Some.ensures.steps c.in_ok-put.ensures
 
-pub returns : goal.returns
-returns g c = left_none _ _ _ c.next.new.self c.loop-key.invariant c.in-None.ensures.steps
+pub returns-clause-moved : goal.returns-clause-moved
+returns-clause-moved g c = left_none _ _ _ c.next.new.self c.loop-key.invariant c.in-None.ensures.steps
