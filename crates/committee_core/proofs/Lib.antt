@@ -1,3 +1,5 @@
+pub mod Chunks
+pub mod CommitteeFronts
 pub mod Counts
 pub mod Ends
 pub mod Refusals

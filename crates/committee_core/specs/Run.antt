@@ -1,21 +1,20 @@
 -- What a run makes of the bytes that its reader gave, and the exit status where it writes no report.
-use Rattle.std.specs.Prelude.{◌≡◌, ℕ, ◌<◌, List, [], Option, Some, length, ◌⊎◌}
+use Rattle.std.specs.Prelude.{◌≡◌, ℕ, ◌^◌, ◌<◌, ◌≤◌, List, [], Option, Some, length, ◌⊎◌}
 use Rattle.std.specs.Int.NonZero.{non_zero_u32_get}
 use Rattle.std.specs.Io.KnownBytes.{Consumes, IsAtEnd}
-use Rattle.std.specs.Ordering.{nat_cmp}
 use Rattle.std.specs.declared.ops.Bound.TheVariants.{Included}
-use Rattle.commonware_base.specs.Bytes.{byte, byte_fault}
 use Rattle.commonware_base.specs.Fault.{Fault}
-use Rattle.commonware_base.specs.Lists.{list_enc, IsAllowedList}
+use Rattle.commonware_base.specs.Lists.{list_enc, IsAllowedList, IsListMemoryFree}
 use Rattle.commonware_base.specs.Range.{Bounds}
 use Rattle.commonware_base.specs.Refusal.{Refuses}
-use Rattle.commonware_base.specs.Text.{Accepts, IsByte}
+use Rattle.commonware_base.specs.Text.{Accepts}
 use Rattle.commonware_base.specs.declared.codec.error.Error.{Error}
 use Rattle.commonware_base.specs.declared.codec.error.Error.TheVariants as faults
 use Rattle.commonware_base.specs.declared.codec.error.Error.TheVariants.{EndOfBuffer, InvalidVarint, InvalidLength, Invalid}
 use Rattle.commonware_ordered.specs.Sets.{IsWritableSet, SetFault}
 use Rattle.committee_core.specs.BoundsReport.{IsBoundsReport}
 use Rattle.committee_core.specs.Command.{IsAskedFor}
+use Rattle.committee_core.specs.Members.{IsMember, member_bytes, member_cmp, member_fault}
 use Rattle.committee_core.specs.Report.{IsMembersReport}
 use Rattle.committee_core.specs.declared.command.Command.{Command}
 use Rattle.committee_core.specs.declared.command.Command.TheVariants as commands
@@ -31,13 +30,30 @@ pub record Gave (old new : Option (List ℕ)) (s : List ℕ) : Type 0 where
 abbrev pub members_range : Bounds ℕ
 members_range = record { lower = Some 1; upper = Included 256 }
 
--- s is the bytes of a set of 1 to 256 one-byte members, and then rest
-abbrev pub IsCommittee : List ℕ → List ℕ → List ℕ → Type 0
-IsCommittee s members rest = Accepts (list_enc byte) (IsWritableSet IsByte nat_cmp) (IsAllowedList members_range (λ _. Unit {0})) s members rest
+-- s is the bytes of a set of 1 to 256 members, and then rest
+abbrev pub IsCommittee : List ℕ → List (List ℕ) → List ℕ → Type 0
+IsCommittee s members rest =
+    let Writable = IsWritableSet IsMember member_cmp in
+    let Allowed = IsAllowedList members_range (λ _. Unit {0}) in
+    Accepts (list_enc member_bytes) Writable Allowed s members rest
 
 -- the first fault of s, where s begins with no committee
 abbrev pub committee_fault : List ℕ → Fault → Type 0
-committee_fault = SetFault byte IsByte nat_cmp (λ _. Unit {0}) byte_fault members_range
+committee_fault = SetFault member_bytes IsMember member_cmp (λ _. Unit {0}) member_fault members_range
+
+-- s is read as a committee, or refused, with no memory
+abbrev pub IsCommitteeMemoryFree : List ℕ → Type 0
+IsCommitteeMemoryFree = IsListMemoryFree member_fault (λ _. Unit {0}) members_range
+
+-- so many first bytes settle what is said of a text as a committee: a length of five bytes, and 256 members
+abbrev pub front_size : ℕ
+front_size = 8197
+
+-- a reader that had old left and has new left gave bytes that can't be read as a committee without memory, or more
+-- bytes than a `usize` counts
+abbrev pub WantsMemory : Option (List ℕ) → Option (List ℕ) → Type 0
+WantsMemory old new =
+    (s : List ℕ) × ((Gave old new s × ¬ IsCommitteeMemoryFree s) ⊎ (Consumes old new s × (2 ^ 64 ≤ length s)))
 
 -- the error names the first fault of s, so it is no want of memory
 abbrev pub IsFirstFault : List ℕ → Error → Type 0
@@ -45,7 +61,7 @@ IsFirstFault s error = Refuses (committee_fault s) (Unit {0}) error
 
 -- s is a committee, and then count more bytes, of which there are some
 abbrev pub IsLeftOver : List ℕ → ℕ → Type 0
-IsLeftOver s count = (members : List ℕ) × (rest : List ℕ) × IsCommittee s members rest × (length rest ≡ count) × (0 < count)
+IsLeftOver s count = (members : List (List ℕ)) × (rest : List ℕ) × IsCommittee s members rest × (length rest ≡ count) × (0 < count)
 
 -- why no report was written, where the reader gave bytes of which Given holds: what the error says of them
 abbrev pub IsRefusal : (List ℕ → Type 0) → RunError → Type 0
@@ -69,7 +85,7 @@ refusal_of faults.Memory = Memory
 
 -- the text is the report that the command asks for, where the reader gave bytes of which Given holds
 abbrev pub IsReport : (List ℕ → Type 0) → Command → List ℕ → Type 0
-IsReport Given commands.Read text = (s : List ℕ) × Given s × (members : List ℕ) × IsCommittee s members [] × IsMembersReport members text
+IsReport Given commands.Read text = (s : List ℕ) × Given s × (members : List (List ℕ)) × IsCommittee s members [] × IsMembersReport members text
 IsReport Given (commands.Bounds n) text = IsBoundsReport (non_zero_u32_get n) text
 
 -- the report that the words ask for was written, where the reader gave bytes of which Given holds, and Written of the text

@@ -19,8 +19,8 @@ use std::{env, io};
 
 /// The session of the words that follow the first argument, which is the program's name.
 ///
-/// Where the arguments can't be taken, for whatever cause, it is that of a program without memory: it says so, and
-/// the status is 3.
+/// Where the arguments can't be taken, for whatever cause, it is that of a program without
+/// memory: it says so, and the status is 3.
 pub fn start<A: Allocator + Copy, R: Read, W: Write, E: Write>(
     alloc: A,
     arguments: io::Result<Args<A>>,
@@ -80,7 +80,8 @@ fn after_first<A: Allocator>(texts: &[String<A>]) -> &[String<A>]
 
 /// The program on its host, with its arguments and its three standard streams.
 ///
-/// What a process is given and what its streams take no contract can say; runs of the program show it.
+/// What a process is given and what its streams take no contract can say; runs of the program
+/// show it.
 pub fn on_host(rt: &HostRuntime) -> ExitCode {
     ExitCode::from(start(
         rt.alloc(),

@@ -13,7 +13,8 @@ use commonware_faults::{Faults, N3f1, N5f1};
 use std::alloc::{AllocError, Allocator};
 use std::num::NonZeroU32;
 
-/// The report on the numbers of the fault models for `n` members: why no more faults and no smaller quorum hold.
+/// The report on the numbers of the fault models for `n` members: why no more faults and no
+/// smaller quorum hold.
 pub(crate) fn bounds_report<A: Allocator>(alloc: A, n: NonZeroU32) -> Result<String<A>, AllocError>
     ensures { IfOk result (λ text. IsBoundsReport (non_zero_u32_get n) (string_bytes text)) }
 {

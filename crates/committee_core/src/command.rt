@@ -10,12 +10,14 @@ use std::num::NonZeroU32;
 pub enum Command {
     /// Read a committee, and report on its members.
     Read,
-    /// Report on the numbers of the fault models for so many members, and on why no better ones hold.
+    /// Report on the numbers of the fault models for so many members, and on why no better ones
+    /// hold.
     Bounds(NonZeroU32),
 }
 
-/// The command that the words ask for: `read`, and no other word, is `Command::Read`; `bounds` and a number, and no
-/// other word, is `Command::Bounds`. The number is 1 to 10 ASCII digits with a value from 1 to 4294967295.
+/// The command that the words ask for: `read`, and no other word, is `Command::Read`; `bounds`
+/// and a number, and no other word, is `Command::Bounds`. The number is 1 to 10 ASCII digits with
+/// a value from 1 to 4294967295.
 ///
 /// The answer is `None` exactly where the words ask for no command.
 pub fn parse_args<A: Allocator>(words: &[String<A>]) -> Option<Command>

@@ -11,7 +11,7 @@ pub enum RunError {
     /// So many bytes follow the committee.
     #[error("refused: {0} bytes left over")]
     LeftOver(usize),
-    /// A request for memory was refused.
+    /// A request for memory was refused, or the reader gave more bytes than a `usize` counts.
     #[error("failed: out of memory")]
     Memory,
     /// The reader failed.

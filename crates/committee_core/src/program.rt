@@ -14,10 +14,11 @@ use std::io::{Read, Write};
 
 /// Does what the words after the program's name ask for, and answers the exit status.
 ///
-/// The status is 0 where the report was written, 1 where the bytes were refused, 2 where the words ask for no command,
-/// and 3 where memory, the reader or the writer failed. Unless it is 0, one line on `errors` says why, in one write where
-/// `errors` takes it whole. Where `errors` fails, the status is the same. Where the words ask for `Command::Bounds`, or
-/// for no command, nothing is read. No call of a device is tried again.
+/// The status is 0 where the report was written, 1 where the bytes were refused, 2 where the
+/// words ask for no command, and 3 where memory, the reader or the writer failed. Unless it is 0,
+/// one line on `errors` says why, in one write where `errors` takes it whole. Where `errors`
+/// fails, the status is the same. Where the words ask for `Command::Bounds`, or for no command,
+/// nothing is read. No call of a device is tried again.
 pub fn session<A: Allocator + Copy, R: Read, W: Write, E: Write>(
     alloc: A,
     words: &[String<A>],

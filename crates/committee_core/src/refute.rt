@@ -1,4 +1,5 @@
-//! Why no better numbers of the fault models hold: two sub-sets of the positions that share too few.
+//! Why no better numbers of the fault models hold: two sub-sets of the positions that share too
+//! few.
 ghost use Rattle.std.specs.Prelude.{◌≡◌, ◌+◌, ◌-◌, ◌*◌, ◌<◌, ◌≤◌};
 ghost use Rattle.commonware_faults.specs.Subsets.{shared, size};
 ghost use Rattle.committee_core.specs.Refutations.{subset_of};
@@ -6,11 +7,11 @@ ghost use Rattle.committee_core.specs.Refutations.{subset_of};
 use crate::Refutation;
 use commonware_faults::{Faults, N3f1, N5f1};
 
-/// The first n - f and the last n - f of `n` positions, and how many stand in both. `n` is at least 1 and `f` at most
-/// `n`.
+/// The first n - f and the last n - f of `n` positions, and how many stand in both. `n` is at
+/// least 1 and `f` at most `n`.
 ///
-/// Where `f` is above the faults of `N3f1`, fewer than f + 1 stand in both; above those of `N5f1`, fewer than 3f + 1. So
-/// no such f can be tolerated.
+/// Where `f` is above the faults of `N3f1`, fewer than f + 1 stand in both; above those of
+/// `N5f1`, fewer than 3f + 1. So no such f can be tolerated.
 pub fn refutation(n: u32, f: u32) -> Refutation
     requires some { 1 ≤ n }
     requires at_most { f ≤ n }
@@ -32,10 +33,11 @@ pub fn refutation(n: u32, f: u32) -> Refutation
     }
 }
 
-/// The first `l_quorum(n)` and the last `m` of `n` positions, and how many stand in both. `n` is at least 1 and `m` at
-/// most `n`.
+/// The first `l_quorum(n)` and the last `m` of `n` positions, and how many stand in both. `n` is
+/// at least 1 and `m` at most `n`.
 ///
-/// Where `m` is below the smaller quorum of `N5f1`, fewer than f + 1 stand in both, where f is the model's faults.
+/// Where `m` is below the smaller quorum of `N5f1`, fewer than f + 1 stand in both, where f is
+/// the model's faults.
 pub fn m_refutation(n: u32, m: u32) -> Refutation
     requires some { 1 ≤ n }
     requires at_most { m ≤ n }

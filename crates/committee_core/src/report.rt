@@ -5,6 +5,7 @@ ghost use Rattle.std.specs.Prelude.{◌≡◌, ◌^◌, ◌<◌, ◌≤◌, ◌+
 ghost use Rattle.committee_core.specs.Report.{IsMembersReport, members_line, member_line};
 ghost use Rattle.committee_core.specs.Report.{n3f1_line, n5f1_line};
 
+use crate::member::Member;
 use commonware_faults::{Faults, N3f1, N5f1};
 use std::alloc::{AllocError, Allocator};
 
@@ -12,7 +13,7 @@ use std::alloc::{AllocError, Allocator};
 /// fault models.
 pub(crate) fn committee_report<A: Allocator>(
     alloc: A,
-    members: &[u8],
+    members: &[Member],
 ) -> Result<String<A>, AllocError>
     requires some { 1 ≤ length members.now }
     requires few { length members.now < 2 ^ 32 }
@@ -21,7 +22,7 @@ pub(crate) fn committee_report<A: Allocator>(
     let mut text = String::new(alloc);
     write_members(&mut text, members.len())?;
     for (position, item) in members.iter().enumerate() {
-        write_member(&mut text, position, *item)?;
+        write_member(&mut text, position, item)?;
     }
     let n = members.len() as u32;
     write_n3f1(&mut text, N3f1::max_faults(n), N3f1::quorum(n))?;
@@ -45,10 +46,10 @@ fn write_members<A: Allocator>(text: &mut String<A>, n: usize) -> Result<(), All
 fn write_member<A: Allocator>(
     text: &mut String<A>,
     position: usize,
-    item: u8,
+    item: &Member,
 ) -> Result<(), AllocError>
     ensures { OnOk result
-        (string_bytes text.new ≡ string_bytes text.old ++ member_line position item) }
+        (string_bytes text.new ≡ string_bytes text.old ++ member_line position item.now) }
 {
     writeln!(text, "{position} {item}")
 }

@@ -2,6 +2,8 @@ pub mod Bytes
 pub mod Calls
 pub mod Clones
 pub mod Fault
+pub mod FrontLaws
+pub mod Fronts
 pub mod ListLaws
 pub mod Lists
 pub mod MadeVec

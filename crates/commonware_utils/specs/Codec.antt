@@ -1,9 +1,12 @@
--- The words of `codec`: texts, faults, refusals, sources, ranges and lists; and the forms of bytes, words, numbers and
--- sequences with their laws, which an item of a user's own cites.
+-- The words of `codec`: texts, faults, refusals, fronts, sources, ranges and lists; and the forms of bytes, words,
+-- numbers and sequences with their laws, which an item of a user's own cites.
 pub use Rattle.commonware_base.specs.Bytes.{byte, byte_canonical, byte_fault, byte_laws}
 pub use Rattle.commonware_base.specs.Bytes.{byte_length, byte_prefix_free}
 pub use Rattle.commonware_base.specs.Fault.{EndOfBuffer, Fault, Invalid, InvalidLength}
 pub use Rattle.commonware_base.specs.Fault.{InvalidVarint}
+pub use Rattle.commonware_base.specs.FrontLaws.{list_fault_settled, list_memory_free_settled}
+pub use Rattle.commonware_base.specs.FrontLaws.{settled_front, varint_fault_settled}
+pub use Rattle.commonware_base.specs.Fronts.{IsFront, IsSettledBy}
 pub use Rattle.commonware_base.specs.ListLaws.{list_bytes, list_canonical, list_laws}
 pub use Rattle.commonware_base.specs.ListLaws.{list_prefix_free}
 pub use Rattle.commonware_base.specs.Lists.{BeginsOutOfRange, BeginsWithFaultyItem, IsAllowedList}

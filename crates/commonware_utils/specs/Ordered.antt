@@ -17,6 +17,7 @@ pub use Rattle.commonware_pairs.specs.PairsMut.{CanStep, LendsInOrder, LendsInRe
 pub use Rattle.commonware_pairs.specs.PairsMut.{pairs_mut_left, pairs_mut_name, pairs_mut_steps}
 pub use Rattle.commonware_pairs.specs.PairsMut.{pairs_mut_steps_back}
 pub use Rattle.commonware_map.specs.SetValues.{keys_of-set_values, values_of-set_values}
+pub use Rattle.commonware_ordered.specs.SetFronts.{set_fault_settled}
 pub use Rattle.commonware_ordered.specs.Sets.{BeginsUnsorted, IsWritableSet, unsorted_fault}
 pub use Rattle.commonware_ordered.specs.Sets.{SetFault, bad_list, bad_order}
 pub use Rattle.commonware_ordered.specs.Sets.{SetCut, at_list, at_order, set_cut}

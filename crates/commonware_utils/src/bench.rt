@@ -2,11 +2,14 @@
 //! there, through the facade: a file a subject, a table a kind.
 ghost use Rattle.std.specs.Prelude.{IfOk, ◌≡◌, OnErr};
 
+mod beginnings;
 mod bimap_values;
 mod bimaps;
 mod clones;
+mod descending;
 mod example;
 mod faults;
+mod hostile;
 mod insertion;
 mod labelled;
 mod lists;
@@ -15,6 +18,7 @@ mod map_pairs;
 mod map_values;
 mod maps;
 mod non_zero;
+mod nothing;
 mod numbers;
 mod participants;
 mod quorums;

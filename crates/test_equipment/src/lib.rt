@@ -1,8 +1,9 @@
-//! What tests need to make memory and devices fail: an allocator that refuses one request, and a reader and a writer that
-//! do what a script says.
+//! What tests need to make memory and devices fail: an allocator that refuses one request, and a
+//! reader and a writer that do what a script says.
 //!
-//! Nothing here is meant for a program. A test hands `&Refusing<Global>` to a function that is generic over its allocator,
-//! and a [`ScriptedReader`] or a [`ScriptedWriter`] to one that reads or writes.
+//! Nothing here is meant for a program. A test hands `&Refusing<Global>` to a function that is
+//! generic over its allocator, and a [`ScriptedReader`] or a [`ScriptedWriter`] to one that reads
+//! or writes.
 #![tactic(auto)]
 
 pub mod devices;
@@ -10,5 +11,5 @@ pub mod refusing;
 #[cfg(test)]
 mod tests;
 
-pub use devices::{ScriptedReader, ScriptedWriter, WriteFault};
+pub use devices::{ReadFault, ScriptedReader, ScriptedWriter, WriteFault};
 pub use refusing::Refusing;

@@ -1,4 +1,4 @@
-//! An allocator that refuses one request, or each one that is too large.
+//! An allocator that refuses one request, all from one on, or each one that is too large.
 
 use std::alloc::{AllocError, Allocator};
 use std::cell::Cell;
@@ -6,10 +6,12 @@ use std::cell::Cell;
 #[cfg(test)]
 mod tests;
 
-/// Passes every request on to another allocator, but refuses one of them, or each one for more than so many bytes.
+/// Passes every request on to another allocator, but refuses one of them, or all from one on, or
+/// each one for more than so many bytes.
 ///
-/// A call of `grow` or `shrink` counts as a request too, since it allocates a new block: one for all the bytes of that.
-/// A test passes it as `&Refusing<B>`, which is an allocator as well, and `Copy`.
+/// A call of `grow` or `shrink` counts as a request too, since it allocates a new block: one for
+/// all the bytes of that. A test passes it as `&Refusing<B>`, which is an allocator as well, and
+/// `Copy`.
 #[derive(Drop)]
 pub struct Refusing<B: Allocator> {
     inner: B,
@@ -21,56 +23,84 @@ pub struct Refusing<B: Allocator> {
 struct Refusals {
     /// How many bytes a request may ask for at most.
     most: usize,
-    /// How many requests there are up to the refused one, counting it, and 0 once one has been refused.
-    until: Cell<u64>,
+    /// Whether those after the first refused one are refused as well.
+    lasting: bool,
+    /// How many requests are granted before that.
+    granted: Cell<u64>,
+    /// Whether a request has been refused.
+    refused: Cell<bool>,
+}
+
+impl Refusals {
+    /// Requests for at most so many bytes, of which so many are granted.
+    fn new(most: usize, lasting: bool, granted: u64) -> Refusals {
+        Refusals {
+            most,
+            lasting,
+            granted: Cell::new(granted),
+            refused: Cell::new(false),
+        }
+    }
 }
 
 impl<B: Allocator> Refusing<B> {
-    /// An allocator over `inner` that grants so many requests and refuses the next one alone: it grants the later ones again.
+    /// An allocator over `inner` that grants so many requests and refuses the next one alone: it
+    /// grants the later ones again.
     ///
     /// With `u64::MAX` it refuses none that a program lives to ask for.
     pub fn after(inner: B, granted: u64) -> Refusing<B> {
         Refusing {
             inner,
-            refusals: Refusals {
-                most: usize::MAX,
-                until: Cell::new(granted.saturating_add(1)),
-            },
+            refusals: Refusals::new(usize::MAX, false, granted),
         }
     }
 
-    /// An allocator over `inner` that refuses each request for more than so many bytes, and grants all others.
+    /// An allocator over `inner` that grants so many requests and refuses all later ones.
+    pub fn all_after(inner: B, granted: u64) -> Refusing<B> {
+        Refusing {
+            inner,
+            refusals: Refusals::new(usize::MAX, true, granted),
+        }
+    }
+
+    /// An allocator over `inner` that refuses each request for more than so many bytes, and
+    /// grants all others.
     pub fn above(inner: B, most: usize) -> Refusing<B> {
         Refusing {
             inner,
-            refusals: Refusals {
-                most,
-                until: Cell::new(u64::MAX),
-            },
+            refusals: Refusals::new(most, false, u64::MAX),
         }
     }
 
-    /// From now on it grants so many requests and refuses the next one alone, whatever came before. Those that are too
-    /// large for it stay refused.
+    /// From now on it grants so many requests, and refuses as it did at first, whatever came
+    /// before. Those that are too large for it stay refused.
     pub fn restart(&self, granted: u64) {
-        self.refusals.until.set(granted.saturating_add(1));
+        self.refusals.granted.set(granted);
+        self.refusals.refused.set(false);
+    }
+
+    /// From now on it grants all requests, but those that are too large for it. Whether it has
+    /// refused one stays.
+    pub fn relent(&self) {
+        self.refusals.granted.set(u64::MAX);
     }
 
     /// Whether a request has been refused, since the last restart if there was one.
     pub fn has_refused(&self) -> bool {
-        self.refusals.until.get() == 0
+        self.refusals.refused.get()
     }
 }
 
 /// Counts a request for so many bytes, and says whether it is refused.
 fn refuses(refusals: &Refusals, size: usize) -> bool {
-    if size > refusals.most {
-        refusals.until.set(0);
-        return true;
+    let granted = refusals.granted.get();
+    refusals.granted.set(granted.saturating_sub(1));
+    let comes_next = granted == 0 && (refusals.lasting || !refusals.refused.get());
+    let refused = comes_next || size > refusals.most;
+    if refused {
+        refusals.refused.set(true);
     }
-    let before = refusals.until.get();
-    refusals.until.set(before.saturating_sub(1));
-    before == 1
+    refused
 }
 
 unsafe impl<B: Allocator> Allocator for Refusing<B> {

@@ -3,18 +3,23 @@
 
 mod bounds;
 mod committee_sizes;
+mod committees;
 mod counting;
 mod drawn;
 mod every_bound;
+mod failing_devices;
 mod long_inputs;
 mod memory_free_texts;
 mod refused_bimaps;
 mod refused_codec;
 mod refused_insertions;
+mod refused_items;
 mod refused_lists;
 mod refused_maps;
+mod refused_programs;
 mod refused_queues;
 mod refused_sets;
+mod refused_texts;
 mod refused_unions;
 mod refused_value_maps;
 mod repeat_or_refusal;
@@ -27,17 +32,10 @@ mod stated_lengths;
 mod walk;
 mod watched;
 
-use crate::{ScriptedReader, ScriptedWriter, WriteFault};
+use crate::{ReadFault, ScriptedReader, ScriptedWriter, WriteFault};
 use committee_core::Watched;
 use std::alloc::Global;
 use std::io::ErrorKind;
-
-/// The bytes of a committee of four.
-const FOUR: &[u8] = b"\x04\x01\x03\x05\x09";
-
-/// The report on it.
-const FOUR_REPORT: &str =
-    "members 4\n0 1\n1 3\n2 5\n3 9\nN3f1 faults 1 quorum 3\nN5f1 faults 0 quorum 4 m-quorum 1\n";
 
 /// More than any report of these tests has bytes, and than any input has.
 const WHOLE: usize = 100_000;
@@ -50,6 +48,8 @@ struct Input<'a> {
     step: usize,
     /// How each call fails that comes after the bytes, if it does.
     failure: Option<ErrorKind>,
+    /// The call that goes wrong, counted from 0, and how.
+    fault: Option<(u32, ReadFault)>,
 }
 
 impl<'a> Input<'a> {
@@ -59,6 +59,7 @@ impl<'a> Input<'a> {
             bytes,
             step: WHOLE,
             failure: None,
+            fault: None,
         }
     }
 
@@ -68,12 +69,16 @@ impl<'a> Input<'a> {
             bytes,
             step: 1,
             failure: Some(kind),
+            fault: None,
         }
     }
 
     /// A reader that gives this.
     fn reader(&self) -> Watched<ScriptedReader<'a>> {
-        let device = ScriptedReader::new(self.bytes, self.step);
+        let mut device = ScriptedReader::new(self.bytes, self.step);
+        if let Some((at, way)) = self.fault {
+            device = device.with_fault(at, way);
+        }
         Watched::new(match self.failure {
             Some(kind) => device.failing(kind),
             None => device,
@@ -100,7 +105,7 @@ const TAKEN: Output = Output {
 };
 
 impl Output {
-    /// So many bytes are taken a call, but one call goes wrong.
+    /// So many bytes are taken a call, but one call goes wrong, or each from it on.
     fn failing(step: usize, at: u32, fault: WriteFault) -> Output {
         Output {
             step,

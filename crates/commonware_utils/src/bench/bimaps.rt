@@ -1,5 +1,7 @@
-//! Bimaps: what is built and refused, look-ups from both sides, texts, and what is written and read.
+//! Bimaps: what is built and refused, look-ups from both sides, texts, and what is written and
+//! read.
 use super::map_pairs::{gives, lends};
+use super::sets::UNSORTED;
 use super::{are_equal, is_debugged_as, is_shown_as, is_written_as, read, refuses};
 use crate::TryFromIterator;
 use crate::codec::{self, RangeCfg, round_trip};
@@ -7,7 +9,7 @@ use crate::ordered::{BiMap, Error, Map, Set, bimap_fault_law};
 use std::alloc::Global;
 use std::test::Fail;
 
-const REPEATED: codec::Error = codec::Error::Invalid(
+pub(super) const REPEATED: codec::Error = codec::Error::Invalid(
     "BiMap",
     "duplicate value detected during deserialization",
 );
@@ -23,10 +25,7 @@ const LISTS: [([(u8, char); 3], Option<Error>); 3] = [
 const NO_BIMAPS: [(&[u8], codec::Error); 4] = [
     (b"\x02\x01\x02\x02\x0a\x0a", REPEATED),
     (b"\x03\x01\x02\x03\x03\x0a\x14\x0a", REPEATED),
-    (
-        b"\x02\x02\x01\x02\x0a\x0a",
-        codec::Error::Invalid("Set", "items must be sorted and unique"),
-    ),
+    (b"\x02\x02\x01\x02\x0a\x0a", UNSORTED),
     (b"\x02\x01\x02\x02\x0a", codec::Error::EndOfBuffer),
 ];
 

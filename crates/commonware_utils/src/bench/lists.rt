@@ -1,5 +1,5 @@
 //! Lists of items.
-use super::{is_written_as, read, refuses};
+use super::{is_written_as, read};
 use crate::codec::{Error, RangeCfg, Source, list_fault_law, read_list};
 use std::test::Fail;
 
@@ -28,14 +28,6 @@ fn lists_nest(rt: HostRuntime) -> Result<(), Fail> {
         lists.len() == 2 && taken == 6 && is_written_as(alloc, &lists, b"\x02\x01\x02\x08\x09\x00")?
     );
     Ok(())
-}
-
-/// Over 100 GB would be reserved here, were room made for the stated length after the first good item.
-#[test]
-fn nothing_is_reserved_for_a_stated_length(rt: HostRuntime) {
-    let any = RangeCfg::from(..);
-    let rows = [(b"\xff\xff\xff\xff\x0f\x00".as_slice(), Error::EndOfBuffer)];
-    assert!(rt; refuses::<Vec<Vec<u8>>, _>(rt.alloc(), &(any, (any, ())), &rows));
 }
 
 #[test]

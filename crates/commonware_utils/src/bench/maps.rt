@@ -1,12 +1,11 @@
 //! Maps: look-ups, edits, texts, and what is written and read.
+use super::sets::UNSORTED;
 use super::{are_equal, is_debugged_as, is_shown_as, is_written_as, read, read_lists, refuses};
 use crate::Participant;
 use crate::codec::{Error, RangeCfg, round_trip};
 use crate::ordered::{Map, Set, map_fault_law};
 use std::alloc::{AllocError, Global};
 use std::test::Fail;
-
-const UNSORTED: Error = Error::Invalid("Set", "items must be sorted and unique");
 
 /// Keys, and their places and values in {1: 10, 5: 50, 9: 90}.
 const PLACES: [(u8, Option<usize>, Option<&u8>); 4] = [
@@ -195,13 +194,6 @@ fn maps_stand_in_lists(rt: HostRuntime) -> Result<(), Fail> {
 fn texts_that_are_no_map_are_refused(rt: HostRuntime) {
     let any = (RangeCfg::from(..), (), ());
     assert!(rt; refuses::<Map<u8, u8, _>, _>(rt.alloc(), &any, &NO_MAPS));
-}
-
-#[test]
-fn faults_of_a_nested_set_come_in_order(rt: HostRuntime) {
-    let any = RangeCfg::from(..);
-    let rows = [(b"\x01\x05\x01\x02\x03\x03".as_slice(), UNSORTED)];
-    assert!(rt; refuses::<Map<u8, Set<u8, _>, _>, _>(rt.alloc(), &(any, (), (any, ())), &rows));
 }
 
 /// What the reader of maps answers for a list of keys and the values 10, 20, 30 and 40.

@@ -7,7 +7,7 @@ use std::alloc::{AllocError, Allocator, Global};
 use std::cmp::Ordering;
 use std::test::Fail;
 
-const UNSORTED: Error = Error::Invalid("Set", "items must be sorted and unique");
+pub(super) const UNSORTED: Error = Error::Invalid("Set", "items must be sorted and unique");
 
 /// Texts that are no set of bytes, under any range.
 const NO_SETS: [(&[u8], Error); 5] = [
@@ -24,13 +24,6 @@ const NO_SHORT_SETS: [(&[u8], Error); 4] = [
     (b"\x04\x01\x02\x02\x03", UNSORTED),
     (b"\x03\x02\x01", Error::EndOfBuffer),
     (b"\x0b", Error::InvalidLength(11)),
-];
-
-/// Texts that are no set of sets: an inner set that isn't sorted, an outer one, and an inner one before a cut.
-const NO_NESTS: [(&[u8], Error); 3] = [
-    (b"\x01\x02\x02\x01", UNSORTED),
-    (b"\x02\x01\x05\x00", UNSORTED),
-    (b"\x02\x02\x07\x07\x80", UNSORTED),
 ];
 
 /// Items of two sets, and the order of the sets.
@@ -125,16 +118,6 @@ fn sets_of_sets_are_written_and_read(rt: HostRuntime) -> Result<(), Fail> {
             && read::<Set<Set<u8, _>, _>, _>(alloc, bytes, &(any, (any, ()))) == (Ok(nest), 9)
     );
     Ok(())
-}
-
-#[test]
-fn the_first_fault_of_a_nest_is_named(rt: HostRuntime) {
-    let (any, one) = (RangeCfg::from(..), RangeCfg::from(..=1));
-    let rows = [(b"\x02\x00\x02".as_slice(), Error::InvalidLength(2))];
-    assert!(rt;
-        refuses::<Set<Set<u8, _>, _>, _>(rt.alloc(), &(any, (any, ())), &NO_NESTS)
-            && refuses::<Set<Set<u8, _>, _>, _>(rt.alloc(), &(any, (one, ())), &rows)
-    );
 }
 
 #[test]

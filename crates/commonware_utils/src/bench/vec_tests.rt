@@ -1,6 +1,7 @@
 //! The tests of the Rust crate's module `vec`, each with the name that it has there.
 ghost use Rattle.std.specs.Prelude.{◌≡◌, ◌≤◌, ◌∷◌, [], IfOk, length};
 
+use super::vecs::EMPTY;
 use super::{comes_back, is_written_as, refuses};
 use crate::codec::{Error as CodecError, RangeCfg};
 use crate::vec::{Bounded, Error, Mutate, NonEmptyVec};
@@ -340,11 +341,7 @@ fn test_codec_rejects_empty(rt: HostRuntime) -> Result<(), Fail> {
     let bytes = b"\x00".as_slice();
     assert!(rt; is_written_as(alloc, &empty, bytes)?);
     for range in [RangeCfg::from(..), RangeCfg::from(..ten)] {
-        let rows = [(
-            bytes,
-            CodecError::Invalid("NonEmptyVec", "cannot decode empty vector"),
-        )];
-        assert!(rt; refuses::<NonEmptyVec<u8, _>, _>(alloc, &(range, ()), &rows));
+        assert!(rt; refuses::<NonEmptyVec<u8, _>, _>(alloc, &(range, ()), &[(bytes, EMPTY)]));
     }
     let from_one = (RangeCfg::from(NZUsize!(1)..ten), ());
     let rows = [(bytes, CodecError::InvalidLength(0))];

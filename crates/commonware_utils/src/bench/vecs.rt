@@ -10,14 +10,10 @@ use std::collections::VecDeque;
 use std::num::NonZeroUsize;
 use std::test::Fail;
 
-const EMPTY: CodecError = CodecError::Invalid("NonEmptyVec", "cannot decode empty vector");
-
-/// Texts that are no list of lists that are never empty.
-const NO_NESTS: [(&[u8], CodecError); 3] = [
-    (b"\x02\x01\x07\x00", EMPTY),
-    (b"\x02\x00\x80", EMPTY),
-    (b"\x02\x01\x07\x80", CodecError::EndOfBuffer),
-];
+pub(super) const EMPTY: CodecError = CodecError::Invalid(
+    "NonEmptyVec",
+    "cannot decode empty vector",
+);
 
 /// Items of two lists, and the order of the lists.
 const ORDERS: [(&[u8], &[u8], Ordering); 4] = [
@@ -217,12 +213,6 @@ fn empty_lists_are_refused_by_their_range_first(rt: HostRuntime) {
         (b"\x80", CodecError::EndOfBuffer),
     ];
     assert!(rt; refuses::<NonEmptyVec<u8, _>, _>(rt.alloc(), &(none, ()), &rows));
-}
-
-#[test]
-fn faults_of_a_nest_come_in_order(rt: HostRuntime) {
-    let cfg = (RangeCfg::from(..), (RangeCfg::from(..), ()));
-    assert!(rt; refuses::<NonEmptyVec<NonEmptyVec<u8, _>, _>, _>(rt.alloc(), &cfg, &NO_NESTS));
 }
 
 #[test]

@@ -1,6 +1,13 @@
-use crate::{ScriptedReader, ScriptedWriter, WriteFault};
+use crate::{ReadFault, ScriptedReader, ScriptedWriter, WriteFault};
 use std::io::{ErrorKind, Read, Write};
 use std::test::Fail;
+
+/// What a call answers: how many bytes, or the kind of its error.
+type Answer = Result<usize, ErrorKind>;
+
+const BROKEN: Answer = Err(ErrorKind::BrokenPipe);
+
+const INTERRUPTED: Answer = Err(ErrorKind::Interrupted);
 
 #[test]
 fn a_reader_ends_or_fails_after_its_bytes(rt: HostRuntime) -> Result<(), Fail> {
@@ -27,24 +34,121 @@ fn a_reader_ends_or_fails_after_its_bytes(rt: HostRuntime) -> Result<(), Fail> {
     Ok(())
 }
 
+/// Of a reader of four bytes, two a call: the call that goes wrong, how, and what each call
+/// answers and leaves.
+const READS: [(u32, ReadFault, [(Answer, &[u8]); 4]); 6] = [
+    (
+        0,
+        ReadFault::Fails(ErrorKind::BrokenPipe),
+        [
+            (BROKEN, b"abcd"),
+            (Ok(2), b"cd"),
+            (Ok(2), b""),
+            (Ok(0), b""),
+        ],
+    ),
+    (
+        1,
+        ReadFault::Fails(ErrorKind::Interrupted),
+        [
+            (Ok(2), b"cd"),
+            (INTERRUPTED, b"cd"),
+            (Ok(2), b""),
+            (Ok(0), b""),
+        ],
+    ),
+    (
+        2,
+        ReadFault::Fails(ErrorKind::BrokenPipe),
+        [(Ok(2), b"cd"), (Ok(2), b""), (BROKEN, b""), (Ok(0), b"")],
+    ),
+    (
+        1,
+        ReadFault::GivesOneByte,
+        [(Ok(2), b"cd"), (Ok(1), b"d"), (Ok(1), b""), (Ok(0), b"")],
+    ),
+    (
+        2,
+        ReadFault::GivesOneByte,
+        [(Ok(2), b"cd"), (Ok(2), b""), (Ok(0), b""), (Ok(0), b"")],
+    ),
+    (
+        9,
+        ReadFault::Fails(ErrorKind::BrokenPipe),
+        [(Ok(2), b"cd"), (Ok(2), b""), (Ok(0), b""), (Ok(0), b"")],
+    ),
+];
+
 #[test]
-fn a_writer_goes_wrong_at_one_call_alone(rt: HostRuntime) -> Result<(), Fail> {
-    for fault in [
+fn a_reader_goes_wrong_at_one_call_alone(rt: HostRuntime) {
+    for (at, way, calls) in READS {
+        let mut input = ScriptedReader::new(b"abcd", 2).with_fault(at, way);
+        for (wanted, rest) in calls {
+            let mut buf = [0; 9];
+            let before = input.rest;
+            let answer = input.read(&mut buf).map_err(|error| error.kind());
+            let given = answer.unwrap_or(0).min(9);
+            assert!(rt;
+                answer == wanted && input.rest == rest && before.starts_with(&buf[..given]),
+                "{at} {way:?}"
+            );
+        }
+        assert!(rt; input.calls == 4, "{at} {way:?}");
+    }
+}
+
+/// Of a writer that takes two bytes a call: how its second call goes wrong, what each call with
+/// three bytes answers, and what was taken in all.
+const WRITES: [(WriteFault, [Answer; 4], &[u8]); 5] = [
+    (
         WriteFault::Fails(ErrorKind::Interrupted),
+        [Ok(2), INTERRUPTED, Ok(2), Ok(2)],
+        b"ababab",
+    ),
+    (
         WriteFault::TakesNothing,
-    ] {
+        [Ok(2), Ok(0), Ok(2), Ok(2)],
+        b"ababab",
+    ),
+    (
+        WriteFault::TakesOneByte,
+        [Ok(2), Ok(1), Ok(2), Ok(2)],
+        b"abaabab",
+    ),
+    (
+        WriteFault::Breaks(ErrorKind::BrokenPipe),
+        [Ok(2), BROKEN, BROKEN, BROKEN],
+        b"ab",
+    ),
+    (
+        WriteFault::Breaks(ErrorKind::Interrupted),
+        [Ok(2), INTERRUPTED, INTERRUPTED, INTERRUPTED],
+        b"ab",
+    ),
+];
+
+/// Only a lasting fault is met again.
+#[test]
+fn a_writer_goes_wrong_at_one_call_or_from_it_on(rt: HostRuntime) {
+    for (fault, answers, taken) in WRITES {
         let mut output = ScriptedWriter::new(rt.alloc(), 2).with_fault(1, fault);
-        let before = output.write(b"abc")?;
-        let wrong = match output.write(b"c") {
-            Ok(taken) => taken == 0 && fault == WriteFault::TakesNothing,
-            Err(error) => fault == WriteFault::Fails(error.kind()),
-        };
-        let after = output.write(b"c")?;
-        assert!(rt; (before, wrong, after) == (2, true, 1), "{fault:?}");
+        for wanted in answers {
+            let answer = output.write(b"abc").map_err(|error| error.kind());
+            assert!(rt; answer == wanted, "{fault:?}");
+        }
         assert!(rt;
-            output.taken.as_slice() == b"abc".as_slice() && output.calls == 3,
+            output.taken.as_slice() == taken && output.calls == 4,
             "{fault:?}"
         );
+    }
+}
+
+#[test]
+fn a_writer_that_takes_no_byte_takes_none_when_it_goes_wrong(rt: HostRuntime) -> Result<(), Fail> {
+    let mut output = ScriptedWriter::new(rt.alloc(), 0).with_fault(0, WriteFault::TakesOneByte);
+    for _ in 0..2 {
+        let taken = output.write(b"abc")?;
+        assert!(rt; taken == 0 && output.taken.is_empty());
     }
     Ok(())
 }

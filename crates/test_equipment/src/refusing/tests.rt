@@ -22,6 +22,18 @@ fn later_requests_are_granted_again(rt: HostRuntime) {
 }
 
 #[test]
+fn all_later_requests_are_refused(rt: HostRuntime) {
+    let heap = Refusing::all_after(rt.alloc(), 1);
+    for granted in [true, false, false, false] {
+        let bytes: Result<Vec<u8, &Refusing<Global>>, _> = Vec::with_capacity(&heap, 4);
+        assert!(rt; bytes.is_ok() == granted && heap.has_refused() != granted);
+    }
+    heap.relent();
+    let bytes: Result<Vec<u8, &Refusing<Global>>, _> = Vec::with_capacity(&heap, 4);
+    assert!(rt; bytes.is_ok() && heap.has_refused());
+}
+
+#[test]
 fn large_requests_are_refused_each_time(rt: HostRuntime) {
     let heap = Refusing::above(rt.alloc(), 64);
     for (items, granted) in [(64, true), (65, false), (1, true), (65, false), (64, true)] {

@@ -1,31 +1,17 @@
 //! The report on a committee of each size there can be.
 use super::WHOLE;
+use super::committees::{committee_of, write_line};
 use super::counting::most_faults;
 use super::session_trial::{is_right, read_session};
 use std::alloc::{AllocError, Global};
 use std::test::Fail;
 
-/// The bytes of the committee of the members 0 to n - 1, for `n` from 1 to 256.
-pub fn committee_of(alloc: Global, n: u64) -> Result<Vec<u8>, AllocError> {
-    let mut bytes = Vec::new(alloc);
-    if n < 128 {
-        bytes.push((n % 128) as u8)?;
-    } else {
-        bytes.push((128 + n % 128) as u8)?;
-        bytes.push((n / 128 % 128) as u8)?;
-    }
-    for member in 0..n {
-        bytes.push((member % 256) as u8)?;
-    }
-    Ok(bytes)
-}
-
-/// The report on it.
+/// The report on the committee of `n` members.
 fn report_on(alloc: Global, n: u64) -> Result<String, AllocError> {
     let mut report = String::new(alloc);
     writeln!(report, "members {n}")?;
     for member in 0..n {
-        writeln!(report, "{member} {member}")?;
+        write_line(&mut report, member)?;
     }
     let n3f1_faults = most_faults(3, n);
     let quorum = n.saturating_sub(n3f1_faults);
@@ -40,16 +26,24 @@ fn report_on(alloc: Global, n: u64) -> Result<String, AllocError> {
     Ok(report)
 }
 
-/// The bytes come, and the report goes, at once or in pieces.
+/// How many bytes come at once, and how many of the report go.
+fn steps(n: u64) -> &'static [(usize, usize)] {
+    if n < 5 || n > 254 {
+        &[(WHOLE, WHOLE), (1, WHOLE), (7, 1)]
+    } else {
+        &[(WHOLE, WHOLE), (100, 1000)]
+    }
+}
+
 #[test]
 fn a_committee_of_each_size_is_reported(rt: HostRuntime) -> Result<(), Fail> {
     let alloc = rt.alloc();
     for n in 1..=256 {
         let (bytes, report) = (committee_of(alloc, n)?, report_on(alloc, n)?);
-        for (given, taken) in [(WHOLE, WHOLE), (1, WHOLE), (7, 1)] {
+        for (given, taken) in steps(n) {
             let mut wanted = read_session(&bytes, &report);
-            wanted.input.step = given;
-            wanted.output.step = taken;
+            wanted.input.step = *given;
+            wanted.output.step = *taken;
             assert!(rt; is_right(alloc, &wanted)?, "{n} {given} {taken}");
         }
     }

@@ -108,7 +108,7 @@ fn refusal<'a>(form: Form, heap: Heap<'a>, src: &mut Source<'_>) -> Option<Error
 
 #[test]
 fn what_needs_no_memory_is_read_without(rt: HostRuntime) {
-    let heap = Refusing::after(rt.alloc(), 0);
+    let heap = Refusing::all_after(rt.alloc(), 0);
     for (form, bytes, wanted) in TEXTS {
         let mut src = Source::new(bytes);
         let error = refusal(form, &heap, &mut src);

@@ -2,14 +2,15 @@
 //! calls that take none.
 use super::walk::{Heap, Outcome, Refusable, asks_for, full, refused};
 use crate::Refusing;
-use commonware_utils::TryFromIterator;
 use commonware_utils::ordered::{BiMap, Error, Map};
+use commonware_utils::{TryCollect, TryFromIterator};
 use std::test::Fail;
 
 /// A builder of bimaps.
 #[derive(Clone, Copy, Debug)]
 enum Builder {
     Iterator,
+    Collect,
     List,
     Map,
     Slice,
@@ -17,8 +18,9 @@ enum Builder {
     ArrayRef,
 }
 
-const BUILDERS: [Builder; 6] = [
+const BUILDERS: [Builder; 7] = [
     Builder::Iterator,
+    Builder::Collect,
     Builder::List,
     Builder::Map,
     Builder::Slice,
@@ -41,6 +43,7 @@ fn build<'a>(
 ) -> Result<BiMap<u8, u8, Heap<'a>>, Error> {
     match builder {
         Builder::Iterator => BiMap::try_from_iter(heap, *pairs),
+        Builder::Collect => TryCollect::try_collect(pairs.iter().copied(), heap),
         Builder::List => BiMap::try_from_vec(Vec::from_slice(heap, pairs)?),
         Builder::Map => BiMap::try_from_map(Map::try_from_slice(heap, pairs)?),
         Builder::Slice => BiMap::try_from_slice(heap, pairs),
@@ -124,7 +127,7 @@ fn each_request_is_refused_in_turn(rt: HostRuntime) {
 /// The map is there; the set in which its values are looked up is refused.
 #[test]
 fn a_map_is_no_bimap_without_memory(rt: HostRuntime) -> Result<(), Fail> {
-    let heap = Refusing::after(rt.alloc(), u64::MAX);
+    let heap = Refusing::all_after(rt.alloc(), u64::MAX);
     let map = Map::try_from_iter(&heap, [(1u8, 10u8), (2, 20)])?;
     heap.restart(0);
     assert!(rt; BiMap::try_from_map(map).err() == Some(Error::Memory) && heap.has_refused());
@@ -134,7 +137,7 @@ fn a_map_is_no_bimap_without_memory(rt: HostRuntime) -> Result<(), Fail> {
 /// A map without pairs is taken without memory too.
 #[test]
 fn bimaps_are_looked_up_without_memory(rt: HostRuntime) -> Result<(), Fail> {
-    let heap = Refusing::after(rt.alloc(), u64::MAX);
+    let heap = Refusing::all_after(rt.alloc(), u64::MAX);
     let (bimap, other) = (three(&heap)?, three(&heap)?);
     heap.restart(0);
     assert!(rt;

@@ -1,5 +1,5 @@
-//! The builders of sets and maps at many items in many orders, with each request for memory refused
-//! in turn, and lists that are sets already.
+//! The builders of sets and maps at many items in many orders, with each request for memory
+//! refused in turn, and lists that are sets already.
 use super::refused_maps::{self, BUILDERS as MAP_BUILDERS};
 use super::refused_sets::{self, BUILDERS as SET_BUILDERS};
 use super::walk::{Heap, Outcome, Refusable, asks_for, full, refused};
@@ -100,7 +100,7 @@ fn each_request_of_a_map_is_refused_in_turn(rt: HostRuntime) {
 #[test]
 fn a_list_that_is_a_set_is_taken_without_memory(rt: HostRuntime) -> Result<(), Fail> {
     for count in [0, 1, 2, 40] {
-        let heap = Refusing::after(rt.alloc(), u64::MAX);
+        let heap = Refusing::all_after(rt.alloc(), u64::MAX);
         let items: Vec<u32, Heap<'_>> = (0..count).collect(&heap)?;
         heap.restart(0);
         let set = Set::try_from_vec(items)?;

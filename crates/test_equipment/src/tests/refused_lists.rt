@@ -1,10 +1,11 @@
-//! Lists that are never empty, with each of their requests for memory refused in turn: what was lent is as it was, what
-//! was pushed comes back, and a closure was called for no item. The calls that take none are answered.
+//! Lists that are never empty, with each of their requests for memory refused in turn: what was
+//! lent is as it was, what was pushed comes back, and a closure was called for no item. The calls
+//! that take none are answered.
 use super::walk::{Heap, Outcome, Refusable, asks_for, full, refused};
 use crate::Refusing;
 use commonware_utils::codec::EncodeSize;
 use commonware_utils::vec::{Error, Mutate, NonEmptyVec};
-use commonware_utils::{NZUsize, TryFromIterator, non_empty_vec};
+use commonware_utils::{NZUsize, TryCollect, TryFromIterator, non_empty_vec};
 use std::test::Fail;
 
 type List<'a> = NonEmptyVec<u8, Heap<'a>>;
@@ -54,7 +55,8 @@ const GROWTHS: [Growth; 5] = [
     },
 ];
 
-/// What the call answers, as the item that came back where one did, and how often a closure was called.
+/// What the call answers, as the item that came back where one did, and how often a closure was
+/// called.
 fn grown_by(call: Grow, list: &mut List<'_>) -> (Result<(), Option<u8>>, u32) {
     let mut calls = 0u32;
     let answer = match call {
@@ -104,6 +106,7 @@ impl Refusable for Growth {
 enum Make {
     One,
     Iterator,
+    Collect,
     Slice,
     Array,
     ArrayRef,
@@ -116,9 +119,10 @@ enum Make {
     MacroOfVariable,
 }
 
-const MAKES: [Make; 12] = [
+const MAKES: [Make; 13] = [
     Make::One,
     Make::Iterator,
+    Make::Collect,
     Make::Slice,
     Make::Array,
     Make::ArrayRef,
@@ -142,6 +146,7 @@ fn made_by<'a>(
     let made = match call {
         Make::One => NonEmptyVec::new(heap, 7u8),
         Make::Iterator => NonEmptyVec::try_from_iter(heap, [1u8, 2, 3]),
+        Make::Collect => TryCollect::try_collect([1u8, 2, 3].into_iter(), heap),
         Make::Slice => NonEmptyVec::try_from_slice(heap, list.as_slice()),
         Make::Array => NonEmptyVec::try_from_array(heap, [1u8, 2, 3]),
         Make::ArrayRef => NonEmptyVec::try_from_array_ref(heap, &[1u8, 2, 3]),
@@ -197,7 +202,7 @@ fn each_request_is_refused_in_turn(rt: HostRuntime) {
 
 #[test]
 fn a_list_gets_shorter_without_memory(rt: HostRuntime) -> Result<(), Fail> {
-    let heap = Refusing::after(rt.alloc(), u64::MAX);
+    let heap = Refusing::all_after(rt.alloc(), u64::MAX);
     let mut list = non_empty_vec!(&heap => 1u8, 2, 3, 4, 5, 6)?;
     heap.restart(0);
     assert!(rt; list.remove(1) == Some(2) && list.pop() == Some(6));

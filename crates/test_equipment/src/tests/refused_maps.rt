@@ -1,10 +1,10 @@
-//! The builders of maps and their pairs with each request for memory refused in turn, and the calls
-//! that take none.
+//! The builders of maps and their pairs with each request for memory refused in turn, and the
+//! calls that take none.
 use super::walk::{Heap, Outcome, Refusable, asks_for, full, refused};
 use crate::Refusing;
-use commonware_utils::TryFromIterator;
 use commonware_utils::codec::EncodeSize;
 use commonware_utils::ordered::{Error, Map, Set};
+use commonware_utils::{TryCollect, TryFromIterator};
 use std::test::Fail;
 
 /// A way to make a map of pairs.
@@ -12,6 +12,7 @@ use std::test::Fail;
 pub(super) enum Builder {
     Dedup,
     Iterator,
+    Collect,
     List,
     Slice,
     Array,
@@ -19,9 +20,10 @@ pub(super) enum Builder {
 }
 
 /// Each of them.
-pub(super) const BUILDERS: [Builder; 6] = [
+pub(super) const BUILDERS: [Builder; 7] = [
     Builder::Dedup,
     Builder::Iterator,
+    Builder::Collect,
     Builder::List,
     Builder::Slice,
     Builder::Array,
@@ -43,6 +45,7 @@ pub(super) fn build<'a, const N: usize>(
     match builder {
         Builder::Dedup => Ok(Map::from_iter_dedup(heap, pairs.iter().copied())?),
         Builder::Iterator => Map::try_from_iter(heap, pairs.iter().copied()),
+        Builder::Collect => TryCollect::try_collect(pairs.iter().copied(), heap),
         Builder::List => Map::try_from_vec(Vec::from_slice(heap, pairs)?),
         Builder::Slice => Map::try_from_slice(heap, pairs),
         Builder::Array => Map::try_from_array(heap, *pairs),
@@ -128,7 +131,7 @@ fn each_request_is_refused_in_turn(rt: HostRuntime) {
 
 #[test]
 fn maps_are_looked_up_and_given_up_without_memory(rt: HostRuntime) -> Result<(), Fail> {
-    let heap = Refusing::after(rt.alloc(), u64::MAX);
+    let heap = Refusing::all_after(rt.alloc(), u64::MAX);
     let mut map = Map::try_from_slice(&heap, &PAIRS)?;
     let keys = Set::from_iter_dedup(&heap, [1u32, 3, 5])?;
     let values = vec![in &heap; 10u8, 31, 50]?;

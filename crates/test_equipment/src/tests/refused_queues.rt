@@ -1,4 +1,5 @@
-//! Bounded queues with each of their requests for memory refused in turn, and their calls that take none.
+//! Bounded queues with each of their requests for memory refused in turn, and their calls that
+//! take none.
 use super::walk::{Heap, Outcome, Refusable, asks_for, full, refused};
 use crate::Refusing;
 use commonware_utils::NZUsize;
@@ -18,6 +19,7 @@ impl Refusable for Pushes {
             let mut answer = queue.push(item);
             if answer == Err(item) && queue.len() == before {
                 came_back = true;
+                heap.relent();
                 answer = queue.push(item);
             }
             if answer != Ok(None) {
@@ -59,7 +61,7 @@ fn each_request_is_refused_in_turn(rt: HostRuntime) {
 
 #[test]
 fn a_full_queue_takes_no_memory(rt: HostRuntime) {
-    let heap = Refusing::after(rt.alloc(), u64::MAX);
+    let heap = Refusing::all_after(rt.alloc(), u64::MAX);
     let mut queue = Bounded::new(&heap, NZUsize!(3));
     for item in 1u8..=3 {
         let _ = queue.push(item);

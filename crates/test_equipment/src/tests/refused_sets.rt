@@ -99,7 +99,7 @@ fn each_request_is_refused_in_turn(rt: HostRuntime) {
 
 #[test]
 fn sets_are_read_and_given_up_without_memory(rt: HostRuntime) -> Result<(), Fail> {
-    let heap = Refusing::after(rt.alloc(), u64::MAX);
+    let heap = Refusing::all_after(rt.alloc(), u64::MAX);
     let set = Set::from_iter_dedup(&heap, [5u32, 1, 3])?;
     let other = Set::from_iter_dedup(&heap, [5u32, 1])?;
     heap.restart(0);

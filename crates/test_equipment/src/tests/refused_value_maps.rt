@@ -1,5 +1,5 @@
-//! The value maps with each of their requests for memory refused in turn: before a refusal the closure was called for no
-//! entry, or for every one where the clone of the keys is refused.
+//! The value maps with each of their requests for memory refused in turn: before a refusal the
+//! closure was called for no entry, or for every one where the clone of the keys is refused.
 use super::walk::{Heap, Outcome, Refusable, full, refused, requests};
 use commonware_utils::ordered::{Map, MapError, Set};
 use std::alloc::AllocError;
@@ -13,15 +13,18 @@ enum Call {
     LentFailed,
     Owned,
     OwnedTried,
+    /// As the one before, with a closure that fails.
+    OwnedFailed,
 }
 
 /// Each call, and how many requests it makes: room for the values and the clone of the keys.
-const CALLS: [(Call, u64); 5] = [
+const CALLS: [(Call, u64); 6] = [
     (Call::Lent, 2),
     (Call::LentTried, 2),
     (Call::LentFailed, 1),
     (Call::Owned, 1),
     (Call::OwnedTried, 1),
+    (Call::OwnedFailed, 1),
 ];
 
 type Tens<'a> = Map<u8, u8, Heap<'a>>;
@@ -38,7 +41,8 @@ fn half(value: u8, calls: &mut u32) -> u8 {
     value / 2
 }
 
-/// What the call answers where the closure halves a value or fails with its key, and how often the closure was called.
+/// What the call answers where the closure halves a value or fails with its key, and how often
+/// the closure was called.
 fn call_on<'a>(
     call: Call,
     map: &Tens<'a>,
@@ -55,6 +59,7 @@ fn call_on<'a>(
             .map_values_into(|_, value| half(value, &mut calls))
             .map_err(MapError::from),
         Call::OwnedTried => owned.try_map_values_into(|_, value| Ok(half(value, &mut calls))),
+        Call::OwnedFailed => owned.try_map_values_into(|key, _| Err(*key)),
     };
     (answer, calls)
 }

@@ -1,6 +1,7 @@
 //! A session over scripted devices, and whether it comes to what it has to.
+use super::committees::{TWO, TWO_REPORT};
 use super::walk::Heap;
-use super::{FOUR, FOUR_REPORT, Input, Output, TAKEN};
+use super::{Input, Output, TAKEN};
 use crate::Refusing;
 use committee_core::{Watched, session};
 use std::alloc::{AllocError, Global};
@@ -39,9 +40,9 @@ pub fn read_session<'a>(bytes: &'a [u8], report: &'a str) -> Session<'a> {
     }
 }
 
-/// The session that reports on the committee of four.
-pub fn four_session() -> Session<'static> {
-    read_session(FOUR, FOUR_REPORT)
+/// The session that reports on the committee of two.
+pub fn two_session() -> Session<'static> {
+    read_session(TWO, TWO_REPORT)
 }
 
 /// The words, as the program gets them.
@@ -56,8 +57,21 @@ pub fn words_of<'a>(
     Ok(strings)
 }
 
-/// Whether the session comes to what it has to. Nothing is read but for the word `read`, the writer isn't called where
-/// nothing is to be written, and standard error isn't called again where it failed.
+/// The program's name and then the words, as the program gets them.
+pub fn arguments_of<'a>(
+    heap: Heap<'a>,
+    words: &[&str],
+) -> Result<Vec<String<Heap<'a>>, Heap<'a>>, AllocError> {
+    let mut strings = words_of(heap, &["committee"])?;
+    for word in words {
+        strings.push(String::from_str(heap, word)?)?;
+    }
+    Ok(strings)
+}
+
+/// Whether the session comes to what it has to. Nothing is read but for the word `read`, the
+/// writer isn't called where nothing is to be written, and standard error isn't called again
+/// where it failed.
 pub fn is_right(alloc: Global, wanted: &Session<'_>) -> Result<bool, AllocError> {
     let heap = Refusing::after(alloc, u64::MAX);
     let words = words_of(&heap, wanted.words)?;

@@ -1,11 +1,12 @@
 //! What a session writes, says and answers.
 use super::bounds::{MOST, ONE, SIX, TEN};
-use super::session_trial::{READ, Session, four_session, is_right, read_session, words_of};
-use super::walk::{Heap, Outcome, Refusable, asks_for, full, refused};
-use super::{FOUR, FOUR_REPORT, Input, Output, TAKEN, WHOLE};
+use super::committees::{
+    ONE_AND_A_BYTE, ONE_CUT_SHORT, TWO, TWO_EQUAL, TWO_FALLING, TWO_REPORT, committee_of_256,
+};
+use super::session_trial::{READ, Session, is_right, read_session, two_session, words_of};
+use super::{Input, Output, TAKEN, WHOLE};
 use crate::{Refusing, WriteFault};
-use committee_core::{Command, Watched, parse_args, session};
-use std::alloc::Global;
+use committee_core::{Command, parse_args};
 use std::io::ErrorKind;
 use std::num::NonZeroU32;
 use std::test::Fail;
@@ -21,13 +22,13 @@ const BOUNDS: [(&[&str], &str); 5] = [
 
 #[test]
 fn reports_are_written(rt: HostRuntime) -> Result<(), Fail> {
-    assert!(rt; is_right(rt.alloc(), &four_session())?);
+    assert!(rt; is_right(rt.alloc(), &two_session())?);
     for (words, report) in BOUNDS {
         let wanted = Session {
             words,
             input: Input::failing(b"", ErrorKind::BrokenPipe),
             written: Some(report),
-            ..four_session()
+            ..two_session()
         };
         assert!(rt; is_right(rt.alloc(), &wanted)?, "{words:?}");
     }
@@ -37,13 +38,7 @@ fn reports_are_written(rt: HostRuntime) -> Result<(), Fail> {
 #[test]
 fn a_committee_has_at_most_256_members(rt: HostRuntime) -> Result<(), Fail> {
     let alloc = rt.alloc();
-    let mut bytes = vec![in alloc; 0x80u8, 2]?;
-    let mut report = String::from_str(alloc, "members 256\n")?;
-    for member in 0..=255u8 {
-        bytes.push(member)?;
-        writeln!(report, "{member} {member}")?;
-    }
-    report.push_str("N3f1 faults 85 quorum 171\nN5f1 faults 51 quorum 205 m-quorum 103\n")?;
+    let (bytes, report) = committee_of_256(alloc)?;
     let wanted = read_session(&bytes, &report);
     assert!(rt; is_right(alloc, &wanted)?);
     Ok(())
@@ -53,11 +48,14 @@ fn a_committee_has_at_most_256_members(rt: HostRuntime) -> Result<(), Fail> {
 fn other_bytes_are_refused(rt: HostRuntime) -> Result<(), Fail> {
     for (bytes, said) in [
         (b"\x00".as_slice(), "refused: length 0\n"),
-        (b"\x01\x05\x06", "refused: 1 bytes left over\n"),
+        (ONE_AND_A_BYTE, "refused: 1 bytes left over\n"),
+        (TWO_EQUAL, "refused: Set: items must be sorted and unique\n"),
         (
-            b"\x02\x05\x05",
+            TWO_FALLING,
             "refused: Set: items must be sorted and unique\n",
         ),
+        (ONE_CUT_SHORT, "refused: end of input\n"),
+        (b"\x04\x01\x03\x05\x09", "refused: end of input\n"),
         (b"\x81\x02", "refused: length 257\n"),
         (b"\xff\xff\xff\xff\x0f\x01", "refused: length 4294967295\n"),
         (b"", "refused: end of input\n"),
@@ -70,7 +68,7 @@ fn other_bytes_are_refused(rt: HostRuntime) -> Result<(), Fail> {
             status: 1,
             written: Some(""),
             said,
-            ..four_session()
+            ..two_session()
         };
         assert!(rt; is_right(rt.alloc(), &wanted)?, "{bytes:?}");
     }
@@ -118,7 +116,7 @@ fn other_words_get_the_usage_line(rt: HostRuntime) -> Result<(), Fail> {
             status: 2,
             written: Some(""),
             said: "usage: committee read, or committee bounds <n>\n",
-            ..four_session()
+            ..two_session()
         };
         assert!(rt; is_right(rt.alloc(), &wanted)?, "{words:?}");
     }
@@ -128,7 +126,7 @@ fn other_words_get_the_usage_line(rt: HostRuntime) -> Result<(), Fail> {
 /// Words are looked at without memory.
 #[test]
 fn words_ask_for_a_command(rt: HostRuntime) -> Result<(), Fail> {
-    let heap = Refusing::after(rt.alloc(), u64::MAX);
+    let heap = Refusing::all_after(rt.alloc(), u64::MAX);
     let read = words_of(&heap, READ)?;
     let bounds = words_of(&heap, &["bounds", "0000000006"])?;
     heap.restart(0);
@@ -155,7 +153,7 @@ fn failures_give_status_3(rt: HostRuntime) -> Result<(), Fail> {
         status: 3,
         written: None,
         said: "failed: write\n",
-        ..four_session()
+        ..two_session()
     };
     let failed_bounds = Session {
         words: &["bounds", "10"],
@@ -168,14 +166,14 @@ fn failures_give_status_3(rt: HostRuntime) -> Result<(), Fail> {
             status: 3,
             written: Some(""),
             said: "failed: read\n",
-            ..four_session()
+            ..two_session()
         },
         Session {
             granted: 0,
             status: 3,
             written: Some(""),
             said: "failed: out of memory\n",
-            ..four_session()
+            ..two_session()
         },
         Session {
             output: Output::failing(WHOLE, 0, WriteFault::TakesNothing),
@@ -203,7 +201,7 @@ fn a_failing_standard_error_changes_no_status(rt: HostRuntime) -> Result<(), Fai
     for (words, input, fault, status, written) in [
         (write, Input::of(b""), broken, 2, ""),
         (READ, Input::of(b"\x00"), broken, 1, ""),
-        (READ, Input::of(FOUR), broken, 0, FOUR_REPORT),
+        (READ, Input::of(TWO), broken, 0, TWO_REPORT),
         (READ, interrupted, WriteFault::TakesNothing, 3, ""),
     ] {
         let wanted = Session {
@@ -212,44 +210,9 @@ fn a_failing_standard_error_changes_no_status(rt: HostRuntime) -> Result<(), Fai
             errors: Output::failing(WHOLE, 0, fault),
             status,
             written: Some(written),
-            ..four_session()
+            ..two_session()
         };
         assert!(rt; is_right(rt.alloc(), &wanted)?, "{words:?} {fault:?}");
     }
     Ok(())
-}
-
-/// The session on the committee of four. Its devices keep what they take in memory of their own.
-#[derive(Drop)]
-struct FourSession {
-    alloc: Global,
-}
-
-impl Refusable for FourSession {
-    fn outcome(&self, heap: Heap<'_>, granted: u64) -> Outcome {
-        let Ok(words) = words_of(heap, READ) else {
-            return Outcome::Wrong;
-        };
-        let mut input = Input::of(FOUR).reader();
-        let mut output = Watched::new(TAKEN.writer(self.alloc));
-        let mut errors = TAKEN.writer(self.alloc);
-        heap.restart(granted);
-        let status = session(heap, &words, &mut input, &mut output, &mut errors);
-        let device = output.inner();
-        let (taken, said) = (device.taken.as_slice(), errors.taken.as_slice());
-        match status {
-            0 => full(taken == FOUR_REPORT.as_bytes() && said.is_empty()),
-            3 => {
-                let silent = (device.calls, device.flushes) == (0, 0);
-                refused(silent && said == b"failed: out of memory\n".as_slice())
-            }
-            _ => Outcome::Wrong,
-        }
-    }
-}
-
-#[test]
-fn each_refused_request_gives_status_3(rt: HostRuntime) {
-    let alloc = rt.alloc();
-    assert!(rt; asks_for(alloc, &FourSession { alloc }, 3));
 }

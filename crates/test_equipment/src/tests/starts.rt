@@ -1,8 +1,9 @@
 //! The program from its arguments: the words that are asked for are those after its name.
 use super::bounds::SIX;
+use super::committees::{TWO, TWO_REPORT};
 use super::session_trial::words_of;
 use super::walk::{Heap, Outcome, Refusable, asks_for, full, refused};
-use super::{FOUR, FOUR_REPORT, Input, TAKEN};
+use super::{Input, TAKEN};
 use crate::Refusing;
 use committee_core::{Watched, start};
 use std::alloc::{AllocError, Global};
@@ -13,8 +14,8 @@ use std::test::Fail;
 /// What is said to other words.
 const USAGE: &str = "usage: committee read, or committee bounds <n>\n";
 
-/// The arguments of a program that reads the committee of four, or none that can be taken; and what it has to come to:
-/// its status, what is written, what is said.
+/// The arguments of a program that reads the committee of two, or none that can be taken; and
+/// what it has to come to: its status, what is written, what is said.
 type Row = (
     Option<&'static [&'static str]>,
     u8,
@@ -29,7 +30,7 @@ fn is_right(heap: Heap<'_>, alloc: Global, row: &Row) -> Result<bool, AllocError
         Some(texts) => Ok(words_of(heap, texts)?.into_iter()),
         None => Err(io::Error::from(ErrorKind::InvalidData)),
     };
-    let mut input = Input::of(FOUR).reader();
+    let mut input = Input::of(TWO).reader();
     let mut output = Watched::new(TAKEN.writer(alloc));
     let mut errors = TAKEN.writer(alloc);
     let status = start(heap, arguments, &mut input, &mut output, &mut errors);
@@ -44,7 +45,7 @@ fn is_right(heap: Heap<'_>, alloc: Global, row: &Row) -> Result<bool, AllocError
 #[test]
 fn the_words_follow_the_programs_name(rt: HostRuntime) -> Result<(), Fail> {
     let rows: [Row; 9] = [
-        (Some(&["committee", "read"]), 0, FOUR_REPORT, ""),
+        (Some(&["committee", "read"]), 0, TWO_REPORT, ""),
         (Some(&["", "bounds", "6"]), 0, SIX, ""),
         (Some(&["read", "bounds", "0000000006"]), 0, SIX, ""),
         (Some(&[]), 2, "", USAGE),
@@ -61,18 +62,18 @@ fn the_words_follow_the_programs_name(rt: HostRuntime) -> Result<(), Fail> {
     Ok(())
 }
 
-/// The program on the committee of four. Its devices keep what they take in memory of their own.
+/// The program on the committee of two. Its devices keep what they take in memory of their own.
 #[derive(Drop)]
-struct FourStart {
+struct TwoStart {
     alloc: Global,
 }
 
-impl Refusable for FourStart {
+impl Refusable for TwoStart {
     fn outcome(&self, heap: Heap<'_>, granted: u64) -> Outcome {
         let Ok(texts) = words_of(heap, &["committee", "read"]) else {
             return Outcome::Wrong;
         };
-        let mut input = Input::of(FOUR).reader();
+        let mut input = Input::of(TWO).reader();
         let mut output = Watched::new(TAKEN.writer(self.alloc));
         let mut errors = TAKEN.writer(self.alloc);
         heap.restart(granted);
@@ -81,7 +82,7 @@ impl Refusable for FourStart {
         let device = output.inner();
         let (taken, said) = (device.taken.as_slice(), errors.taken.as_slice());
         match status {
-            0 => full(taken == FOUR_REPORT.as_bytes() && said.is_empty()),
+            0 => full(taken == TWO_REPORT.as_bytes() && said.is_empty()),
             3 => refused(device.calls == 0 && said == b"failed: out of memory\n".as_slice()),
             _ => Outcome::Wrong,
         }
@@ -95,5 +96,5 @@ impl Refusable for FourStart {
 #[test]
 fn each_refused_request_of_a_start_gives_status_3(rt: HostRuntime) {
     let alloc = rt.alloc();
-    assert!(rt; asks_for(alloc, &FourStart { alloc }, 4));
+    assert!(rt; asks_for(alloc, &TwoStart { alloc }, 4));
 }

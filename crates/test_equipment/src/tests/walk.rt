@@ -1,11 +1,12 @@
-//! Each request for memory of a call refused in turn, counting upwards until a run meets no refusal.
+//! Each request for memory of a call refused in turn, alone and with all that come after it,
+//! counting upwards until a run meets no refusal.
 use crate::Refusing;
 use std::alloc::Global;
 
 /// More requests than any call of these tests makes.
 const ENOUGH: u64 = 1000;
 
-/// An allocator that refuses one request.
+/// An allocator that refuses requests.
 pub type Heap<'a> = &'a Refusing<Global>;
 
 /// What a run of a call came to.
@@ -35,20 +36,35 @@ pub fn refused(right: bool) -> Outcome {
 
 /// A call that takes memory.
 pub trait Refusable {
-    /// What the call comes to where its request after so many granted ones is refused. The heap refuses none before.
+    /// What the call comes to where its request after so many granted ones is refused. The heap
+    /// refuses none before.
     fn outcome(&self, heap: Heap<'_>, granted: u64) -> Outcome;
 
-    /// Whether the call may give the full result though a request was refused, as one for more room than it needs.
+    /// Whether the call may give the full result though a request was refused, as one for more
+    /// room than it needs.
     fn may_do_without(&self) -> bool {
         false
     }
 }
 
-/// How many requests the call makes where none is refused, and then it gives the full result. `None` where that isn't
-/// so, or where a run with one of them refused comes to anything else than it may.
-pub fn requests<C: Refusable>(alloc: Global, call: &C) -> Option<u64> {
+/// What a walk refuses at each of its steps.
+#[derive(Clone, Copy)]
+enum Refusal {
+    /// One request alone.
+    One,
+    /// A request and all that come after it.
+    AllLater,
+}
+
+/// How many requests the call makes where none is refused, and then it gives the full result.
+/// `None` where that isn't so, or where a run with one of them refused comes to anything else
+/// than it may.
+fn walk<C: Refusable>(alloc: Global, call: &C, refusal: Refusal) -> Option<u64> {
     for granted in 0..ENOUGH {
-        let heap = Refusing::after(alloc, u64::MAX);
+        let heap = match refusal {
+            Refusal::One => Refusing::after(alloc, u64::MAX),
+            Refusal::AllLater => Refusing::all_after(alloc, u64::MAX),
+        };
         let outcome = call.outcome(&heap, granted);
         let is_full = outcome == Outcome::Full;
         if !heap.has_refused() {
@@ -61,8 +77,16 @@ pub fn requests<C: Refusable>(alloc: Global, call: &C) -> Option<u64> {
     None
 }
 
-/// Whether the call makes at least so many requests, or none where that is 0, and comes to what it may where each is
-/// refused in turn.
+/// How many requests the call makes, as the walks over them find it that refuse each alone and
+/// with all that come after it. `None` where one of them comes to anything else than it may.
+pub fn requests<C: Refusable>(alloc: Global, call: &C) -> Option<u64> {
+    let asked = walk(alloc, call, Refusal::One)?;
+    let again = walk(alloc, call, Refusal::AllLater)?;
+    (asked == again).then_some(asked)
+}
+
+/// Whether the call makes at least so many requests, or none where that is 0, and comes to what it
+/// may where each is refused in turn.
 pub fn asks_for<C: Refusable>(alloc: Global, call: &C, least: u64) -> bool {
     match requests(alloc, call) {
         Some(asked) => asked >= least && (least > 0 || asked == 0),

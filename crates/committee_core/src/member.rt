@@ -1,0 +1,45 @@
+//! The member of a committee.
+ghost use Rattle.std.specs.Prelude.{◌≡◌};
+ghost use Rattle.std.proofs.lemmas.Cmp.{nat_list_eq_equiv};
+ghost use Rattle.commonware_base.specs.Clones.{equal_from_same};
+
+mod codec;
+mod text;
+
+use commonware_base::EqClone;
+use std::marker::Model;
+
+/// A member of a committee, by its 32 bytes. Members are compared as the lists of their bytes
+/// are, and seen as these lists.
+#[derive(Clone, Copy, Debug, PartialEq, Eq, PartialOrd, Ord, Hash)]
+pub struct Member([u8; 32]);
+
+impl Model for Member {
+    ghost use Rattle.std.specs.Prelude.{ℕ, List};
+
+    ghost Value = { List ℕ };
+
+    ghost view = { λ member. member.0 };
+
+    ghost inverse = { λ bytes. record { 0 = bytes } };
+}
+
+impl Member {
+    /// The member of these bytes.
+    pub fn new(bytes: [u8; 32]) -> Self
+        ensures { result ≡ bytes }
+    {
+        Member(bytes)
+    }
+
+    /// The bytes.
+    pub fn as_bytes(&self) -> &[u8; 32]
+        ensures { result.now ≡ self.now }
+    {
+        &self.0
+    }
+}
+
+impl EqClone for Member {
+    ghost clones_are_equal = { equal_from_same nat_list_eq_equiv };
+}
