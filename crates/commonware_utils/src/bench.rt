@@ -9,6 +9,7 @@ mod clones;
 mod descending;
 mod example;
 mod faults;
+mod headline;
 mod hostile;
 mod insertion;
 mod labelled;

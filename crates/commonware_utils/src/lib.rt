@@ -6,6 +6,7 @@
 #[cfg(test)]
 mod bench;
 pub mod faults;
+pub mod headline;
 mod macros;
 pub mod ordered;
 pub mod vec;
