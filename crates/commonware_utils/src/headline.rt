@@ -53,7 +53,7 @@ pub fn equal_bimaps<K: Ord + Canonical, V: Canonical + Hash, A: Allocator>()
 ///
 /// Memory aside, the texts that are accepted are exactly those that a writable value within the
 /// limits writes, with anything after it.
-pub fn decode<'a, T: Read<A> + Drop, A: Allocator>(
+pub fn decode<'a, T: Read<A>, A: Allocator>(
     alloc: A,
     text: &'a [u8],
     limits: &T::Cfg,
