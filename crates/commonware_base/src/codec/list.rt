@@ -1,5 +1,5 @@
 //! Lists of items that have a byte form: the length, and then each item.
-ghost use Rattle.std.specs.Prelude.{◌≡◌, ℕ, ◌+◌, ◌<◌, ◌^◌, ◌++◌, List, length, OnOk, OnErr, IfOk, IfErr};
+ghost use Rattle.std.specs.Prelude.{◌≡◌, ℕ, ◌+◌, ◌<◌, ◌^◌, ◌++◌, ◌∷◌, [], if◌then◌else◌, is_ok, vec_capacity, vec_len, List, length, OnOk, OnErr, IfOk, IfErr};
 ghost use Rattle.std.specs.List.{AllByRecursion, flat_map};
 ghost use Rattle.std.specs.Cmp.Lexicographic.{pointwise};
 ghost use Rattle.commonware_base.specs.Refusal.{Refuses};
@@ -15,6 +15,7 @@ use crate::codec::source::Source;
 use crate::codec::traits::{Canonical, EncodeSize, Read, Write};
 use crate::codec::varint::{push_varint, read_varint, varint_size};
 use std::alloc::{AllocError, Allocator};
+use std::mem::size_of;
 
 impl<T: EncodeSize, A: Allocator> EncodeSize for Vec<T, A> {
     ghost enc = { λ v. list_enc T.enc v.items };
@@ -46,7 +47,25 @@ impl<T: EncodeSize, A: Allocator> EncodeSize for Vec<T, A> {
     }
 }
 
+/// Appends the bytes of the items. Where memory is refused, some of them may stand there.
+fn push_items<T: Write<A>, A: Allocator>(
+    sink: &mut Vec<u8, A>,
+    items: &[T],
+) -> Result<(), AllocError>
+    requires { AllByRecursion T.writable items.now }
+    ensures ok { OnOk result (sink.new.items ≡ sink.old.items ++ flat_map T.enc items.now) }
+    ensures err { OnErr result ((more : List ℕ) × (sink.new.items ≡ sink.old.items ++ more)) }
+{
+    for item in items {
+        item.write(sink)?;
+    }
+    Ok(())
+}
+
 /// Appends the bytes of the list. Where memory is refused, some of them may stand there.
+///
+/// Once the first item is written, room is made for the others, as if each took as many bytes as the first, but for no
+/// more than they take in memory.
 fn push_list<T: Write<A>, A: Allocator>(
     sink: &mut Vec<u8, A>,
     items: &[T],
@@ -56,10 +75,14 @@ fn push_list<T: Write<A>, A: Allocator>(
     ensures err { OnErr result ((more : List ℕ) × (sink.new.items ≡ sink.old.items ++ more)) }
 {
     push_varint(sink, items.len() as u32)?;
-    for item in items {
-        item.write(sink)?;
-    }
-    Ok(())
+    let Some((first, others)) = items.split_first() else {
+        return Ok(());
+    };
+    let start = sink.len();
+    first.write(sink)?;
+    let alike = (sink.len() - start).saturating_mul(others.len());
+    sink.reserve(alike.min(others.len() * size_of::<T>()))?;
+    push_items(sink, others)
 }
 
 impl<T: Write<A>, A: Allocator> Write<A> for Vec<T, A> {
@@ -75,11 +98,42 @@ impl<T: Write<A>, A: Allocator> Write<A> for Vec<T, A> {
     }
 }
 
+/// The most items of a list for which room is made with the first, whatever the text states.
+const MOST_ROOM: usize = 1024;
+
+/// Makes room for another item, or where there is none yet, for so many.
+#[cold]
+#[inline(never)]
+fn make_room<T, A: Allocator>(items: &mut Vec<T, A>, first: usize) -> Result<(), AllocError>
+    ensures items { items.new.items ≡ items.old.items }
+    ensures room { OnOk result (vec_len items.new < vec_capacity items.new) }
+{
+    let more = if items.is_empty() { first.max(1) } else { 1 };
+    items.reserve(more)
+}
+
+/// Puts an item last. With the first one, room is made for so many.
+#[inline(always)]
+fn put<T: Drop, A: Allocator>(
+    items: &mut Vec<T, A>,
+    value: T,
+    first: usize,
+) -> Result<(), AllocError>
+    ensures { items.new.items ≡ (if is_ok result then items.old.items ++ value ∷ [] else items.old.items) }
+{
+    if items.len() == items.capacity() {
+        make_room(items, first)?;
+    }
+    items.push_reserved(value);
+    Ok(())
+}
+
 /// Reads a list under a range for its length and a configuration for its items: what `Vec` reads.
 ///
 /// It answers the first fault: the length's, then a length out of the range, then that of the first item that has
-/// one. It makes room for an item once it is read, and reserves nothing for the length that the text states. After
-/// an error the source stands where it stood.
+/// one. Once the first item is read, it makes room for as many items as the text states, but for no more than there
+/// are bytes after the length, nor than 1024; then for further ones as they are read. After an error the source stands
+/// where it stood.
 pub fn read_list<T: Read<A> + Drop, A: Allocator + Copy>(
     alloc: A,
     src: &mut Source<'_>,
@@ -100,11 +154,12 @@ pub fn read_list<T: Read<A> + Drop, A: Allocator + Copy>(
     if !range.contains(&count) {
         return Err(Error::InvalidLength(count));
     }
+    let room = count.min(here.remaining()).min(MOST_ROOM);
     let mut items = Vec::new(alloc);
     for _ in 0..count {
         match T::read_cfg(alloc, &mut here, item) {
             Ok(value) => {
-                if items.push(value).is_err() {
+                if put(&mut items, value, room).is_err() {
                     return Err(Error::Memory);
                 }
             }

@@ -31,7 +31,7 @@ returns-in-Err-read_cfg-clause-refused g c =
 pub loop-preserved : goal.loop-preserved
 loop-preserved g c =
     let more = read_more g.T.EncodeSize.enc g.T.EncodeSize.writable (g.T.Read.allowed c.args.item.now) c.args.range c.in-Ok.count c.args.src.now c.loop.counter c.loop.here c.read_cfg.new.src c.loop.items.items c.in-Ok-read_cfg.value c.loop.invariant c.in-Ok-read_cfg.ensures.accepted c.in-Ok-read_cfg.ensures.consumed in
-    let pushed : c.push.new.self.items ≡ c.loop.items.items ++ c.in-Ok-read_cfg.value ∷ [] = rw c.if-is_err.ensures.negation at c.push.ensures.items in
+    let pushed : c.put.new.items.items ≡ c.loop.items.items ++ c.in-Ok-read_cfg.value ∷ [] = rw c.if-is_err.ensures.negation at c.put.ensures in
     subst (ReadSoFar g.T.EncodeSize.enc g.T.EncodeSize.writable (g.T.Read.allowed c.args.item.now) c.args.range c.in-Ok.count (c.loop.counter + 1) c.args.src.now c.read_cfg.new.src) (sym pushed) more
 
 pub returns-clause-consumed : goal.returns-clause-consumed
