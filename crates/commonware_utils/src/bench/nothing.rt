@@ -2,6 +2,7 @@
 //! proved here.
 ghost use Rattle.std.specs.Prelude.{[], refl};
 ghost use Rattle.std.proofs.Common.{inl};
+ghost use Rattle.std.proofs.Math.Nat.{le_refl};
 
 use super::bimaps::REPEATED;
 use super::sets::UNSORTED;
@@ -53,7 +54,7 @@ impl MaxEncodeSize for Nothing {
 
     const MAX_ENCODE_SIZE: usize = 0;
 
-    ghost bounded = { λ _ _. Prim.search };
+    ghost bounded = { λ _ _. le_refl 0 };
 }
 
 impl<A: Allocator> Read<A> for Nothing {
