@@ -1,0 +1,32 @@
+-- The overlap of the committee's sub-sets, at the signers of both certificates.
+use Rattle.std.proofs.Common.{length, ap, arith}
+use Rattle.committee_certificates.proofs.Members.{AreQuorumsAndBoth, both-thirds, both-fifths, both-outlast}
+use Rattle.committee_certificates.proofs.conflicts.conflict.Goals as goal
+use Rattle.committee_certificates.proofs.conflicts.conflict.Given.{Over}
+
+-- both certificates have a quorum of signers
+quorums : (g : Over) (c : goal.After-from_strict g)
+    → AreQuorumsAndBoth (length c.args.committee.now) (g.M.Faults.faults (length c.args.committee.now))
+    c.args.first.now.signers c.args.second.now.signers c.from_strict.result
+quorums g c =
+    let one = c.as_slice-first_signers.ensures.items in
+    let two = c.as_slice-second_signers.ensures.items in
+    let in_both = rw (one, two, ← c.from_strict.ensures) at c.in-Ok.ensures in
+    record {
+      first_strict = c.as_slice-first_signers.ensures.strict;
+      second_strict = c.as_slice-second_signers.ensures.strict;
+      first_members = rw (c.len-members.ensures, one) at (c.has_outsider.ensures.is_false c.if-has_outsider.false);
+      second_members = rw (c.len-members.ensures, two) at (c.has_outsider-else-has_outsider.ensures.is_false c.if-has_outsider-2.false);
+      first_enough = omega (arith, ap length one, c.quorum-quorum.ensures, c.if-first_signers-quorum.false);
+      second_enough = omega (arith, ap length two, c.quorum-quorum.ensures, c.if-second_signers-quorum.false);
+      both = in_both;
+    }
+
+pub returns-in-Ok-clause-thirds : goal.returns-in-Ok-clause-thirds
+returns-in-Ok-clause-thirds g c = both-thirds (quorums g c)
+
+pub returns-in-Ok-clause-fifths : goal.returns-in-Ok-clause-fifths
+returns-in-Ok-clause-fifths g c = both-fifths (quorums g c)
+
+pub returns-in-Ok-clause-outlasts : goal.returns-in-Ok-clause-outlasts
+returns-in-Ok-clause-outlasts g c = both-outlast (quorums g c)
