@@ -30,14 +30,15 @@ pub enum ConflictError {
 /// The members that signed both of two certificates for different values: exactly the signers of
 /// both. The committee has 1 to `u32::MAX` members.
 ///
-/// A signer at or past the committee's length is told first, as `Outside`; then, where every signer
-/// is a member, a certificate with fewer signers than a quorum of the fault model, as `TooFew`. Both
-/// are looked at before any memory is taken.
+/// A signer at or past the committee's length is told first, as `Outside`; then, where every
+/// signer is a member, a certificate with fewer signers than a quorum of the fault model, as
+/// `TooFew`. Both are looked at before any memory is taken, so `Memory` comes after them.
 ///
 /// Where the model's number of faults f is the greatest for which any two quorums share f + 1
 /// members, at least f + 1 members are answered; where it is the greatest for which they share
-/// 3f + 1, at least 3f + 1 are. In either case whichever members are faulty, f at most, one that
-/// is answered isn't. Nothing is said of whether those who are named did sign, or are honest.
+/// 3f + 1, at least 3f + 1 are. In either case, whichever f members are faulty, one that is
+/// answered isn't among them. Nothing is said of whether those who are named did sign, or are
+/// honest.
 ///
 /// It walks the signers of each certificate a constant number of times, and makes one request for
 /// memory, for as many indices as the certificate with fewer signers has.

@@ -64,8 +64,8 @@ impl<A: Allocator + Copy> Read<A> for Certificate<A> {
         (IsAllowedCertificate c.0 c.1) (CertificateFault c.0 c.1)
         (λ x w _. certificate_of alloc x w) (certificate_laws c.0 c.1) };
 
-    /// Reads the value as a list of bytes under the first range, and then the signers as a set under
-    /// the second.
+    /// Reads the value as a list of bytes under the first range, and then the signers as a set
+    /// under the second.
     fn read_cfg(alloc: A, src: &mut Source<'_>, cfg: &Self::Cfg) -> Result<Certificate<A>, Error> {
         let mut here = *src;
         let value = match read_list::<u8, A>(alloc, &mut here, cfg.0, &()) {
@@ -87,8 +87,8 @@ impl<A: Allocator> Canonical for Certificate<A> {
         certificate_canonical };
 }
 
-/// The cuts at which a text is no certificate exclude one another: no text has a fault of the value
-/// and one of the signers.
+/// The cuts at which a text is no certificate exclude one another: no text has a fault of the
+/// value and one of the signers.
 pub fn certificate_fault_law(value: RangeCfg<usize>, signers: RangeCfg<usize>)
     ensures { (s : List ℕ) (f g : Fault)
         (v : CertificateFault value signers s f) (w : CertificateFault value signers s g)
