@@ -1,11 +1,14 @@
 -- What a walk along two rising lists keeps: those of the first that are among the second.
-use Rattle.std.proofs.Common.{◌≡◌, ◌≢◌, ◌⊎◌, ◌||◌, inl, inr, eqb, append-nil, ℕ, suc, ◌+◌, ◌<◌, ◌≤◌, Bool, true, false, cond, ◌&&◌, List, [], ◌∷◌, ◌++◌, append_assoc, drop, filter, length, get_or, refl, ap, subst, sym, ◌∙◌, arith}
+use Rattle.std.proofs.Common.{◌≡◌, ◌≢◌, ◌⊎◌, ◌||◌, inl, inr, eqb, ℕ, suc, ◌+◌, ◌<◌, ◌≤◌, Bool, true, false, cond, ◌&&◌}
+use Rattle.std.proofs.Common.{List, [], ◌∷◌, ◌++◌, append-nil, append_assoc, drop, filter, length, get_or}
+use Rattle.std.proofs.Common.{refl, ap, subst, sym, ◌∙◌, arith}
 use Rattle.std.proofs.Math.Seq.{drop-cons}
 use Rattle.std.proofs.lemmas.Bool.Decides.{eqb_tells}
 use Rattle.std.proofs.lemmas.Cmp.{nat_cmp_total}
 use Rattle.std.proofs.lemmas.List.Kept.{IsStrictlyIncreasing-filter}
 use Rattle.std.proofs.lemmas.List.{drop_all}
-use Rattle.std.proofs.lemmas.Map.Keys.{IsStrictlyIncreasing-from_sorted, Less-from_sorted, sorted_from_strictly_increasing}
+use Rattle.std.proofs.lemmas.Map.Keys.{IsStrictlyIncreasing-from_sorted, Less-from_sorted}
+use Rattle.std.proofs.lemmas.Map.Keys.{sorted_from_strictly_increasing}
 use Rattle.std.specs.Ordering.{nat_cmp}
 use Rattle.commonware_ordered.specs.Strict.{IsStrict}
 use Rattle.commonware_ordered.specs.StrictLaws.{sorted_from_strict}
@@ -24,7 +27,8 @@ abbrev pub common : List ℕ → List ℕ → List ℕ
 common xs ys = filter (has ys) xs
 
 -- tests that agree from low on keep the same of numbers that rise from low on
-filter_agree : (p q : ℕ → Bool) (low : ℕ) (xs : List ℕ) → RisesFrom low xs → ((k : ℕ) → low ≤ k → p k ≡ q k) → filter p xs ≡ filter q xs
+filter_agree : (p q : ℕ → Bool) (low : ℕ) (xs : List ℕ) → RisesFrom low xs → ((k : ℕ) → low ≤ k → p k ≡ q k)
+    → filter p xs ≡ filter q xs
 filter_agree p q low [] r same = refl
 filter_agree p q low (x ∷ xs) r same =
     let rest = filter_agree p q (x + 1) xs r.1 (λ k h. same k (omega arith)) in
@@ -38,14 +42,17 @@ common_less x y xs ys h r =
     rw none refl
 
 -- the first of the others is in none where it is below the first number
-common_greater : (x y : ℕ) (xs ys : List ℕ) → y < x → RisesFrom 0 (x ∷ xs) → common (x ∷ xs) (y ∷ ys) ≡ common (x ∷ xs) ys
-common_greater x y xs ys h r = filter_agree (has (y ∷ ys)) (has ys) x (x ∷ xs) (omega arith, r.1) (λ k above. has_after y ys k (omega arith))
+common_greater : (x y : ℕ) (xs ys : List ℕ) → y < x → RisesFrom 0 (x ∷ xs)
+    → common (x ∷ xs) (y ∷ ys) ≡ common (x ∷ xs) ys
+common_greater x y xs ys h r =
+    filter_agree (has (y ∷ ys)) (has ys) x (x ∷ xs) (omega arith, r.1) (λ k above. has_after y ys k (omega arith))
 
 -- a first number that both have
 common_equal : (x : ℕ) (xs ys : List ℕ) → RisesFrom 0 (x ∷ xs) → common (x ∷ xs) (x ∷ ys) ≡ x ∷ common xs ys
 common_equal x xs ys r =
     let here = has_first x ys in
-    let rest : filter (has (x ∷ ys)) xs ≡ filter (has ys) xs = filter_agree (has (x ∷ ys)) (has ys) (x + 1) xs r.1 (λ k above. has_after x ys k (omega arith)) in
+    let rest : filter (has (x ∷ ys)) xs ≡ filter (has ys) xs =
+        filter_agree (has (x ∷ ys)) (has ys) (x + 1) xs r.1 (λ k above. has_after x ys k (omega arith)) in
     rw (here, rest) refl
 
 -- nothing is in an empty list
@@ -59,26 +66,35 @@ opened xs i x h e =
     let next : suc i ≡ i + 1 = omega arith in
     subst (λ k. drop i xs ≡ x ∷ drop k xs) next (drop-cons xs i x h ∙ ap (λ z. z ∷ drop (suc i) xs) (sym e))
 
--- After i numbers of the first list and j of the second, what is kept, and what both lists have left, are all that both have.
+-- After i numbers of the first list and j of the second, what is kept, and what both lists have left, are all that both
+-- have.
 pub record IsWalked (first second : List ℕ) (i j : ℕ) (kept : List ℕ) : Type 0 where
   pub first_rises : RisesFrom 0 (drop i first)
   pub second_rises : RisesFrom 0 (drop j second)
   pub same : kept ++ common (drop i first) (drop j second) ≡ common first second
 
 -- where one list is walked through, what is kept is what both have
-pub walk_end : {first second kept : List ℕ} {i j : ℕ} → (length first ≤ i) ⊎ (length second ≤ j) → IsWalked first second i j kept → kept ≡ common first second
+pub walk_end : {first second kept : List ℕ} {i j : ℕ} → (length first ≤ i) ⊎ (length second ≤ j)
+    → IsWalked first second i j kept → kept ≡ common first second
 walk_end {first} {second} {kept} {i} {j} (inl h) w =
     let none : drop i first ≡ [] = drop_all i first h in
     sym (append-nil kept) ∙ subst (λ l. kept ++ common l (drop j second) ≡ common first second) none w.same
 walk_end {first} {second} {kept} {i} {j} (inr h) w =
     let none : drop j second ≡ [] = drop_all j second h in
-    sym (append-nil kept) ∙ ap (λ l. kept ++ l) (sym (common_none (drop i first))) ∙ subst (λ l. kept ++ common (drop i first) l ≡ common first second) none w.same
+    sym (append-nil kept) ∙ ap (λ l. kept ++ l) (sym (common_none (drop i first)))
+    ∙ subst (λ l. kept ++ common (drop i first) l ≡ common first second) none w.same
 
 -- no number is walked past yet
-pub walk_start : (first second : List ℕ) → IsStrict nat_cmp first → IsStrict nat_cmp second → IsWalked first second 0 0 []
-walk_start first second s t = record { first_rises = rises_from_strict first s; second_rises = rises_from_strict second t; same = refl }
+pub walk_start : (first second : List ℕ) → IsStrict nat_cmp first → IsStrict nat_cmp second
+    → IsWalked first second 0 0 []
+walk_start first second s t = record {
+  first_rises = rises_from_strict first s;
+  second_rises = rises_from_strict second t;
+  same = refl;
+}
 
-module _ {first second kept : List ℕ} {i j x y : ℕ} (x_in : i < length first) (y_in : j < length second) (x_is : x ≡ get_or first i x) (y_is : y ≡ get_or second j y) (w : IsWalked first second i j kept) where
+module _ {first second kept : List ℕ} {i j x y : ℕ} (x_in : i < length first) (y_in : j < length second)
+    (x_is : x ≡ get_or first i x) (y_is : y ≡ get_or second j y) (w : IsWalked first second i j kept) where
   -- the numbers left
   left : drop i first ≡ x ∷ drop (i + 1) first
   left = opened first i x x_in x_is
@@ -97,14 +113,19 @@ module _ {first second kept : List ℕ} {i j x y : ℕ} (x_in : i < length first
 
   -- what is left of both, with its first numbers
   same : kept ++ common (x ∷ drop (i + 1) first) (y ∷ drop (j + 1) second) ≡ common first second
-  same = subst (λ l. kept ++ common l (y ∷ drop (j + 1) second) ≡ common first second) left (subst (λ l. kept ++ common (drop i first) l ≡ common first second) others w.same)
+  same =
+      let second_opened = subst (λ l. kept ++ common (drop i first) l ≡ common first second) others w.same in
+      subst (λ l. kept ++ common l (y ∷ drop (j + 1) second) ≡ common first second) left second_opened
 
   -- a step of the walk, where the number is less than the other
   pub walk_less : x < y → IsWalked first second (i + 1) j kept
   walk_less h = record {
     first_rises = rises_lower (x + 1) 0 (drop (i + 1) first) (omega arith) left_rises.1;
     second_rises = w.second_rises;
-    same = subst (λ l. kept ++ common (drop (i + 1) first) l ≡ common first second) (sym others) (ap (λ l. kept ++ l) (sym (common_less x y (drop (i + 1) first) (drop (j + 1) second) h others_rise)) ∙ same);
+    same =
+        let less = common_less x y (drop (i + 1) first) (drop (j + 1) second) h others_rise in
+        let kept_same = ap (λ l. kept ++ l) (sym less) ∙ same in
+        subst (λ l. kept ++ common (drop (i + 1) first) l ≡ common first second) (sym others) kept_same;
   }
 
   -- where it is greater
@@ -112,7 +133,10 @@ module _ {first second kept : List ℕ} {i j x y : ℕ} (x_in : i < length first
   walk_greater h = record {
     first_rises = w.first_rises;
     second_rises = rises_lower (y + 1) 0 (drop (j + 1) second) (omega arith) others_rise.1;
-    same = subst (λ l. kept ++ common l (drop (j + 1) second) ≡ common first second) (sym left) (ap (λ l. kept ++ l) (sym (common_greater x y (drop (i + 1) first) (drop (j + 1) second) h left_rises)) ∙ same);
+    same =
+        let greater = common_greater x y (drop (i + 1) first) (drop (j + 1) second) h left_rises in
+        let kept_same = ap (λ l. kept ++ l) (sym greater) ∙ same in
+        subst (λ l. kept ++ common l (drop (j + 1) second) ≡ common first second) (sym left) kept_same;
   }
 
   -- where both are the same
@@ -121,8 +145,12 @@ module _ {first second kept : List ℕ} {i j x y : ℕ} (x_in : i < length first
     first_rises = rises_lower (x + 1) 0 (drop (i + 1) first) (omega arith) left_rises.1;
     second_rises = rises_lower (y + 1) 0 (drop (j + 1) second) (omega arith) others_rise.1;
     same =
-        let equal : kept ++ common (x ∷ drop (i + 1) first) (x ∷ drop (j + 1) second) ≡ common first second = subst (λ z. kept ++ common (x ∷ drop (i + 1) first) (z ∷ drop (j + 1) second) ≡ common first second) (sym h) same in
-        append_assoc kept (x ∷ []) (common (drop (i + 1) first) (drop (j + 1) second)) ∙ ap (λ l. kept ++ l) (sym (common_equal x (drop (i + 1) first) (drop (j + 1) second) left_rises)) ∙ equal;
+        let xs = drop (i + 1) first in
+        let ys = drop (j + 1) second in
+        let equal : kept ++ common (x ∷ xs) (x ∷ ys) ≡ common first second =
+            subst (λ z. kept ++ common (x ∷ xs) (z ∷ ys) ≡ common first second) (sym h) same in
+        append_assoc kept (x ∷ []) (common xs ys)
+        ∙ ap (λ l. kept ++ l) (sym (common_equal x xs ys left_rises)) ∙ equal;
   }
 
 -- whether a position is among those that pass a test
@@ -130,7 +158,9 @@ has-filter : (test : ℕ → Bool) (xs : List ℕ) (p : ℕ) → has (filter tes
 has-filter test [] p = refl
 has-filter test (x ∷ xs) p = step (test x) refl (eqb_tells p x) (has-filter test xs p)
   where
-    step : (b : Bool) → test x ≡ b → ((eqb p x ≡ true) × (p ≡ x)) ⊎ ((eqb p x ≡ false) × (p ≢ x)) → has (filter test xs) p ≡ (has xs p && test p) → has (cond b (x ∷ filter test xs) (filter test xs)) p ≡ ((eqb p x || has xs p) && test p)
+    step : (b : Bool) → test x ≡ b → ((eqb p x ≡ true) × (p ≡ x)) ⊎ ((eqb p x ≡ false) × (p ≢ x))
+        → has (filter test xs) p ≡ (has xs p && test p)
+        → has (cond b (x ∷ filter test xs) (filter test xs)) p ≡ ((eqb p x || has xs p) && test p)
     step true e (inl same) h = let t = subst (λ y. test y ≡ true) (sym same.1) e in simp (same.0, t)
     step true e (inr other) h = simp other.0 h
     step false e (inl same) h = let t = subst (λ y. test y ≡ false) (sym same.1) e in simp (h, t, and_false)
@@ -141,7 +171,8 @@ pub AreInBoth-common : (first second : List ℕ) → IsStrict nat_cmp first → 
 AreInBoth-common first second strict = record {
   strict =
       let rising = IsStrictlyIncreasing-from_sorted first (sorted_from_strict nat_cmp_total first strict) in
-      let sorted = sorted_from_strictly_increasing (common first second) (IsStrictlyIncreasing-filter (has second) first rising) in
+      let kept_rising = IsStrictlyIncreasing-filter (has second) first rising in
+      let sorted = sorted_from_strictly_increasing (common first second) kept_rising in
       λ k d high. Less-from_sorted nat_cmp (common first second) k (k + 1) d sorted (omega arith) high;
   exactly = λ p.
       let e = has-filter (has second) first p in

@@ -1,5 +1,6 @@
 -- Signers as sub-sets of positions: what two of them share, and what is outside.
-use Rattle.std.proofs.Common.{◌≡◌, ℕ, ◌+◌, ◌-◌, ◌*◌, ◌<◌, ◌≤◌, Bool, true, false, ◌&&◌, List, length, get_or, Some, slice_get, ◌⊎◌, Decides, refl, ap, sym, ◌∙◌, arith, inl, inr}
+use Rattle.std.proofs.Common.{◌≡◌, ℕ, ◌+◌, ◌-◌, ◌*◌, ◌<◌, ◌≤◌, Bool, true, false, ◌&&◌, List, length, get_or, Some}
+use Rattle.std.proofs.Common.{slice_get, ◌⊎◌, Decides, refl, ap, sym, ◌∙◌, arith, inl, inr}
 use Rattle.std.specs.Cmp.{nat_eq_equiv}
 use Rattle.std.specs.List.{Contains, range_with_len}
 use Rattle.std.specs.Ordering.{nat_cmp}
@@ -30,7 +31,8 @@ tells_both false b P Q h k = (λ e. absurd (cc), λ w. h.1 w.0)
 slice_get-passing : (test : ℕ → Bool) (n p : ℕ) → p < n → slice_get (passing test n) p ≡ Some (test p)
 slice_get-passing test n p h =
     let inside : p < length (passing test n) = omega (arith, length-passing test n) in
-    slice_get-get_or (passing test n) p false inside ∙ ap (λ (b : Bool). Some b) (get_or-map-range_with_len test 0 n p p false h (omega arith))
+    slice_get-get_or (passing test n) p false inside
+    ∙ ap (λ (b : Bool). Some b) (get_or-map-range_with_len test 0 n p p false h (omega arith))
 
 -- a position of the signers is one of them
 Contains-from_truths : (n : ℕ) (xs : List ℕ) (p : ℕ) → IsIn (truths n xs) p → Contains xs p
@@ -48,9 +50,13 @@ outside_not_listed n xs p h w =
     cc
 
 -- the signers in both are the positions that are shared
-shared-truths : (n : ℕ) (xs ys zs : List ℕ) → AreInBoth xs ys zs → shared (truths n xs) (truths n ys) ≡ size (truths n zs)
+shared-truths : (n : ℕ) (xs ys zs : List ℕ) → AreInBoth xs ys zs
+    → shared (truths n xs) (truths n ys) ≡ size (truths n zs)
 shared-truths n xs ys zs h =
-    let agree = λ (p : ℕ). same_from_decides (has xs p && has ys p) (has zs p) (tells_both _ _ _ _ (has_tells xs p) (has_tells ys p)) (λ e. (h.exactly p).0 ((has_tells zs p).0 e), λ w. (has_tells zs p).1 ((h.exactly p).1 w)) in
+    let agree = λ (p : ℕ).
+        same_from_decides (has xs p && has ys p) (has zs p)
+        (tells_both _ _ _ _ (has_tells xs p) (has_tells ys p))
+        (λ e. (h.exactly p).0 ((has_tells zs p).0 e), λ w. (has_tells zs p).1 ((h.exactly p).1 w)) in
     shared-map (has xs) (has ys) (range_with_len 0 n) ∙ size-agree _ _ agree (range_with_len 0 n)
 
 -- Two strict lists of at least n - f members, and those in both.
@@ -66,7 +72,9 @@ pub record AreQuorumsAndBoth (n f : ℕ) (xs ys zs : List ℕ) : Type 0 where
 module _ {n f : ℕ} {xs ys zs : List ℕ} (c : AreQuorumsAndBoth n f xs ys zs) where
   -- those in both are members
   members : AreMembers n zs
-  members = All-from_get_or (λ p. p < n) zs 0 (λ k h. All-contains (λ p. p < n) xs _ c.first_members ((c.both.exactly (get_or zs k 0)).0 (Contains-get_or zs k 0 h)).0)
+  members = All-from_get_or (λ p. p < n) zs 0 (λ k h.
+      let in_both = (c.both.exactly (get_or zs k 0)).0 (Contains-get_or zs k 0 h) in
+      All-contains (λ p. p < n) xs _ c.first_members in_both.0)
 
   -- as many are in both as any two sub-sets of n - f share
   many : (k : ℕ) → Overlap n (n - f) (n - f) k → k ≤ length zs
@@ -75,7 +83,9 @@ module _ {n f : ℕ} {xs ys zs : List ℕ} (c : AreQuorumsAndBoth n f xs ys zs) 
       let size_ys = size-truths n ys c.second_strict c.second_members in
       let size_zs = size-truths n zs c.both.strict members in
       let at_least = Overlap-at_least n (n - f) (n - f) k (omega arith) (omega arith) h in
-      let shared_least = at_least.shares (truths n xs) (truths n ys) (length-passing _ n) (length-passing _ n) (omega (arith, size_xs, c.first_enough)) (omega (arith, size_ys, c.second_enough)) in
+      let shared_least =
+          at_least.shares (truths n xs) (truths n ys) (length-passing _ n) (length-passing _ n)
+          (omega (arith, size_xs, c.first_enough)) (omega (arith, size_ys, c.second_enough)) in
       omega (arith, shared-truths n xs ys zs c.both, size_zs, shared_least)
 
   -- where any two sub-sets of n - f share f + 1, so many are in both
@@ -87,9 +97,11 @@ module _ {n f : ℕ} {xs ys zs : List ℕ} (c : AreQuorumsAndBoth n f xs ys zs) 
   both-fifths h = many (3 * f + 1) h.overlaps
 
   -- more members than a sub-set has include one outside it
-  outside : (faulty : List Bool) → length faulty ≡ n → size faulty < length zs → (p : ℕ) × Contains zs p × IsOutside faulty p
+  outside : (faulty : List Bool) → length faulty ≡ n → size faulty < length zs
+      → (p : ℕ) × Contains zs p × IsOutside faulty p
   outside faulty l h =
-      let r = beyond (truths n zs) faulty (length-passing _ n ∙ sym l) (omega (arith, size-truths n zs c.both.strict members)) in
+      let more : size faulty < size (truths n zs) = omega (arith, h, size-truths n zs c.both.strict members) in
+      let r = beyond (truths n zs) faulty (length-passing _ n ∙ sym l) more in
       (r.0, Contains-from_truths n zs r.0 r.1, r.2)
 
   -- more than f members leave one outside any f
@@ -97,7 +109,8 @@ module _ {n f : ℕ} {xs ys zs : List ℕ} (c : AreQuorumsAndBoth n f xs ys zs) 
   leaves_one h = record {
     of_positions = λ faulty l u. outside faulty l (omega (arith, h, u));
     of_participants = λ faulty strict below u.
-        let r = outside (truths n faulty) (length-passing _ n) (omega (arith, size-truths n faulty strict below, h, u)) in
+        let fewer : size (truths n faulty) < length zs = omega (arith, size-truths n faulty strict below, h, u) in
+        let r = outside (truths n faulty) (length-passing _ n) fewer in
         (r.0, r.1, outside_not_listed n faulty r.0 r.2);
   }
 

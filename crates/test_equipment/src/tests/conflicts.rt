@@ -13,56 +13,77 @@ enum Model {
     N5f1,
 }
 
-/// How many members the committee has, the model, the signers of the two certificates, and those
-/// of both, or the error.
+/// A committee and two certificates for different values.
 #[derive(Clone, Copy, Debug)]
-struct Row(
-    u32,
-    Model,
-    &'static [u32],
-    &'static [u32],
-    Result<&'static [u32], ConflictError>,
-);
+struct Row {
+    /// How many members the committee has.
+    members: u32,
+    model: Model,
+    /// The signers of one certificate.
+    first: &'static [u32],
+    /// The signers of the other.
+    second: &'static [u32],
+    /// Those of both, or the error.
+    answer: Result<&'static [u32], ConflictError>,
+}
 
 const ROWS: [Row; 8] = [
-    Row(4, Model::N3f1, &[0, 1, 2], &[1, 2, 3], Ok(&[1, 2])),
-    Row(
-        4,
-        Model::N5f1,
-        &[0, 1, 2],
-        &[1, 2, 3],
-        Err(ConflictError::TooFew),
-    ),
-    Row(
-        6,
-        Model::N5f1,
-        &[0, 1, 2, 3, 4],
-        &[1, 2, 3, 4, 5],
-        Ok(&[1, 2, 3, 4]),
-    ),
-    Row(
-        4,
-        Model::N3f1,
-        &[0, 1],
-        &[0, 1, 4],
-        Err(ConflictError::Outside),
-    ),
-    Row(
-        4,
-        Model::N3f1,
-        &[0, 1, 2],
-        &[4294967295],
-        Err(ConflictError::Outside),
-    ),
-    Row(
-        4,
-        Model::N3f1,
-        &[0, 1, 2],
-        &[2, 3],
-        Err(ConflictError::TooFew),
-    ),
-    Row(1, Model::N3f1, &[0], &[0], Ok(&[0])),
-    Row(4, Model::N3f1, &[], &[], Err(ConflictError::TooFew)),
+    Row {
+        members: 4,
+        model: Model::N3f1,
+        first: &[0, 1, 2],
+        second: &[1, 2, 3],
+        answer: Ok(&[1, 2]),
+    },
+    Row {
+        members: 4,
+        model: Model::N5f1,
+        first: &[0, 1, 2],
+        second: &[1, 2, 3],
+        answer: Err(ConflictError::TooFew),
+    },
+    Row {
+        members: 6,
+        model: Model::N5f1,
+        first: &[0, 1, 2, 3, 4],
+        second: &[1, 2, 3, 4, 5],
+        answer: Ok(&[1, 2, 3, 4]),
+    },
+    Row {
+        members: 4,
+        model: Model::N3f1,
+        first: &[0, 1],
+        second: &[0, 1, 4],
+        answer: Err(ConflictError::Outside),
+    },
+    Row {
+        members: 4,
+        model: Model::N3f1,
+        first: &[0, 1, 2],
+        second: &[4294967295],
+        answer: Err(ConflictError::Outside),
+    },
+    Row {
+        members: 4,
+        model: Model::N3f1,
+        first: &[0, 1, 2],
+        second: &[2, 3],
+        answer: Err(ConflictError::TooFew),
+    },
+    Row {
+        members: 1,
+        model: Model::N3f1,
+        first: &[0],
+        second: &[0],
+        answer: Ok(&[0]),
+    },
+    Row {
+        members: 4,
+        model: Model::N3f1,
+        first: &[],
+        second: &[],
+        answer: Err(ConflictError::TooFew),
+    },
 ];
 
 /// A certificate of a value of one byte.
@@ -95,22 +116,21 @@ fn conflict_of<M: Faults, A: Allocator + Copy>(
 
 impl Refusable for Row {
     fn outcome(&self, heap: Heap<'_>, granted: u64) -> Outcome {
-        let Row(members, model, first, second, answer) = *self;
         let (Ok(first), Ok(second)) = (
-            certificate(heap, 0xaa, first),
-            certificate(heap, 0xbb, second),
+            certificate(heap, 0xaa, self.first),
+            certificate(heap, 0xbb, self.second),
         ) else {
             return Outcome::Wrong;
         };
-        let Ok(committee) = Set::from_iter_dedup(heap, 0..members) else {
+        let Ok(committee) = Set::from_iter_dedup(heap, 0..self.members) else {
             return Outcome::Wrong;
         };
         heap.restart(granted);
-        let both = match model {
+        let both = match self.model {
             Model::N3f1 => conflict_of::<N3f1, _>(heap, &committee, &first, &second),
             Model::N5f1 => conflict_of::<N5f1, _>(heap, &committee, &first, &second),
         };
-        match (both, answer) {
+        match (both, self.answer) {
             (Some(Ok(both)), Ok(wanted)) => {
                 let indices = both.iter().map(|signer| signer.get());
                 full(indices.eq(wanted.iter().copied()))
@@ -126,7 +146,7 @@ impl Refusable for Row {
 #[test]
 fn signers_of_both_are_named(rt: HostRuntime) {
     for row in ROWS {
-        let asked = row.4.is_ok() as u64;
+        let asked = row.answer.is_ok() as u64;
         assert!(rt; requests(rt.alloc(), &row) == Some(asked), "{row:?}");
     }
 }

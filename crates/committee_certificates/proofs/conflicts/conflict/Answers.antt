@@ -12,11 +12,13 @@ quorums g c =
     let one = c.as_slice-first_signers.ensures.items in
     let two = c.as_slice-second_signers.ensures.items in
     let in_both = rw (one, two, ← c.from_strict.ensures) at c.in-Ok.ensures in
+    let first_in = c.has_outsider.ensures.is_false c.if-has_outsider.false in
+    let second_in = c.has_outsider-else-has_outsider.ensures.is_false c.if-has_outsider-2.false in
     record {
       first_strict = c.as_slice-first_signers.ensures.strict;
       second_strict = c.as_slice-second_signers.ensures.strict;
-      first_members = rw (c.len-members.ensures, one) at (c.has_outsider.ensures.is_false c.if-has_outsider.false);
-      second_members = rw (c.len-members.ensures, two) at (c.has_outsider-else-has_outsider.ensures.is_false c.if-has_outsider-2.false);
+      first_members = rw (c.len-members.ensures, one) at first_in;
+      second_members = rw (c.len-members.ensures, two) at second_in;
       first_enough = omega (arith, ap length one, c.quorum-quorum.ensures, c.if-first_signers-quorum.false);
       second_enough = omega (arith, ap length two, c.quorum-quorum.ensures, c.if-second_signers-quorum.false);
       both = in_both;
