@@ -52,7 +52,7 @@ common_equal : (x : ℕ) (xs ys : List ℕ) → RisesFrom 0 (x ∷ xs) → commo
 common_equal x xs ys r =
     let here = has_first x ys in
     let rest : filter (has (x ∷ ys)) xs ≡ filter (has ys) xs =
-        filter_agree (has (x ∷ ys)) (has ys) (x + 1) xs r.1 (λ k above. has_after x ys k (omega arith)) in
+    filter_agree (has (x ∷ ys)) (has ys) (x + 1) xs r.1 (λ k above. has_after x ys k (omega arith)) in
     rw (here, rest) refl
 
 -- nothing is in an empty list
@@ -148,7 +148,7 @@ module _ {first second kept : List ℕ} {i j x y : ℕ} (x_in : i < length first
         let xs = drop (i + 1) first in
         let ys = drop (j + 1) second in
         let equal : kept ++ common (x ∷ xs) (x ∷ ys) ≡ common first second =
-            subst (λ z. kept ++ common (x ∷ xs) (z ∷ ys) ≡ common first second) (sym h) same in
+        subst (λ z. kept ++ common (x ∷ xs) (z ∷ ys) ≡ common first second) (sym h) same in
         append_assoc kept (x ∷ []) (common xs ys)
         ∙ ap (λ l. kept ++ l) (sym (common_equal x xs ys left_rises)) ∙ equal;
   }

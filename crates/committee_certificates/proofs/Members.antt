@@ -54,9 +54,9 @@ shared-truths : (n : ℕ) (xs ys zs : List ℕ) → AreInBoth xs ys zs
     → shared (truths n xs) (truths n ys) ≡ size (truths n zs)
 shared-truths n xs ys zs h =
     let agree = λ (p : ℕ).
-        same_from_decides (has xs p && has ys p) (has zs p)
-        (tells_both _ _ _ _ (has_tells xs p) (has_tells ys p))
-        (λ e. (h.exactly p).0 ((has_tells zs p).0 e), λ w. (has_tells zs p).1 ((h.exactly p).1 w)) in
+    same_from_decides (has xs p && has ys p) (has zs p)
+    (tells_both _ _ _ _ (has_tells xs p) (has_tells ys p))
+    (λ e. (h.exactly p).0 ((has_tells zs p).0 e), λ w. (has_tells zs p).1 ((h.exactly p).1 w)) in
     shared-map (has xs) (has ys) (range_with_len 0 n) ∙ size-agree _ _ agree (range_with_len 0 n)
 
 -- Two strict lists of at least n - f members, and those in both.
@@ -84,8 +84,8 @@ module _ {n f : ℕ} {xs ys zs : List ℕ} (c : AreQuorumsAndBoth n f xs ys zs) 
       let size_zs = size-truths n zs c.both.strict members in
       let at_least = Overlap-at_least n (n - f) (n - f) k (omega arith) (omega arith) h in
       let shared_least =
-          at_least.shares (truths n xs) (truths n ys) (length-passing _ n) (length-passing _ n)
-          (omega (arith, size_xs, c.first_enough)) (omega (arith, size_ys, c.second_enough)) in
+      at_least.shares (truths n xs) (truths n ys) (length-passing _ n) (length-passing _ n)
+      (omega (arith, size_xs, c.first_enough)) (omega (arith, size_ys, c.second_enough)) in
       omega (arith, shared-truths n xs ys zs c.both, size_zs, shared_least)
 
   -- where any two sub-sets of n - f share f + 1, so many are in both

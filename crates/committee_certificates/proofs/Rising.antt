@@ -40,7 +40,7 @@ rises_from_increasing : (low : ℕ) (xs : List ℕ) → (0 < length xs → low �
 rises_from_increasing low [] above h = tt
 rises_from_increasing low (x ∷ xs) above h =
     let rest = rises_from_increasing (x + 1) xs (λ some. omega (arith, h 0 (omega arith)))
-        (λ k below. let next = h (suc k) (omega arith) in simp add-one (simp add-one at next)) in
+    (λ k below. let next = h (suc k) (omega arith) in simp add-one (simp add-one at next)) in
     (above (omega arith), rest)
 
 -- strict numbers rise

@@ -1,5 +1,5 @@
 //! The members that signed both of two certificates for different values.
-ghost use Rattle.std.specs.Prelude.{◌≡◌, ◌≢◌, ◌+◌, ◌*◌, ◌≤◌, ◌⊎◌, ◌↔◌, IfOk, IsErrOf, IsFalse, IsTrue, OnOk, length, pos};
+ghost use Rattle.std.specs.Prelude.{◌≡◌, ◌≢◌, ◌+◌, ◌*◌, ◌<◌, ◌≤◌, ◌⊎◌, ◌↔◌, IfOk, IsErrOf, IsFalse, IsTrue, OnOk, length, pos};
 ghost use Rattle.committee_certificates.specs.declared.conflicts.ConflictError.TheVariants.{Outside, TooFew};
 ghost use Rattle.committee_certificates.specs.Signers.{AreInBoth, AreMembers, AreQuorum, AreTooFew};
 ghost use Rattle.committee_certificates.specs.Signers.{HasOutsider, LeavesOneOutside};
@@ -71,20 +71,40 @@ pub fn conflict<M: Faults, T: Ord, A: Allocator>(
         → IfOk result
         (LeavesOneOutside (length committee.now) (M.faults (length committee.now))) }
 {
-    let members = committee.len();
     let first_signers = first.signers.as_slice();
     let second_signers = second.signers.as_slice();
-    if has_outsider(members, first_signers) || has_outsider(members, second_signers) {
-        return Err(ConflictError::Outside);
-    }
+    let members = committee.len();
     let quorum = committee.quorum::<M>() as usize;
-    if first_signers.len() < quorum || second_signers.len() < quorum {
-        return Err(ConflictError::TooFew);
-    }
+    check_signers(members, quorum, first_signers, second_signers)?;
     match in_both(alloc, first_signers, second_signers) {
         Ok(both) => Ok(Set::from_strict(both)),
         Err(_) => Err(ConflictError::Memory),
     }
+}
+
+/// Refuses a signer of either list that is no member, and then a list shorter than a quorum. The
+/// committee has so many members.
+fn check_signers(
+    members: usize,
+    quorum: usize,
+    first: &[Participant],
+    second: &[Participant],
+) -> Result<(), ConflictError>
+    ensures outside { IsErrOf result Outside
+        ↔ (HasOutsider members first.now ⊎ HasOutsider members second.now) }
+    ensures too_few { IsErrOf result TooFew
+        ↔ (AreMembers members first.now × AreMembers members second.now
+        × ((length first.now < quorum) ⊎ (length second.now < quorum))) }
+    ensures members { OnOk result (AreMembers members first.now × AreMembers members second.now) }
+    ensures enough { OnOk result ((quorum ≤ length first.now) × (quorum ≤ length second.now)) }
+{
+    if has_outsider(members, first) || has_outsider(members, second) {
+        return Err(ConflictError::Outside);
+    }
+    if first.len() < quorum || second.len() < quorum {
+        return Err(ConflictError::TooFew);
+    }
+    Ok(())
 }
 
 /// Whether a signer is at or past the committee's length, which is the number of its members.

@@ -11,16 +11,16 @@ quorums : (g : Over) (c : goal.After-from_strict g)
 quorums g c =
     let one = c.as_slice-first_signers.ensures.items in
     let two = c.as_slice-second_signers.ensures.items in
+    let members = rw (c.len-members.ensures, one, two) at c.in_ok-check_signers.ensures.members in
+    let enough = c.in_ok-check_signers.ensures.enough in
     let in_both = rw (one, two, ← c.from_strict.ensures) at c.in-Ok.ensures in
-    let first_in = c.has_outsider.ensures.is_false c.if-has_outsider.false in
-    let second_in = c.has_outsider-else-has_outsider.ensures.is_false c.if-has_outsider-2.false in
     record {
       first_strict = c.as_slice-first_signers.ensures.strict;
       second_strict = c.as_slice-second_signers.ensures.strict;
-      first_members = rw (c.len-members.ensures, one) at first_in;
-      second_members = rw (c.len-members.ensures, two) at second_in;
-      first_enough = omega (arith, ap length one, c.quorum-quorum.ensures, c.if-first_signers-quorum.false);
-      second_enough = omega (arith, ap length two, c.quorum-quorum.ensures, c.if-second_signers-quorum.false);
+      first_members = members.0;
+      second_members = members.1;
+      first_enough = omega (arith, ap length one, c.quorum-quorum.ensures, enough.0);
+      second_enough = omega (arith, ap length two, c.quorum-quorum.ensures, enough.1);
       both = in_both;
     }
 
