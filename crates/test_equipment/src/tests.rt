@@ -2,8 +2,10 @@
 //! refused.
 
 mod bounds;
+mod certificates;
 mod committee_sizes;
 mod committees;
+mod conflicts;
 mod counting;
 mod drawn;
 mod every_bound;

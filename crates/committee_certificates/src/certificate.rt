@@ -1,0 +1,20 @@
+//! A value and the participants that signed it.
+
+mod codec;
+mod compare;
+mod text;
+
+pub use codec::certificate_fault_law;
+use commonware_base::Participant;
+use commonware_ordered::Set;
+use std::alloc::Allocator;
+
+/// A value, and the participants that signed it, each once. Nothing here looks at a signature:
+/// that they did sign is for the caller to know.
+#[derive(Drop)]
+pub struct Certificate<A: Allocator> {
+    /// The bytes that were signed, which stand for whatever the protocol agrees on.
+    pub value: Vec<u8, A>,
+    /// The indices of those that signed, in the committee of the protocol.
+    pub signers: Set<Participant, A>,
+}

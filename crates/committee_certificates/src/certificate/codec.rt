@@ -1,0 +1,99 @@
+//! The byte form of a certificate: its value as a list of bytes, and then its signers as a set.
+ghost use Rattle.std.specs.Prelude.{◌≡◌, ℕ, List};
+ghost use Rattle.commonware_base.specs.Fault.{Fault};
+ghost use Rattle.commonware_base.specs.Sequence.{sequence_cut};
+ghost use Rattle.commonware_base.specs.TextLaws.{canonical_on, laws_on, prefix_free_on};
+ghost use Rattle.committee_certificates.specs.Certificates.{are_equal_parts, certificate_enc, parts};
+ghost use Rattle.committee_certificates.specs.Certificates.{CertificateFault, IsAllowedCertificate};
+ghost use Rattle.committee_certificates.specs.Certificates.{IsWritableCertificate};
+ghost use Rattle.committee_certificates.specs.CertificateLaws.{certificate_bytes, certificate_laws};
+ghost use Rattle.committee_certificates.specs.CertificateLaws.{certificate_canonical, certificate_of};
+ghost use Rattle.committee_certificates.specs.CertificateLaws.{certificate_prefix_free};
+
+use super::Certificate;
+use commonware_base::Participant;
+use commonware_base::codec::{
+    Canonical, EncodeSize, Error, RangeCfg, Read, Source, Write, read_list,
+};
+use commonware_ordered::read_set;
+use std::alloc::{AllocError, Allocator};
+
+impl<A: Allocator> EncodeSize for Certificate<A> {
+    ghost enc = { λ c. certificate_enc (parts c) };
+
+    ghost writable = { λ c. IsWritableCertificate (parts c) };
+
+    ghost prefix_free = { prefix_free_on parts certificate_enc IsWritableCertificate
+        certificate_prefix_free };
+
+    ghost text_of_bytes = { λ c w. certificate_bytes (parts c) w };
+
+    fn encode_size(&self) -> usize {
+        self.value.encode_size() + self.signers.encode_size()
+    }
+
+    fn is_writable(&self) -> bool {
+        self.value.is_writable() && self.signers.is_writable()
+    }
+}
+
+impl<A: Allocator> Write<A> for Certificate<A> {
+    fn write(&self, sink: &mut Vec<u8, A>) -> Result<(), AllocError> {
+        let start = sink.len();
+        self.value.write(sink)?;
+        match self.signers.write(sink) {
+            Ok(()) => Ok(()),
+            Err(error) => {
+                sink.truncate(start);
+                Err(error)
+            }
+        }
+    }
+}
+
+impl<A: Allocator + Copy> Read<A> for Certificate<A> {
+    type Cfg = (RangeCfg<usize>, RangeCfg<usize>);
+
+    ghost allowed = { λ c v. IsAllowedCertificate c.0 c.1 (parts v) };
+
+    ghost fault = { λ c. CertificateFault c.0 c.1 };
+
+    ghost memory_free = { λ _ _. ⊥ };
+
+    ghost read_laws = { λ alloc c. laws_on parts certificate_enc IsWritableCertificate
+        (IsAllowedCertificate c.0 c.1) (CertificateFault c.0 c.1)
+        (λ x w _. certificate_of alloc x w) (certificate_laws c.0 c.1) };
+
+    /// Reads the value as a list of bytes under the first range, and then the signers as a set
+    /// under the second.
+    fn read_cfg(alloc: A, src: &mut Source<'_>, cfg: &Self::Cfg) -> Result<Certificate<A>, Error> {
+        let mut here = *src;
+        let value = match read_list::<u8, A>(alloc, &mut here, cfg.0, &()) {
+            Ok(value) => value,
+            Err(error) => return Err(error),
+        };
+        match read_set::<Participant, A>(alloc, &mut here, cfg.1, &()) {
+            Ok(signers) => {
+                *src = here;
+                Ok(Certificate { value, signers })
+            }
+            Err(error) => Err(error),
+        }
+    }
+}
+
+impl<A: Allocator> Canonical for Certificate<A> {
+    ghost canonical = { canonical_on parts certificate_enc IsWritableCertificate are_equal_parts
+        certificate_canonical };
+}
+
+/// The cuts at which a text is no certificate exclude one another: no text has a fault of the
+/// value and one of the signers.
+pub fn certificate_fault_law(value: RangeCfg<usize>, signers: RangeCfg<usize>)
+    ensures { (s : List ℕ) (f g : Fault)
+        (v : CertificateFault value signers s f) (w : CertificateFault value signers s g)
+        → sequence_cut v ≡ sequence_cut w }
+{
+    // The contract alone speaks of them.
+    let _ = (value, signers);
+}

@@ -1,0 +1,145 @@
+//! The members that signed both of two certificates for different values.
+ghost use Rattle.std.specs.Prelude.{◌≡◌, ◌≢◌, ◌+◌, ◌*◌, ◌<◌, ◌≤◌, ◌⊎◌, ◌↔◌, IfOk, IsErrOf, IsFalse, IsTrue, OnOk, length, pos};
+ghost use Rattle.committee_certificates.specs.declared.conflicts.ConflictError.TheVariants.{Outside, TooFew};
+ghost use Rattle.committee_certificates.specs.Signers.{AreInBoth, AreMembers, AreQuorum, AreTooFew};
+ghost use Rattle.committee_certificates.specs.Signers.{HasOutsider, LeavesOneOutside};
+ghost use Rattle.commonware_faults.specs.Counts.{IsCommitteeSize};
+ghost use Rattle.commonware_faults.specs.Subsets.{Greatest3, Greatest5};
+ghost use Rattle.commonware_ordered.specs.Strict.{IsStrict};
+
+use crate::certificate::Certificate;
+use commonware_base::Participant;
+use commonware_faults::Faults;
+use commonware_ordered::{Quorum, Set};
+use std::alloc::{AllocError, Allocator};
+
+/// Why two certificates name no members that signed both.
+#[derive(Clone, Copy, Debug, PartialEq, Eq, thiserror::Error)]
+pub enum ConflictError {
+    /// A signer of one of them is at or past the committee's length.
+    #[error("a signer is no member of the committee")]
+    Outside,
+    /// All signers are members, and fewer than a quorum signed one of them.
+    #[error("fewer signers than a quorum")]
+    TooFew,
+    /// A request for memory was refused. It says nothing of the certificates.
+    #[error("out of memory")]
+    Memory,
+}
+
+/// The members that signed both of two certificates for different values: exactly the signers of
+/// both. The committee has 1 to `u32::MAX` members.
+///
+/// A signer at or past the committee's length is told first, as `Outside`; then, where every
+/// signer is a member, a certificate with fewer signers than a quorum of the fault model, as
+/// `TooFew`. Both are looked at before any memory is taken, so `Memory` comes after them.
+///
+/// Where the model's number of faults f is the greatest for which any two quorums share f + 1
+/// members, at least f + 1 members are answered; where it is the greatest for which they share
+/// 3f + 1, at least 3f + 1 are. In either case, whichever f members are faulty, one that is
+/// answered isn't among them. Nothing is said of whether those who are named did sign, or are
+/// honest.
+///
+/// It walks the signers of each certificate a constant number of times, and makes one request for
+/// memory, for as many indices as the certificate with fewer signers has.
+pub fn conflict<M: Faults, T: Ord, A: Allocator>(
+    alloc: A,
+    committee: &Set<T, A>,
+    first: &Certificate<A>,
+    second: &Certificate<A>,
+) -> Result<Set<Participant, A>, ConflictError>
+    requires differ { first.now.value.items ≢ second.now.value.items }
+    requires some { IsCommitteeSize (pos (length committee.now)) }
+    ensures outside { IsErrOf result Outside
+        ↔ (HasOutsider (length committee.now) first.now.signers
+        ⊎ HasOutsider (length committee.now) second.now.signers) }
+    ensures too_few { IsErrOf result TooFew
+        ↔ (AreMembers (length committee.now) first.now.signers
+        × AreMembers (length committee.now) second.now.signers
+        × (AreTooFew M.faults (length committee.now) first.now.signers
+        ⊎ AreTooFew M.faults (length committee.now) second.now.signers)) }
+    ensures quorums { OnOk result
+        (AreQuorum M.faults (length committee.now) first.now.signers
+        × AreQuorum M.faults (length committee.now) second.now.signers) }
+    ensures both { IfOk result (AreInBoth first.now.signers second.now.signers) }
+    ensures thirds { Greatest3 (length committee.now) (M.faults (length committee.now))
+        → IfOk result (λ both. M.faults (length committee.now) + 1 ≤ length both) }
+    ensures fifths { Greatest5 (length committee.now) (M.faults (length committee.now))
+        → IfOk result (λ both. 3 * M.faults (length committee.now) + 1 ≤ length both) }
+    ensures outlasts { (Greatest3 (length committee.now) (M.faults (length committee.now))
+        ⊎ Greatest5 (length committee.now) (M.faults (length committee.now)))
+        → IfOk result
+        (LeavesOneOutside (length committee.now) (M.faults (length committee.now))) }
+{
+    let first_signers = first.signers.as_slice();
+    let second_signers = second.signers.as_slice();
+    let members = committee.len();
+    let quorum = committee.quorum::<M>() as usize;
+    check_signers(members, quorum, first_signers, second_signers)?;
+    match in_both(alloc, first_signers, second_signers) {
+        Ok(both) => Ok(Set::from_strict(both)),
+        Err(_) => Err(ConflictError::Memory),
+    }
+}
+
+/// Refuses a signer of either list that is no member, and then a list shorter than a quorum. The
+/// committee has so many members.
+fn check_signers(
+    members: usize,
+    quorum: usize,
+    first: &[Participant],
+    second: &[Participant],
+) -> Result<(), ConflictError>
+    ensures outside { IsErrOf result Outside
+        ↔ (HasOutsider members first.now ⊎ HasOutsider members second.now) }
+    ensures too_few { IsErrOf result TooFew
+        ↔ (AreMembers members first.now × AreMembers members second.now
+        × ((length first.now < quorum) ⊎ (length second.now < quorum))) }
+    ensures members { OnOk result (AreMembers members first.now × AreMembers members second.now) }
+    ensures enough { OnOk result ((quorum ≤ length first.now) × (quorum ≤ length second.now)) }
+{
+    if has_outsider(members, first) || has_outsider(members, second) {
+        return Err(ConflictError::Outside);
+    }
+    if first.len() < quorum || second.len() < quorum {
+        return Err(ConflictError::TooFew);
+    }
+    Ok(())
+}
+
+/// Whether a signer is at or past the committee's length, which is the number of its members.
+fn has_outsider(members: usize, signers: &[Participant]) -> bool
+    ensures is_true { IsTrue result → HasOutsider members signers.now }
+    ensures is_false { IsFalse result → AreMembers members signers.now }
+{
+    signers.iter().any(|signer| usize::from(*signer) >= members)
+}
+
+/// The participants in both of two lists, which are strict. Both are walked once, side by side.
+fn in_both<A: Allocator>(
+    alloc: A,
+    first: &[Participant],
+    second: &[Participant],
+) -> Result<Vec<Participant, A>, AllocError>
+    requires first_strict { IsStrict ⟦<Participant as Ord>⟧.cmp first.now }
+    requires second_strict { IsStrict ⟦<Participant as Ord>⟧.cmp second.now }
+    ensures { IfOk result (λ both. AreInBoth first.now second.now both.items) }
+{
+    let mut both = Vec::with_capacity(alloc, first.len().min(second.len()))?;
+    let mut i = 0;
+    let mut j = 0;
+    while i < first.len() && j < second.len() {
+        let x = first[i];
+        let y = second[j];
+        if x.get() < y.get() {
+            i += 1;
+        } else if y.get() < x.get() {
+            j += 1;
+        } else {
+            both.push(x)?;
+            i += 1;
+            j += 1;
+        }
+    }
+    Ok(both)
+}

@@ -1,0 +1,9 @@
+//! Certificates, which are values with the members of a committee that signed them, and the
+//! members that signed two different ones.
+#![tactic(auto)]
+
+mod certificate;
+mod conflicts;
+
+pub use certificate::{Certificate, certificate_fault_law};
+pub use conflicts::{ConflictError, conflict};

@@ -1,0 +1,158 @@
+//! Certificates that are read, written and cloned, and texts that are none.
+use committee_certificates::{Certificate, ConflictError};
+use commonware_utils::Participant;
+use commonware_utils::codec::{EncodeSize, Error, RangeCfg, Read, Source, Write};
+use commonware_utils::ordered::Set;
+use std::alloc::{AllocError, Global};
+use std::test::Fail;
+
+/// A text that begins with a certificate: its value, its signers, and how many bytes follow.
+struct Accepted {
+    bytes: &'static [u8],
+    value: &'static [u8],
+    signers: &'static [u32],
+    left: usize,
+}
+
+const ACCEPTED: [Accepted; 4] = [
+    Accepted {
+        bytes: b"\x01\xaa\x03\x00\x01\x02\xff",
+        value: b"\xaa",
+        signers: &[0, 1, 2],
+        left: 1,
+    },
+    Accepted {
+        bytes: b"\x00\x00",
+        value: b"",
+        signers: &[],
+        left: 0,
+    },
+    Accepted {
+        bytes: b"\x00\x01\xff\xff\xff\xff\x0f\x00\x00",
+        value: b"",
+        signers: &[4294967295],
+        left: 2,
+    },
+    Accepted {
+        bytes: b"\x20aaaaaaaabbbbbbbbccccccccdddddddd\x02\x80\x01\x81\x01",
+        value: b"aaaaaaaabbbbbbbbccccccccdddddddd",
+        signers: &[128, 129],
+        left: 0,
+    },
+];
+
+/// Texts and their first faults.
+const REFUSED: [(&[u8], Error); 11] = [
+    (b"", Error::EndOfBuffer),
+    (b"\x21", Error::InvalidLength(33)),
+    (b"\x80\x00", Error::InvalidVarint),
+    (b"\x02\xaa", Error::EndOfBuffer),
+    (b"\x01\xaa", Error::EndOfBuffer),
+    (b"\x01\xaa\x81\x02", Error::InvalidLength(257)),
+    (b"\x01\xaa\x02\x01", Error::EndOfBuffer),
+    (
+        b"\x01\xaa\x02\x01\x01",
+        Error::Invalid("Set", "items must be sorted and unique"),
+    ),
+    (
+        b"\x01\xaa\x02\x02\x01",
+        Error::Invalid("Set", "items must be sorted and unique"),
+    ),
+    (b"\x01\xaa\x01\x80\x00", Error::InvalidVarint),
+    (b"\x01\xaa\x01\xff\xff\xff\xff\x10", Error::InvalidVarint),
+];
+
+/// The certificate that the source begins with, of a value of at most 32 bytes and at most 256
+/// signers.
+fn read(alloc: Global, src: &mut Source<'_>) -> Result<Certificate<Global>, Error> {
+    let limits = (RangeCfg::from(..=32), RangeCfg::from(0..=256));
+    Certificate::read_cfg(alloc, src, &limits)
+}
+
+/// Whether the certificate is read, and has this value and these signers.
+fn is_accepted(alloc: Global, row: &Accepted) -> bool {
+    let mut src = Source::new(row.bytes);
+    let Ok(certificate) = read(alloc, &mut src) else {
+        return false;
+    };
+    let signers = certificate.signers.iter().map(|signer| signer.get());
+    certificate.value.as_slice() == row.value
+        && signers.eq(row.signers.iter().copied())
+        && src.remaining() == row.left
+}
+
+/// Whether the certificate is written as its bytes, and its clone equals it.
+fn is_written(alloc: Global, row: &Accepted) -> Result<bool, Fail> {
+    let certificate = read(alloc, &mut Source::new(row.bytes)).map_err(|_| "refused")?;
+    if !certificate.is_writable() {
+        return Ok(false);
+    }
+    let mut sink: Vec<u8, Global> = Vec::new(alloc);
+    certificate.write(&mut sink)?;
+    let written = row.bytes.starts_with(sink.as_slice());
+    let whole = sink.len() + row.left == row.bytes.len();
+    let sized = certificate.encode_size() == sink.len();
+    Ok(written && whole && sized && certificate.clone()? == certificate)
+}
+
+/// Whether the text is refused for this, and the source stays.
+fn is_refused(alloc: Global, bytes: &[u8], wanted: Error) -> bool {
+    let mut src = Source::new(bytes);
+    match read(alloc, &mut src) {
+        Ok(_) => false,
+        Err(error) => error == wanted && src.position() == 0,
+    }
+}
+
+#[test]
+fn certificates_are_read_and_written(rt: HostRuntime) -> Result<(), Fail> {
+    for row in &ACCEPTED {
+        assert!(rt; is_accepted(rt.alloc(), row), "{:?}", row.bytes);
+        assert!(rt; is_written(rt.alloc(), row)?, "{:?}", row.bytes);
+    }
+    Ok(())
+}
+
+#[test]
+fn other_texts_are_refused(rt: HostRuntime) {
+    for (bytes, error) in REFUSED {
+        assert!(rt; is_refused(rt.alloc(), bytes, error), "{bytes:?}");
+    }
+}
+
+/// Where a certificate is cut short, the end of its text is its fault, wherever the cut is.
+#[test]
+fn beginnings_are_refused(rt: HostRuntime) {
+    for row in &ACCEPTED {
+        let length = row.bytes.len().saturating_sub(row.left);
+        for end in 0..length {
+            let (beginning, _) = row.bytes.split_at(end);
+            let refused = is_refused(rt.alloc(), beginning, Error::EndOfBuffer);
+            assert!(rt; refused, "{beginning:?}");
+        }
+    }
+}
+
+#[test]
+fn certificates_and_errors_are_shown(rt: HostRuntime) -> Result<(), AllocError> {
+    let alloc = rt.alloc();
+    let certificate = Certificate {
+        value: Vec::from_slice(alloc, &[0xaau8, 0])?,
+        signers: Set::from_iter_dedup(alloc, [7u32, 0].map(Participant::new))?,
+    };
+    let shown = format!(in alloc; "{certificate:?}")?;
+    let wanted = "Certificate { value: [170, 0], signers: Set([Participant(0), Participant(7)]) }";
+    assert!(rt; shown.as_str() == wanted, "{shown}");
+    for (error, words) in [
+        (
+            ConflictError::Outside,
+            "a signer is no member of the committee",
+        ),
+        (ConflictError::TooFew, "fewer signers than a quorum"),
+        (ConflictError::Memory, "out of memory"),
+    ] {
+        let shown = format!(in alloc; "{error}")?;
+        assert!(rt; shown.as_str() == words, "{shown}");
+    }
+    Ok(())
+}

@@ -1,0 +1,77 @@
+//! The members that signed two different values.
+ghost use Rattle.std.specs.Prelude.{◌≡◌, ◌≢◌, ◌+◌, ◌-◌, ◌*◌, ◌/◌, ◌≤◌, ◌⊎◌, ◌↔◌, ℕ, List, IfOk, IsErrOf, Ok, length, pos};
+ghost use Rattle.committee_certificates.specs.declared.conflicts.ConflictError.TheVariants.{Outside, TooFew};
+ghost use Rattle.committee_certificates.specs.Signers.{AreInBoth, AreMembers, AreTooFew};
+ghost use Rattle.committee_certificates.specs.Signers.{HasOutsider, LeavesOneOutside};
+ghost use Rattle.commonware_utils.specs.Faults.{IsCommitteeSize};
+
+use committee_certificates::{Certificate, ConflictError, conflict};
+use commonware_utils::Participant;
+use commonware_utils::faults::{Faults, N3f1, N5f1};
+use commonware_utils::ordered::Set;
+use std::alloc::Global;
+
+/// The members that signed both of two certificates for different values, under `N3f1`: more than
+/// the third part of the others, so one of them isn't faulty.
+pub fn conflict_n3f1(
+    alloc: Global,
+    members: &Set<u32, Global>,
+    first: &Certificate<Global>,
+    second: &Certificate<Global>,
+) -> Result<Set<Participant, Global>, ConflictError>
+    requires differ { first.now.value.items ≢ second.now.value.items }
+    requires some { IsCommitteeSize (pos (length members.now)) }
+    ensures both { IfOk result (AreInBoth first.now.signers second.now.signers) }
+    ensures many { IfOk result (λ both. (length members.now - 1) / 3 + 1 ≤ length both) }
+    ensures outlast { IfOk result
+        (LeavesOneOutside (length members.now) ((length members.now - 1) / 3)) }
+{
+    conflict::<N3f1, _, _>(alloc, members, first, second)
+}
+
+/// The members that signed both of two certificates for different values, under `N5f1`: more than
+/// three times the fifth part of the others, so one of them isn't faulty.
+pub fn conflict_n5f1(
+    alloc: Global,
+    members: &Set<u32, Global>,
+    first: &Certificate<Global>,
+    second: &Certificate<Global>,
+) -> Result<Set<Participant, Global>, ConflictError>
+    requires differ { first.now.value.items ≢ second.now.value.items }
+    requires some { IsCommitteeSize (pos (length members.now)) }
+    ensures both { IfOk result (AreInBoth first.now.signers second.now.signers) }
+    ensures many { IfOk result (λ both. 3 * ((length members.now - 1) / 5) + 1 ≤ length both) }
+    ensures outlast { IfOk result
+        (LeavesOneOutside (length members.now) ((length members.now - 1) / 5)) }
+{
+    conflict::<N5f1, _, _>(alloc, members, first, second)
+}
+
+/// How many members signed two different values, under `N3f1`: no one where the values are the
+/// same. The committee has 1 to `u32::MAX` members.
+pub fn accused(
+    alloc: Global,
+    members: &Set<u32, Global>,
+    first: &Certificate<Global>,
+    second: &Certificate<Global>,
+) -> Result<usize, ConflictError>
+    requires some { IsCommitteeSize (pos (length members.now)) }
+    ensures same { first.now.value.items ≡ second.now.value.items → result ≡ Ok 0 }
+    ensures outside { first.now.value.items ≢ second.now.value.items → IsErrOf result Outside
+        ↔ (HasOutsider (length members.now) first.now.signers
+        ⊎ HasOutsider (length members.now) second.now.signers) }
+    ensures too_few { first.now.value.items ≢ second.now.value.items → IsErrOf result TooFew
+        ↔ (AreMembers (length members.now) first.now.signers
+        × AreMembers (length members.now) second.now.signers
+        × (AreTooFew ⟦<N3f1 as Faults>⟧.faults (length members.now) first.now.signers
+        ⊎ AreTooFew ⟦<N3f1 as Faults>⟧.faults (length members.now) second.now.signers)) }
+    ensures counts { first.now.value.items ≢ second.now.value.items → IfOk result
+        (λ count. (both : List ℕ) × AreInBoth first.now.signers second.now.signers both
+        × (count ≡ length both)) }
+{
+    if first.value == second.value {
+        return Ok(0);
+    }
+    let both = conflict::<N3f1, _, _>(alloc, members, first, second)?;
+    Ok(both.len())
+}
