@@ -14,6 +14,7 @@ mod long_inputs;
 mod memory_free_texts;
 mod refused_bimaps;
 mod refused_codec;
+mod refused_headline;
 mod refused_insertions;
 mod refused_items;
 mod refused_lists;
