@@ -11,6 +11,7 @@ mod compare;
 mod iterators;
 mod text;
 
+use crate::search::place_of;
 pub use codec::{read_set, set_fault_law};
 use std::alloc::Allocator;
 use std::marker::Model;
@@ -100,13 +101,13 @@ impl<T: Ord, A: Allocator> Set<T, A> {
         self.as_slice().iter()
     }
 
-    /// The place of the item that equals the one asked, or `None` where none does. The list is
-    /// halved: O(log n) comparisons.
+    /// The place of the item that equals the one asked, or `None` where none does. It takes
+    /// O(log n) comparisons.
     pub fn position(&self, item: &T) -> Option<usize>
         ensures place { IsPlaceOf T.eq self.now item.now result }
         ensures only { (p : ℕ) → (result ≡ Some p) ↔ ((x : T) × (slice_get self.now p ≡ Some x) × (T.eq x item.now ≡ true)) }
     {
-        self.as_slice().binary_search(item).ok()
+        place_of(self.as_slice(), item)
     }
 }
 

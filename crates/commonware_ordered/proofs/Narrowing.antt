@@ -1,0 +1,97 @@
+-- Where an item of a strict list stands that equals the one sought.
+use Rattle.std.proofs.Common.{◌≡◌, ℕ, ◌+◌, ◌-◌, ◌*◌, ◌<◌, ◌≤◌, Bool, true, false, List, length, get_or, refl, sym, ◌∙◌, ap, subst, arith, ⊎_elim}
+use Rattle.std.specs.List.{HoldsAt}
+use Rattle.std.proofs.lemmas.List.{get_or_default}
+use Rattle.std.proofs.lemmas.Nat.{mul-le}
+use Rattle.std.specs.Cmp.{IsTotalOrder}
+use Rattle.std.specs.Ordering.{is_eq, is_le, ordering_reverse}
+use Rattle.std.specs.declared.cmp.Ordering.{Ordering}
+use Rattle.std.proofs.lemmas.Bool.{cases_lt}
+use Rattle.std.proofs.lemmas.Cmp.{alike_right}
+use Rattle.std.proofs.lemmas.Map.Keys.{Less-from_sorted}
+use Rattle.commonware_ordered.specs.Strict.{IsStrict}
+use Rattle.commonware_ordered.specs.StrictLaws.{level, sorted_from_strict}
+
+module _ {X : Type 0} {cmp : X → X → Ordering} (o : IsTotalOrder cmp) {eq : X → X → Bool} (ties : (x y : X) → eq x y ≡ is_eq (cmp x y)) where
+  -- what the item at place i answers, where the item at place k equals x
+  pub at_most_from_place : (xs : List X) (x : X) (i k : ℕ) (d : X) → IsStrict cmp xs → i < length xs → k < length xs → HoldsAt (λ y. eq y x ≡ true) xs k
+      → (i ≤ k → is_le (cmp (get_or xs i d) x) ≡ true) × (k < i → is_le (cmp (get_or xs i d) x) ≡ false)
+  at_most_from_place xs x i k d s here there h =
+      let e = level cmp eq o ties (get_or xs k d) x (h d) in
+      let turned = alike_right o (get_or xs k d) x (get_or xs i d) e in (
+        λ low. ⊎_elim
+            (λ before. ap is_le (sym turned ∙ Less-from_sorted cmp xs i k d (sorted_from_strict o xs s) before there))
+            (λ after. let same : k ≡ i = omega arith in subst (λ j. is_le (cmp (get_or xs j d) x) ≡ true) same (ap is_le e))
+            (cases_lt i k),
+        λ high. ap is_le (sym turned ∙ (o.antisymm (get_or xs i d) (get_or xs k d) ∙ ap ordering_reverse (Less-from_sorted cmp xs k i d (sorted_from_strict o xs s) high here))),
+      )
+
+-- a step of the search: place k stays between its bounds
+pub narrowed : (base size q k a b c : ℕ) → 4 * q ≤ size
+    → (base + q ≤ k → a ≡ 1) × (k < base + q → a ≡ 0)
+    → (base + 2 * q ≤ k → b ≡ 1) × (k < base + 2 * q → b ≡ 0)
+    → (base + 3 * q ≤ k → c ≡ 1) × (k < base + 3 * q → c ≡ 0)
+    → base ≤ k → k < base + size
+    → (base + q * (a + b + c) ≤ k) × (k < base + q * (a + b + c) + (size - 3 * q))
+narrowed base size q k a b c room one two three low high = ⊎_elim none (λ h. ⊎_elim (some1 h) (λ h2. ⊎_elim (some2 h2) all (cases_lt k (base + 3 * q))) (cases_lt k (base + 2 * q))) (cases_lt k (base + q))
+  where
+    Goal : ℕ → Type 0
+    Goal n = (base + q * n ≤ k) × (k < base + q * n + (size - 3 * q))
+
+    none : k < base + q → Goal (a + b + c)
+    none h =
+        let e : 0 ≡ a + b + c = let x = one.1 h in let y = two.1 (omega arith) in let z = three.1 (omega arith) in omega arith in
+        subst Goal e (omega arith, omega arith)
+
+    some1 : base + q ≤ k → k < base + 2 * q → Goal (a + b + c)
+    some1 g h =
+        let e : 1 ≡ a + b + c = let x = one.0 g in let y = two.1 h in let z = three.1 (omega arith) in omega arith in
+        subst Goal e (omega arith, omega arith)
+
+    some2 : base + 2 * q ≤ k → k < base + 3 * q → Goal (a + b + c)
+    some2 g h =
+        let e : 2 ≡ a + b + c = let x = one.0 (omega arith) in let y = two.0 g in let z = three.1 h in omega arith in
+        subst Goal e (omega arith, omega arith)
+
+    all : base + 3 * q ≤ k → Goal (a + b + c)
+    all g =
+        let e : 3 ≡ a + b + c = let x = one.0 (omega arith) in let y = two.0 (omega arith) in let z = three.0 g in omega arith in
+        subst Goal e (omega arith, omega arith)
+
+-- the last step of two places
+pub last_of_two : (base size k a : ℕ) → size ≤ 2
+    → (base + 1 ≤ k → a ≡ 1) × (k < base + 1 → a ≡ 0)
+    → base ≤ k → k < base + size → base + a ≡ k
+last_of_two base size k a few one low high =
+    ⊎_elim (λ h. let x = one.1 h in omega arith) (λ h. let x = one.0 h in omega arith) (cases_lt k (base + 1))
+
+-- the last step of three places
+pub last_of_three : (base size k a b : ℕ) → size ≤ 3
+    → (base + 1 ≤ k → a ≡ 1) × (k < base + 1 → a ≡ 0)
+    → (base + 2 ≤ k → b ≡ 1) × (k < base + 2 → b ≡ 0)
+    → base ≤ k → k < base + size → base + a + b ≡ k
+last_of_three base size k a b few one two low high =
+    ⊎_elim
+    (λ h. let x = one.1 h in let y = two.1 (omega arith) in omega arith)
+    (λ h. ⊎_elim (λ l. let x = one.0 h in let y = two.1 l in omega arith) (λ l. let x = one.0 h in let y = two.0 l in omega arith) (cases_lt k (base + 2)))
+    (cases_lt k (base + 1))
+
+-- a sum of three answers times a quarter is at most three quarters
+pub passed_at_most : (q a b c : ℕ) → a ≤ 1 → b ≤ 1 → c ≤ 1 → q * (a + b + c) ≤ q * 3
+passed_at_most q a b c x y z = mul-le q (a + b + c) q 3 (omega arith) (omega arith)
+
+-- where the only place that can hold an equal item holds none, none does
+pub none_from_only : {X : Type 0} (eq : X → X → Bool) (xs : List X) (x : X) (place : ℕ)
+    → ((k : ℕ) → k < length xs → HoldsAt (λ y. eq y x ≡ true) xs k → place ≡ k)
+    → (place < length xs → (d : X) → eq (get_or xs place d) x ≡ false)
+    → (k : ℕ) (d : X) → k < length xs → eq (get_or xs k d) x ≡ false
+none_from_only {X} eq xs x place only other k d there = go (eq (get_or xs k d) x) refl
+  where
+    any : eq (get_or xs k d) x ≡ true → HoldsAt (λ y. eq y x ≡ true) xs k
+    any e f = ap (λ y. eq y x) (get_or_default xs k f d there) ∙ e
+
+    go : (b : Bool) → eq (get_or xs k d) x ≡ b → b ≡ false
+    go false e = refl
+    go true e =
+        let same = only k there (any e) in
+        sym e ∙ subst (λ i. eq (get_or xs i d) x ≡ false) same (other (omega arith) d)

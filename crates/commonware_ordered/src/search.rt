@@ -1,0 +1,65 @@
+//! The place of an item in a strict list, looked up without a branch that hangs on a comparison.
+ghost use Rattle.std.specs.Prelude.{◌≡◌, ◌≤◌, ◌<◌, ◌+◌, ℕ, true, length};
+ghost use Rattle.std.specs.List.{HoldsAt};
+ghost use Rattle.commonware_ordered.specs.Strict.{IsPlaceOf, IsStrict, IsWithin};
+
+/// 1 where the item at a place is at most the one sought, else 0.
+#[inline(always)]
+fn reached<T: Ord>(items: &[T], place: usize, item: &T) -> usize
+    requires strict { IsStrict T.cmp items.now }
+    requires inside { place < length items.now }
+    ensures bound { result ≤ 1 }
+    ensures value { (k : ℕ) → k < length items.now
+        → HoldsAt (λ y. T.eq y item.now ≡ true) items.now k
+        → (place ≤ k → result ≡ 1) × (k < place → result ≡ 0) }
+{
+    if items[place].cmp(item).is_le() { 1 } else { 0 }
+}
+
+/// The one place of at most three from `base` on where an item can equal the one sought.
+#[inline(always)]
+fn last_steps<T: Ord>(items: &[T], base: usize, size: usize, item: &T) -> usize
+    requires strict { IsStrict T.cmp items.now }
+    requires inside { base + size ≤ length items.now }
+    requires few { size ≤ 3 }
+    requires within { IsWithin T.eq items.now item.now base size }
+    ensures { (k : ℕ) → k < length items.now
+        → HoldsAt (λ y. T.eq y item.now ≡ true) items.now k → result ≡ k }
+{
+    if size > 2 {
+        return base + reached(items, base + 1, item) + reached(items, base + 2, item);
+    }
+    if size > 1 {
+        return base + reached(items, base + 1, item);
+    }
+    base
+}
+
+/// The place of the item that equals the one sought, or `None` where none does.
+///
+/// Each step asks the items at three places, which cut the list in four, and adds up the answers: a processor need not
+/// guess one before the next step. It takes one comparison and a half where halving takes one.
+pub(crate) fn place_of<T: Ord>(items: &[T], item: &T) -> Option<usize>
+    requires { IsStrict T.cmp items.now }
+    ensures { IsPlaceOf T.eq items.now item.now result }
+{
+    let mut base = 0;
+    let mut size = items.len();
+    while size > 3 {
+        let quarter = size / 4;
+        let passed = reached(items, base + quarter, item)
+            + reached(items, base + 2 * quarter, item)
+            + reached(items, base + 3 * quarter, item);
+        base += quarter * passed;
+        size -= 3 * quarter;
+    }
+    let place = last_steps(items, base, size, item);
+    if place >= items.len() {
+        return None;
+    }
+    if items[place].eq(item) {
+        Some(place)
+    } else {
+        None
+    }
+}
