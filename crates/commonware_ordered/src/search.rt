@@ -37,8 +37,9 @@ fn last_steps<T: Ord>(items: &[T], base: usize, size: usize, item: &T) -> usize
 
 /// The place of the item that equals the one sought, or `None` where none does.
 ///
-/// Each step asks the items at three places, which cut the list in four, and adds up the answers: a processor need not
-/// guess one before the next step. It takes one comparison and a half where halving takes one.
+/// Each step asks the items at three places, which cut the list in four, and adds up the answers:
+/// a processor need not guess one before the next step. It takes one comparison and a half where
+/// halving takes one.
 pub(crate) fn place_of<T: Ord>(items: &[T], item: &T) -> Option<usize>
     requires { IsStrict T.cmp items.now }
     ensures { IsPlaceOf T.eq items.now item.now result }

@@ -64,8 +64,8 @@ fn push_items<T: Write<A>, A: Allocator>(
 
 /// Appends the bytes of the list. Where memory is refused, some of them may stand there.
 ///
-/// Once the first item is written, room is made for the others, as if each took as many bytes as the first, but for no
-/// more than they take in memory.
+/// Once the first item is written, room is made for the others, as if each took as many bytes as
+/// the first, but for no more than they take in memory.
 fn push_list<T: Write<A>, A: Allocator>(
     sink: &mut Vec<u8, A>,
     items: &[T],
@@ -119,7 +119,8 @@ fn put<T: Drop, A: Allocator>(
     value: T,
     first: usize,
 ) -> Result<(), AllocError>
-    ensures { items.new.items ≡ (if is_ok result then items.old.items ++ value ∷ [] else items.old.items) }
+    ensures { items.new.items
+        ≡ (if is_ok result then items.old.items ++ value ∷ [] else items.old.items) }
 {
     if items.len() == items.capacity() {
         make_room(items, first)?;
@@ -130,10 +131,10 @@ fn put<T: Drop, A: Allocator>(
 
 /// Reads a list under a range for its length and a configuration for its items: what `Vec` reads.
 ///
-/// It answers the first fault: the length's, then a length out of the range, then that of the first item that has
-/// one. Once the first item is read, it makes room for as many items as the text states, but for no more than there
-/// are bytes after the length, nor than 1024; then for further ones as they are read. After an error the source stands
-/// where it stood.
+/// It answers the first fault: the length's, then a length out of the range, then that of the
+/// first item that has one. Once the first item is read, it makes room for as many items as the
+/// text states, but for no more than there are bytes after the length, nor than 1024; then for
+/// further ones as they are read. After an error the source stands where it stood.
 pub fn read_list<T: Read<A> + Drop, A: Allocator + Copy>(
     alloc: A,
     src: &mut Source<'_>,

@@ -1,8 +1,9 @@
 //! Texts read with a heap that refuses each request for more than so many bytes.
 //!
-//! With its first item a reader of lists makes room for as many items as the text states, as there are bytes after the
-//! length, and as 1,024 allow, whichever are the fewest. A reader that made room for a stated length, or for all the bytes
-//! there are, would be refused memory for it here: it would answer `Memory`, or read on and have been refused.
+//! With its first item a reader of lists makes room for as many items as the text states, as there
+//! are bytes after the length, and as 1,024 allow, whichever are the fewest. A reader that made
+//! room for a stated length, or for all the bytes there are, would be refused memory for it here:
+//! it would answer `Memory`, or read on and have been refused.
 use super::walk::Heap;
 use crate::Refusing;
 use commonware_utils::codec::{Error, RangeCfg, Read, Source};
