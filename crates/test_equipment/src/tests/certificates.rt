@@ -90,7 +90,7 @@ fn is_written(alloc: Global, row: &Accepted) -> Result<bool, Fail> {
     let mut sink: Vec<u8, Global> = Vec::new(alloc);
     certificate.write(&mut sink)?;
     let written = row.bytes.starts_with(sink.as_slice());
-    let whole = sink.len() + row.left == row.bytes.len();
+    let whole = row.bytes.len().saturating_sub(sink.len()) == row.left;
     let sized = certificate.encode_size() == sink.len();
     Ok(written && whole && sized && certificate.clone()? == certificate)
 }
