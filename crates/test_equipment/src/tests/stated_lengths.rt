@@ -1,19 +1,25 @@
-//! Texts read with a heap that refuses each request for more than 512 bytes.
+//! Texts read with a heap that refuses each request for more than so many bytes.
 //!
-//! A reader that made room for the length that a text states, before its first item or after a good one, would be refused
-//! memory for it here: it would answer `Memory`, or read on and have been refused. A reader that makes room for an item
-//! once it is read needs few bytes for few items.
+//! With its first item a reader of lists makes room for as many items as the text states, as there are bytes after the
+//! length, and as 1,024 allow, whichever are the fewest. A reader that made room for a stated length, or for all the bytes
+//! there are, would be refused memory for it here: it would answer `Memory`, or read on and have been refused.
 use super::walk::Heap;
 use crate::Refusing;
 use commonware_utils::codec::{Error, RangeCfg, Read, Source};
 use commonware_utils::ordered::{BiMap, Map, Set};
 use commonware_utils::vec::NonEmptyVec;
-use std::alloc::Allocator;
+use std::alloc::{AllocError, Allocator, Global};
 use std::num::NonZeroUsize;
 use std::test::Fail;
 
-/// More than any reader of these tests needs at once.
+/// More than a reader of few items needs at once.
 const MOST_BYTES: usize = 512;
+
+/// How many items room is made for with the first, at most.
+const MOST_ROOM: usize = 1024;
+
+/// How many bytes a number of the type `usize` takes in memory.
+const NUMBER: usize = 8;
 
 /// What a text is read as.
 #[derive(Clone, Copy, Debug)]
@@ -29,6 +35,12 @@ enum Form {
     NonEmptyNest,
     /// Lists by their keys.
     Lists,
+    /// A list of numbers.
+    Numbers,
+    /// A set of numbers.
+    NumberSet,
+    /// A list of numbers, which is never empty.
+    SomeNumbers,
 }
 
 /// What is said of a reading: the error, if there is one, and how many bytes were read.
@@ -58,6 +70,9 @@ impl Form {
                 outcome::<NonEmptyVec<NonEmptyVec<u8, _>, _>, _>(heap, bytes, &(some, (some, ())))
             }
             Form::Lists => outcome::<Map<u8, Vec<u8, _>, _>, _>(heap, bytes, &(any, (), (any, ()))),
+            Form::Numbers => outcome::<Vec<usize, _>, _>(heap, bytes, &(any, any)),
+            Form::NumberSet => outcome::<Set<usize, _>, _>(heap, bytes, &(any, any)),
+            Form::SomeNumbers => outcome::<NonEmptyVec<usize, _>, _>(heap, bytes, &(some, any)),
         }
     }
 }
@@ -80,7 +95,7 @@ const SHORT: [(Form, &[u8], &[u8]); 10] = [
 ];
 
 #[test]
-fn nothing_is_reserved_for_a_stated_length(rt: HostRuntime) -> Result<(), Fail> {
+fn a_stated_length_alone_makes_no_room(rt: HostRuntime) -> Result<(), Fail> {
     for (form, before, after) in SHORT {
         for stated in STATED {
             let heap = Refusing::above(rt.alloc(), MOST_BYTES);
@@ -117,4 +132,39 @@ fn short_lists_are_accepted(rt: HostRuntime) {
             "{form:?} {bytes:?}"
         );
     }
+}
+
+/// The length, the number 7, and so many bytes `ff`, which begin no number.
+fn one_number(alloc: Global, length: &[u8], faulty: usize) -> Result<Vec<u8>, AllocError> {
+    let mut bytes = length.to_vec(alloc)?;
+    bytes.extend_from_slice(b"\x07")?;
+    for _ in 0..faulty {
+        bytes.extend_from_slice(b"\xff")?;
+    }
+    Ok(bytes)
+}
+
+/// Room is made for a number a byte, and for no more than 1,024.
+#[test]
+fn room_goes_by_the_bytes_that_are_there(rt: HostRuntime) -> Result<(), Fail> {
+    for form in [Form::Numbers, Form::NumberSet, Form::SomeNumbers] {
+        for stated in STATED {
+            for (faulty, room) in [(7, 8), (99, 100), (1023, MOST_ROOM), (5000, MOST_ROOM)] {
+                let bytes = one_number(rt.alloc(), stated, faulty)?;
+                let heap = Refusing::above(rt.alloc(), room * NUMBER);
+                let outcome = form.read(&heap, &bytes);
+                assert!(rt;
+                    outcome == (Some(Error::InvalidVarint), 0) && !heap.has_refused(),
+                    "{form:?} {stated:?} {faulty}"
+                );
+                let less = Refusing::above(rt.alloc(), room * NUMBER - 1);
+                let outcome = form.read(&less, &bytes);
+                assert!(rt;
+                    outcome == (Some(Error::Memory), 0) && less.has_refused(),
+                    "{form:?} {stated:?} {faulty}"
+                );
+            }
+        }
+    }
+    Ok(())
 }
