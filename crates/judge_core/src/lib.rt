@@ -1,0 +1,19 @@
+//! The library of the program `judge`, which says of any text what it is as a value of any type
+//! that has a byte form: how many items and how many bytes left, or the first fault.
+//!
+//! Everything that the program does is generic over the allocator, the reader and the writers, so
+//! that each refused request for memory and each failing device can be tried. The program itself
+//! only hands in the real ones.
+#![tactic(auto)]
+
+mod counted;
+mod form;
+mod judgement;
+mod limits;
+mod verdict;
+
+pub use counted::Counted;
+pub use form::{FORMS, Form};
+pub use judgement::judge_as;
+pub use limits::{Limit, Limits};
+pub use verdict::Verdict;
