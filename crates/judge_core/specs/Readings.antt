@@ -13,6 +13,7 @@ use Rattle.judge_core.specs.declared.form.Form.TheVariants.{U8, U32, Varint, Usi
 use Rattle.judge_core.specs.declared.form.Form.TheVariants.{SetU8, SetU32, SetParticipant, SetSetU8, SetNonEmptyU8, MapU8U8, MapU8SetU8}
 use Rattle.judge_core.specs.declared.form.Form.TheVariants.{VecMapU8U8, BiMapU8U8, NonEmptyU8, NonEmptyNonEmptyU8}
 use Rattle.judge_core.specs.declared.limits.Limits.{Limits}
+use Rattle.judge_core.specs.Limits.{HasNoZero}
 use Rattle.judge_core.specs.declared.verdict.Verdict.{Verdict}
 use Rattle.judge_core.specs.declared.verdict.Verdict.TheVariants.{Accepted, Refused}
 
@@ -138,3 +139,10 @@ reading_of VecMapU8U8 l = list_of l.first (map_of l.second a_byte nat_cmp a_byte
 reading_of BiMapU8U8 l = bimap_of l.first a_byte nat_cmp a_byte nat_eq
 reading_of NonEmptyU8 l = non_empty_of l.first a_byte
 reading_of NonEmptyNonEmptyU8 l = non_empty_of l.first (non_empty_of l.second a_byte)
+
+-- the ranges can be those of the type: no bound of a list that is never empty is 0
+abbrev pub IsFit : Form → Limits → Type 0
+IsFit SetNonEmptyU8 l = HasNoZero l.second
+IsFit NonEmptyU8 l = HasNoZero l.first
+IsFit NonEmptyNonEmptyU8 l = HasNoZero l.first × HasNoZero l.second
+IsFit _ l = Unit {0}

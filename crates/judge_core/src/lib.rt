@@ -8,12 +8,17 @@
 
 mod counted;
 mod form;
+mod hex;
 mod judgement;
 mod limits;
+mod ranges;
 mod verdict;
+mod words;
 
 pub use counted::Counted;
 pub use form::{FORMS, Form};
-pub use judgement::judge_as;
+pub use hex::read_text;
+pub use judgement::{judge, judge_as};
 pub use limits::{Limit, Limits};
+pub use ranges::read_limit;
 pub use verdict::Verdict;
