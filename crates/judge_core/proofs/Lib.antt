@@ -1,3 +1,8 @@
+pub mod Digits
+pub mod FormLemmas
+pub mod HexLemmas
 pub mod Judged
+pub mod RangeLemmas
+pub mod RangesRead
 pub mod Seen
 pub mod Splits

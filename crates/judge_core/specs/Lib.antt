@@ -1,6 +1,8 @@
+pub mod Answered
 pub mod Forms
 pub mod Hex
 pub mod Limits
+pub mod Questions
 pub mod Ranges
 pub mod Readings
 pub mod Words

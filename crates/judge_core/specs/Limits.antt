@@ -18,3 +18,7 @@ IsUpperNotZero Unbounded = Unit {0}
 -- no bound of the range is 0, as the length of a list that is never empty asks
 abbrev pub HasNoZero : Bounds ℕ → Type 0
 HasNoZero range = IsLowerNotZero range.lower × IsUpperNotZero range.upper
+
+-- the range of all numbers
+abbrev pub full : Bounds ℕ
+full = record { lower = None; upper = Unbounded }

@@ -3,6 +3,7 @@ ghost use Rattle.std.specs.Prelude.{◌≡◌, ◌<◌, ◌≤◌, ℕ, List, So
 ghost use Rattle.std.specs.Char.{digit_value};
 ghost use Rattle.judge_core.specs.Hex.{IsHexByte, IsText};
 
+use crate::words::are_same;
 use std::alloc::{AllocError, Allocator};
 
 /// The bytes that the word writes: two hexadecimal digits for each, of which letters may be lower
@@ -12,8 +13,11 @@ pub fn read_text<A: Allocator>(alloc: A, word: &[u8]) -> Result<Option<Vec<u8, A
         ((bytes : List ℕ) → ¬ IsText word.now bytes)
         (λ bytes. IsText word.now bytes.items)) }
 {
-    if let [b'-'] = word {
+    if are_same(word, b"-") {
         return Ok(Some(Vec::new(alloc)));
+    }
+    if word.is_empty() {
+        return Ok(None);
     }
     let mut bytes = Vec::with_capacity(alloc, word.len() / 2)?;
     let mut rest = word;
@@ -24,7 +28,7 @@ pub fn read_text<A: Allocator>(alloc: A, word: &[u8]) -> Result<Option<Vec<u8, A
         bytes.push(byte)?;
         rest = after;
     }
-    if rest.is_empty() && !word.is_empty() {
+    if rest.is_empty() {
         Ok(Some(bytes))
     } else {
         Ok(None)

@@ -6,19 +6,24 @@
 //! only hands in the real ones.
 #![tactic(auto)]
 
+mod answer;
 mod counted;
 mod form;
 mod hex;
 mod judgement;
 mod limits;
+mod lines;
+mod question;
 mod ranges;
 mod verdict;
 mod words;
 
+pub use answer::{Answer, answer_to, write_answer};
 pub use counted::Counted;
 pub use form::{FORMS, Form};
 pub use hex::read_text;
 pub use judgement::{judge, judge_as};
 pub use limits::{Limit, Limits};
+pub use question::{Question, Unreadable, read_form, read_question};
 pub use ranges::read_limit;
 pub use verdict::Verdict;

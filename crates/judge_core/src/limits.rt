@@ -3,8 +3,9 @@ ghost use Rattle.std.specs.Prelude.{◌≡◌, ◌↔◌, IsTrue};
 ghost use Rattle.std.specs.Int.NonZero.{non_zero_usize_get};
 ghost use Rattle.std.specs.Option.{option_map};
 ghost use Rattle.commonware_utils.specs.Codec.{as_numbers, bound_as_number};
-ghost use Rattle.judge_core.specs.Limits.{HasNoZero, IsLowerNotZero, IsUpperNotZero};
+ghost use Rattle.judge_core.specs.Limits.{HasNoZero, IsLowerNotZero, IsUpperNotZero, full};
 
+use crate::form::Form;
 use commonware_utils::codec::RangeCfg;
 use std::marker::Model;
 use std::num::NonZeroUsize;
@@ -35,6 +36,13 @@ impl Limit {
         ensures upper { result.upper ≡ upper }
     {
         Limit { lower, upper }
+    }
+
+    /// The range of all numbers.
+    pub fn full() -> Limit
+        ensures { result ≡ full }
+    {
+        Limit::new(None, Bound::Unbounded)
     }
 
     /// Whether no bound is 0, as the length of a list that is never empty asks.
@@ -112,4 +120,20 @@ pub struct Limits {
     pub first: Limit,
     pub second: Limit,
     pub third: Limit,
+}
+
+impl Limits {
+    ghost use Rattle.judge_core.specs.Readings.{IsFit};
+
+    /// Whether they can be those of the type: no list that is never empty has a bound 0.
+    pub fn fit(&self, form: Form) -> bool
+        ensures { IsTrue result ↔ IsFit form self.now }
+    {
+        match form {
+            Form::SetNonEmptyU8 => self.second.has_no_zero(),
+            Form::NonEmptyU8 => self.first.has_no_zero(),
+            Form::NonEmptyNonEmptyU8 => self.first.has_no_zero() && self.second.has_no_zero(),
+            _ => true,
+        }
+    }
 }

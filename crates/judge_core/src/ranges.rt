@@ -5,7 +5,7 @@ ghost use Rattle.commonware_utils.specs.Codec.{Bounds};
 ghost use Rattle.judge_core.specs.Ranges.{IsLower, IsNumber, IsRange, IsUpper};
 
 use crate::limits::Limit;
-use crate::words::place_of;
+use crate::words::{place_of, strip};
 use std::ops::Bound;
 
 /// The range that the word writes as Rust does: `..`, `a..`, `..b`, `..=b`, `a..b` or `a..=b`, with
@@ -17,10 +17,10 @@ pub fn read_limit(word: &[u8]) -> Option<Limit>
 {
     let at = place_of(word, b'.')?;
     let (start, rest) = word.split_at(at);
-    match rest {
-        [b'.', b'.', end @ ..] => Some(Limit::new(read_lower(start)?, read_upper(end)?)),
-        _ => None,
-    }
+    let end = strip(rest, b"..")?;
+    let lower = read_lower(start)?;
+    let upper = read_upper(end)?;
+    Some(Limit::new(lower, upper))
 }
 
 /// The lower bound that the word writes, which is none where the word is empty.
@@ -40,13 +40,15 @@ fn read_upper(word: &[u8]) -> Option<Bound<usize>>
     ensures bound { IfSome result (IsUpper word.now) }
     ensures given { (bound : Bound ℕ) → IsUpper word.now bound → result ≡ Some bound }
 {
-    match word {
-        [] => Some(Bound::Unbounded),
-        [b'=', digits @ ..] => {
+    if word.is_empty() {
+        return Some(Bound::Unbounded);
+    }
+    match strip(word, b"=") {
+        Some(digits) => {
             let number = read_number(digits)?;
             Some(Bound::Included(number))
         }
-        _ => {
+        None => {
             let number = read_number(word)?;
             Some(Bound::Excluded(number))
         }
