@@ -1,15 +1,10 @@
 -- Each type is in the list of the types.
-use Rattle.std.proofs.Common.{◌≡◌, ℕ, ◌<◌, List, [], ◌∷◌, get_or, refl, arith}
+use Rattle.std.proofs.Common.{◌≡◌, ℕ, ◌<◌, get_or, refl, arith}
+use Rattle.judge_core.specs.Forms.{all_forms}
 use Rattle.judge_core.specs.declared.form.Form.{Form}
 use Rattle.judge_core.specs.declared.form.Form.TheVariants.{U8, U32, Varint, Usize, Participant, VecU8, VecU32, VecVecU8, VecVecVecU8}
 use Rattle.judge_core.specs.declared.form.Form.TheVariants.{SetU8, SetU32, SetParticipant, SetSetU8, SetNonEmptyU8, MapU8U8, MapU8SetU8}
 use Rattle.judge_core.specs.declared.form.Form.TheVariants.{VecMapU8U8, BiMapU8U8, NonEmptyU8, NonEmptyNonEmptyU8}
-
--- the list of the types
-abbrev pub forms : List Form
-forms =
-    U8 ∷ U32 ∷ Varint ∷ Usize ∷ Participant ∷ VecU8 ∷ VecU32 ∷ VecVecU8 ∷ VecVecVecU8 ∷ SetU8
-    ∷ SetU32 ∷ SetParticipant ∷ SetSetU8 ∷ SetNonEmptyU8 ∷ MapU8U8 ∷ MapU8SetU8 ∷ VecMapU8U8 ∷ BiMapU8U8 ∷ NonEmptyU8 ∷ NonEmptyNonEmptyU8 ∷ []
 
 -- its place in the list
 abbrev pub place_in_forms : Form → ℕ
@@ -35,7 +30,7 @@ place_in_forms NonEmptyU8 = 18
 place_in_forms NonEmptyNonEmptyU8 = 19
 
 -- it stands there
-pub listed : (form : Form) → get_or forms (place_in_forms form) U8 ≡ form
+pub listed : (form : Form) → get_or all_forms (place_in_forms form) U8 ≡ form
 listed U8 = refl
 listed U32 = refl
 listed Varint = refl

@@ -1,3 +1,4 @@
+pub mod Answering
 pub mod Digits
 pub mod FormLemmas
 pub mod HexLemmas
@@ -6,3 +7,4 @@ pub mod RangeLemmas
 pub mod RangesRead
 pub mod Seen
 pub mod Splits
+pub mod Taken

@@ -1,5 +1,6 @@
 -- The names of the types, and how many ranges each has.
-use Rattle.std.specs.Prelude.{ℕ, List, codes}
+use Rattle.std.specs.Prelude.{ℕ, List, [], ◌∷◌, ◌++◌, codes}
+use Rattle.std.specs.List.{flat_map}
 use Rattle.judge_core.specs.declared.form.Form.{Form}
 use Rattle.judge_core.specs.declared.form.Form.TheVariants.{U8, U32, Varint, Usize, Participant, VecU8, VecU32, VecVecU8, VecVecVecU8}
 use Rattle.judge_core.specs.declared.form.Form.TheVariants.{SetU8, SetU32, SetParticipant, SetSetU8, SetNonEmptyU8, MapU8U8, MapU8SetU8}
@@ -50,3 +51,13 @@ lengths_of VecMapU8U8 = 2
 lengths_of BiMapU8U8 = 1
 lengths_of NonEmptyU8 = 1
 lengths_of NonEmptyNonEmptyU8 = 2
+
+-- the types
+abbrev pub all_forms : List Form
+all_forms =
+    U8 ∷ U32 ∷ Varint ∷ Usize ∷ Participant ∷ VecU8 ∷ VecU32 ∷ VecVecU8 ∷ VecVecVecU8 ∷ SetU8
+    ∷ SetU32 ∷ SetParticipant ∷ SetSetU8 ∷ SetNonEmptyU8 ∷ MapU8U8 ∷ MapU8SetU8 ∷ VecMapU8U8 ∷ BiMapU8U8 ∷ NonEmptyU8 ∷ NonEmptyNonEmptyU8 ∷ []
+
+-- the names of the types, each on a line
+abbrev pub types_text : List ℕ
+types_text = flat_map (λ form. name_of form ++ (10 ∷ [])) all_forms

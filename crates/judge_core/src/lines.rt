@@ -1,5 +1,5 @@
 //! The lines of a text that comes in pieces.
-ghost use Rattle.std.specs.Prelude.{◌≡◌, ◌++◌, ◌∷◌, [], ℕ, List, IfOk, OnOk, string_bytes};
+ghost use Rattle.std.specs.Prelude.{◌≡◌, ◌&&◌, ◌++◌, ◌∷◌, [], ℕ, List, IfOk, OnOk, string_bytes};
 ghost use Rattle.std.specs.Str.Lines.{strip_carriage_return};
 ghost use Rattle.judge_core.specs.Answered.{AreAnswered, Continues, HasNoFeed};
 
@@ -29,7 +29,7 @@ pub(crate) fn answer_piece<A: Allocator + Copy>(
     while let Some(at) = place_of(rest, b'\n') {
         front.extend_from_slice(&rest[..at])?;
         let verdicts = answer_line(alloc, without_return(front.as_slice()), said)?;
-        judged = judged && verdicts;
+        judged = both(judged, verdicts);
         front.clear();
         rest = &rest[at + 1..];
     }
@@ -64,4 +64,11 @@ fn without_return(line: &[u8]) -> &[u8]
         [front @ .., b'\r'] => front,
         _ => line,
     }
+}
+
+/// Whether both are true.
+pub(crate) fn both(one: bool, other: bool) -> bool
+    ensures { result ≡ (one && other) }
+{
+    one && other
 }
