@@ -1,6 +1,7 @@
 -- Each type is in the list of the types.
-use Rattle.std.proofs.Common.{◌≡◌, ℕ, ◌<◌, get_or, refl, arith}
-use Rattle.judge_core.specs.Forms.{all_forms}
+use Rattle.std.proofs.Common.{◌≡◌, ℕ, ◌+◌, ◌<◌, List, [], ◌∷◌, ◌++◌, length, get_or, drop, refl, ap, sym, arith, ◌∙◌, append_assoc, add-one, drop-cons}
+use Rattle.std.specs.List.{flat_map}
+use Rattle.judge_core.specs.Forms.{all_forms, name_of}
 use Rattle.judge_core.specs.declared.form.Form.{Form}
 use Rattle.judge_core.specs.declared.form.Form.TheVariants.{U8, U32, Varint, Usize, Participant, VecU8, VecU32, VecVecU8, VecVecVecU8}
 use Rattle.judge_core.specs.declared.form.Form.TheVariants.{SetU8, SetU32, SetParticipant, SetSetU8, SetNonEmptyU8, MapU8U8, MapU8SetU8}
@@ -74,3 +75,12 @@ place_inside VecMapU8U8 = omega arith
 place_inside BiMapU8U8 = omega arith
 place_inside NonEmptyU8 = omega arith
 place_inside NonEmptyNonEmptyU8 = omega arith
+
+-- one name more
+pub names_more : (forms : List Form) (i : ℕ) (old name new text : List ℕ) → i < length forms → new ≡ old ++ (name ++ (10 ∷ [])) → name ≡ name_of (get_or forms i U8)
+    → old ++ flat_map (λ form. name_of form ++ (10 ∷ [])) (drop i forms) ≡ text → new ++ flat_map (λ form. name_of form ++ (10 ∷ [])) (drop (i + 1) forms) ≡ text
+names_more forms i old name new text inside is named so_far =
+    let left = flat_map (λ form. name_of form ++ (10 ∷ [])) (drop (i + 1) forms) in
+    let next : drop i forms ≡ get_or forms i U8 ∷ drop (i + 1) forms = rw (add-one, drop-cons forms i U8) refl in
+    ap (λ t. t ++ left) (is ∙ ap (λ n. old ++ (n ++ (10 ∷ []))) named) ∙ append_assoc old (name_of (get_or forms i U8) ++ (10 ∷ [])) left
+    ∙ ap (λ fs. old ++ flat_map (λ form. name_of form ++ (10 ∷ [])) fs) (sym next) ∙ so_far

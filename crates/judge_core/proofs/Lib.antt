@@ -7,4 +7,5 @@ pub mod RangeLemmas
 pub mod RangesRead
 pub mod Seen
 pub mod Splits
+pub mod Stopping
 pub mod Taken
