@@ -130,11 +130,11 @@ pub line_ended : (front gone mid head said t : List ℕ) (a b : Bool) → Contin
 line_ended front gone mid head said t a b (done, splits, answered) none none' h = (
   done ++ (strip_carriage_return (mid ++ head) ∷ []),
   (λ rest.
-    ap (λ u. lines (front ++ u)) (append_assoc gone (head ++ (10 ∷ [])) rest ∙ ap (λ u. gone ++ u) (append_assoc head (10 ∷ []) rest))
-    ∙ splits (head ++ 10 ∷ rest)
-    ∙ ap (λ u. done ++ lines u) (sym (append_assoc mid head (10 ∷ rest)))
-    ∙ ap (λ u. done ++ u) (line_then (mid ++ head) rest (no_feed-append mid head none none'))
-    ∙ sym (append_assoc done (strip_carriage_return (mid ++ head) ∷ []) (lines rest))),
+      ap (λ u. lines (front ++ u)) (append_assoc gone (head ++ (10 ∷ [])) rest ∙ ap (λ u. gone ++ u) (append_assoc head (10 ∷ []) rest))
+      ∙ splits (head ++ 10 ∷ rest)
+      ∙ ap (λ u. done ++ lines u) (sym (append_assoc mid head (10 ∷ rest)))
+      ∙ ap (λ u. done ++ u) (line_then (mid ++ head) rest (no_feed-append mid head none none'))
+      ∙ sym (append_assoc done (strip_carriage_return (mid ++ head) ∷ []) (lines rest))),
   both_answered done (strip_carriage_return (mid ++ head) ∷ []) said t a b answered h,
 )
 
@@ -143,7 +143,7 @@ pub continues_on : (front one mid other back s t : List ℕ) (a b : Bool) → Co
 continues_on front one mid other back s t a b (done, splits, answered) (more, splits', answered') = (
   done ++ more,
   (λ rest.
-    ap (λ u. lines (front ++ u)) (append_assoc one other rest) ∙ splits (other ++ rest) ∙ ap (λ u. done ++ u) (splits' rest) ∙ sym (append_assoc done more (lines (back ++ rest)))),
+      ap (λ u. lines (front ++ u)) (append_assoc one other rest) ∙ splits (other ++ rest) ∙ ap (λ u. done ++ u) (splits' rest) ∙ sym (append_assoc done more (lines (back ++ rest)))),
   both_answered done more s t a b answered answered',
 )
 

@@ -145,9 +145,9 @@ module _ (r s : Reading) (h : Sees r s) where
   sees_list alloc range = record {
     view = λ v. map h.view v.items;
     made = λ items w.
-      let (vs, are) = made_items items w.each in
-      let (v, is) = vec_of alloc vs (subst (λ n. n < 2 ^ 32) (ap length (sym are) ∙ length-map vs h.view) w.short) in
-      (v, ap (map h.view) (sym is) ∙ are);
+        let (vs, are) = made_items items w.each in
+        let (v, is) = vec_of alloc vs (subst (λ n. n < 2 ^ 32) (ap length (sym are) ∙ length-map vs h.view) w.short) in
+        (v, ap (map h.view) (sym is) ∙ are);
     same_bytes = λ v. same_list v.items;
     same_items = λ v. omega (arith, v.ok.0, length-map v.items h.view);
     writable = λ v w. record { short = subst (λ n. n < 2 ^ 32) (sym (length-map v.items h.view)) w.short; each = each r.Writable s.Writable h.writable v.items w.each };

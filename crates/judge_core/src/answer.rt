@@ -32,10 +32,7 @@ pub fn answer_to<A: Allocator + Copy>(alloc: A, line: &[u8]) -> Result<Answer, A
 
 /// Appends the line that says an answer. Where memory is refused, some of it may stand there.
 #[tactic(auto, unfolding(crate::specs::Answered::answer_line))]
-pub fn write_answer<A: Allocator>(
-    text: &mut String<A>,
-    answer: &Answer,
-) -> Result<(), AllocError>
+pub fn write_answer<A: Allocator>(text: &mut String<A>, answer: &Answer) -> Result<(), AllocError>
     ensures { OnOk result
         (string_bytes text.new ≡ string_bytes text.old ++ answer_line answer.now) }
 {

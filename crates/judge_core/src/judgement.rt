@@ -21,9 +21,14 @@ pub fn judge_as<T: Read<A> + Counted + Drop, A: Allocator>(
     cfg: &T::Cfg,
 ) -> Result<Verdict, AllocError>
     ensures { let reading : Reading = record {
-            Value = T; enc = T.enc; Writable = T.writable; Allowed = T.allowed cfg.now;
-            HasFault = T.fault cfg.now; MemoryFree = T.memory_free cfg.now; items = T.items
-        } in IsJudged reading text.now result }
+      Value = T;
+      enc = T.enc;
+      Writable = T.writable;
+      Allowed = T.allowed cfg.now;
+      HasFault = T.fault cfg.now;
+      MemoryFree = T.memory_free cfg.now;
+      items = T.items;
+    } in IsJudged reading text.now result }
 {
     let mut source = Source::new(text);
     match T::read_cfg(alloc, &mut source, cfg) {
@@ -58,9 +63,7 @@ pub fn judge<A: Allocator + Copy>(
         Form::Participant => judge_as::<Participant, A>(alloc, text, &()),
         Form::VecU8 => judge_as::<Vec<u8, A>, A>(alloc, text, &(first, ())),
         Form::VecU32 => judge_as::<Vec<u32, A>, A>(alloc, text, &(first, ())),
-        Form::VecVecU8 => {
-            judge_as::<Vec<Vec<u8, A>, A>, A>(alloc, text, &(first, (second, ())))
-        }
+        Form::VecVecU8 => { judge_as::<Vec<Vec<u8, A>, A>, A>(alloc, text, &(first, (second, ()))) }
         Form::VecVecVecU8 => judge_as::<Vec<Vec<Vec<u8, A>, A>, A>, A>(
             alloc,
             text,
@@ -69,9 +72,7 @@ pub fn judge<A: Allocator + Copy>(
         Form::SetU8 => judge_as::<Set<u8, A>, A>(alloc, text, &(first, ())),
         Form::SetU32 => judge_as::<Set<u32, A>, A>(alloc, text, &(first, ())),
         Form::SetParticipant => judge_as::<Set<Participant, A>, A>(alloc, text, &(first, ())),
-        Form::SetSetU8 => {
-            judge_as::<Set<Set<u8, A>, A>, A>(alloc, text, &(first, (second, ())))
-        }
+        Form::SetSetU8 => { judge_as::<Set<Set<u8, A>, A>, A>(alloc, text, &(first, (second, ()))) }
         Form::SetNonEmptyU8 => {
             let second = limits.second.non_zero();
             judge_as::<Set<NonEmptyVec<u8, A>, A>, A>(alloc, text, &(first, (second, ())))

@@ -89,9 +89,9 @@ pub fn read_form(name: &[u8]) -> Option<Form>
 fn next_limits(words: &mut Words<'_>, form: Form) -> Option<Limits>
     ensures { MatchOption result
         ((ranges more : List (List ℕ)) (limits : Limits) →
-            AreLimits form ranges limits → words.old ≢ ranges ++ more)
+        AreLimits form ranges limits → words.old ≢ ranges ++ more)
         (λ limits. (ranges : List (List ℕ)) × (words.old ≡ ranges ++ words.new)
-            × AreLimits form ranges limits) }
+        × AreLimits form ranges limits) }
 {
     let limits = next_ranges(words, form.lengths())?;
     if limits.fit(form) { Some(limits) } else { None }

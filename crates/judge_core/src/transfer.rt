@@ -11,10 +11,7 @@ use std::io::{Read, Write};
 /// Reads into the room, once, and answers how many bytes there were: none only at the end.
 ///
 /// The error is `ReadFailed`.
-pub(crate) fn read_piece<R: Read>(
-    input: &mut Watched<R>,
-    room: &mut [u8],
-) -> Result<usize, Failure>
+pub(crate) fn read_piece<R: Read>(input: &mut Watched<R>, room: &mut [u8]) -> Result<usize, Failure>
     requires { 0 < length room.old }
     ensures within { IfOk result (λ n. n ≤ length room.new) }
     ensures bytes { IfOk result (λ n.

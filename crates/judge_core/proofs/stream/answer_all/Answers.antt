@@ -69,7 +69,7 @@ pieces-preserved g c =
         Consumes-trans _ _ _ text after given c.in_ok-count.ensures.bytes,
         Appends-trans _ _ _ _ _ written written',
         subst (Continues [] (text ++ after) c.say_piece.new.front.items (said ++ t)) (sym c.both-judged.ensures)
-        (continues_on [] text c.pieces.front.items after c.say_piece.new.front.items said t c.pieces.judged c.in_ok-verdicts.verdicts answered answered'),
+            (continues_on [] text c.pieces.front.items after c.say_piece.new.front.items said t c.pieces.judged c.in_ok-verdicts.verdicts answered answered'),
       ),
     )
 

@@ -10,5 +10,5 @@ invariant-pieces g l =
     × (l.output.failed ≡ l.initial.output.failed)
     × HasNoFeed l.front.items
     × ((text said : List ℕ) × Consumes (g.R.Read.remaining l.initial.input.inner) (g.R.Read.remaining l.input.inner) text
-      × Appends (g.W.Write.contents l.initial.output.inner) (g.W.Write.contents l.output.inner) said
-      × Continues [] text l.front.items said l.judged)
+    × Appends (g.W.Write.contents l.initial.output.inner) (g.W.Write.contents l.output.inner) said
+    × Continues [] text l.front.items said l.judged)
