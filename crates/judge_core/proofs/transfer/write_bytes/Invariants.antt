@@ -1,0 +1,13 @@
+use Rattle.std.proofs.Common.{◌≡◌, ℕ, List, ◌++◌, length}
+use Rattle.std.specs.Io.KnownBytes.{Appends}
+use Rattle.judge_core.proofs.transfer.write_bytes.Given as goal
+
+-- what is gone of the bytes was appended
+abbrev pub invariant-loop-rest : goal.invariant-loop-rest
+invariant-loop-rest g l =
+    (l.output.failed ≡ l.initial.output.failed)
+    × ((gone : List ℕ) × (l.initial.rest ≡ gone ++ l.rest) × Appends (g.W.Write.contents l.initial.output.inner) (g.W.Write.contents l.output.inner) gone)
+
+-- how many bytes are left to write
+abbrev pub decreases-loop-rest : goal.decreases-loop-rest
+decreases-loop-rest g l = length l.rest

@@ -1,0 +1,100 @@
+//! How many items a value has.
+ghost use Rattle.std.specs.Prelude.{◌≡◌, ℕ, length, vec_len};
+
+use commonware_utils::Participant;
+use commonware_utils::codec::UInt;
+use commonware_utils::ordered::{BiMap, Map, Set};
+use commonware_utils::vec::NonEmptyVec;
+use std::alloc::Allocator;
+use std::hash::Hash;
+
+/// A type whose values have a number of items: a collection has those of its outermost list, and
+/// everything else counts as one.
+pub trait Counted {
+    /// How many items the value has.
+    ghost items: { Self → ℕ };
+
+    /// How many items the value has.
+    fn count(&self) -> usize
+        ensures { result ≡ items self.now };
+}
+
+impl Counted for u8 {
+    ghost items = { λ _. 1 };
+
+    fn count(&self) -> usize {
+        1
+    }
+}
+
+impl Counted for u32 {
+    ghost items = { λ _. 1 };
+
+    fn count(&self) -> usize {
+        1
+    }
+}
+
+impl Counted for usize {
+    ghost items = { λ _. 1 };
+
+    fn count(&self) -> usize {
+        1
+    }
+}
+
+impl Counted for UInt {
+    ghost items = { λ _. 1 };
+
+    fn count(&self) -> usize {
+        1
+    }
+}
+
+impl Counted for Participant {
+    ghost items = { λ _. 1 };
+
+    fn count(&self) -> usize {
+        1
+    }
+}
+
+impl<T, A: Allocator> Counted for Vec<T, A> {
+    ghost items = { vec_len };
+
+    fn count(&self) -> usize {
+        self.len()
+    }
+}
+
+impl<T: Ord, A: Allocator> Counted for Set<T, A> {
+    ghost items = { length };
+
+    fn count(&self) -> usize {
+        self.len()
+    }
+}
+
+impl<K: Ord, V, A: Allocator> Counted for Map<K, V, A> {
+    ghost items = { length };
+
+    fn count(&self) -> usize {
+        self.len()
+    }
+}
+
+impl<K: Ord, V: Eq + Hash, A: Allocator> Counted for BiMap<K, V, A> {
+    ghost items = { length };
+
+    fn count(&self) -> usize {
+        self.len()
+    }
+}
+
+impl<T, A: Allocator> Counted for NonEmptyVec<T, A> {
+    ghost items = { length };
+
+    fn count(&self) -> usize {
+        self.len().get()
+    }
+}
