@@ -1,6 +1,6 @@
 -- Answers to lines, one after another.
-use Rattle.std.proofs.Common.{◌≡◌, ℕ, ◌+◌, ◌-◌, ◌<◌, ◌≤◌, ◌==◌, ◌&&◌, ◌||◌, Bool, true, false, cond, not, zero, suc, List, [], ◌∷◌, ◌++◌, filter, length, get_or, take, drop, position, Option, Some, None, refl, sym, ap, subst, arith, ◌∙◌, append_assoc, append-nil, take-append-drop, add-one, drop-cons, nat_lt}
-use Rattle.std.specs.List.{AllByRecursion, AllZip, flat_map, list_all, onto_first, position_or_len, slice_split}
+use Rattle.std.proofs.Common.{◌≡◌, ℕ, ◌+◌, ◌<◌, ◌≤◌, ◌==◌, ◌&&◌, ◌||◌, Bool, true, false, cond, not, zero, suc, List, [], ◌∷◌, ◌++◌, filter, length, get_or, take, drop, position, Some, None, refl, sym, ap, subst, arith, ◌∙◌, append_assoc, append-nil, take-append-drop, add-one, drop-cons, nat_lt}
+use Rattle.std.specs.List.{AllZip, flat_map, list_all, onto_first, position_or_len, slice_split}
 use Rattle.std.specs.Str.Lines.{lines, lines_of_parts, strip_carriage_return}
 use Rattle.std.proofs.lemmas.Bool.{cond-false, cond-true, eqb-true}
 use Rattle.std.proofs.lemmas.Bool.Decides.{nat_tests}

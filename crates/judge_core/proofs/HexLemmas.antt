@@ -1,5 +1,5 @@
 -- Hexadecimal digits after hexadecimal digits.
-use Rattle.std.proofs.Common.{◌≡◌, ℕ, ◌-◌, ◌<◌, ◌≤◌, List, [], ◌∷◌, ◌++◌, length, get_or, take, drop, arith, subst, sym, ap}
+use Rattle.std.proofs.Common.{◌≡◌, ℕ, ◌-◌, ◌<◌, ◌≤◌, List, [], ◌∷◌, ◌++◌, length, get_or, take, drop, arith, sym, ap}
 use Rattle.std.proofs.lemmas.List.{take_rest}
 use Rattle.judge_core.specs.Hex.{IsHex, IsHexByte, IsText}
 

@@ -1,5 +1,5 @@
 -- The parts of a word that writes a range.
-use Rattle.std.proofs.Common.{◌≡◌, ℕ, ◌+◌, ◌<◌, ◌≤◌, ◌==◌, Bool, false, cond, not, List, [], ◌∷◌, ◌++◌, length, take, drop, position, Option, Some, None, suc, refl, sym, ap, subst, arith, ◌∙◌}
+use Rattle.std.proofs.Common.{◌≡◌, ℕ, ◌+◌, ◌<◌, ◌==◌, Bool, false, cond, not, List, [], ◌∷◌, ◌++◌, length, take, drop, position, Option, Some, None, suc, refl, sym, ap, subst, arith, ◌∙◌}
 use Rattle.std.specs.Char.{digit_value}
 use Rattle.std.specs.List.{position_or_len}
 use Rattle.std.specs.Str.Parse.{AllDigits}
@@ -8,7 +8,7 @@ use Rattle.std.proofs.lemmas.Bool.Decides.{nat_tests}
 use Rattle.std.proofs.lemmas.List.{length-append}
 use Rattle.std.proofs.Math.Seq.{take-append_seam}
 use Rattle.commonware_utils.specs.Codec.{Bounds}
-use Rattle.judge_core.specs.Ranges.{IsLower, IsNumber, IsRange, IsUpper}
+use Rattle.judge_core.specs.Ranges.{IsLower, IsRange, IsUpper}
 use Rattle.judge_core.proofs.Digits.{is_ascii}
 
 -- one more element that isn't found

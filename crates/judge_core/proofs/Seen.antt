@@ -4,7 +4,7 @@ use Rattle.std.specs.List.{AllByRecursion, flat_map}
 use Rattle.std.specs.Prelude.{Vec, vec_len}
 use Rattle.std.proofs.lemmas.List.{length-map}
 use Rattle.std.specs.Prelude.{Result, Ok, Err}
-use Rattle.commonware_utils.specs.Codec.{Accepts, BeginsWithFaultyItem, Bounds, Fault, IsAllowedList, IsListMemoryFree, IsWritableList, ListFault, Within, list_enc, varint, vec_of}
+use Rattle.commonware_utils.specs.Codec.{BeginsWithFaultyItem, Bounds, Fault, IsAllowedList, IsListMemoryFree, IsWritableList, ListFault, Within, list_enc, varint, vec_of}
 use Rattle.commonware_utils.specs.Codec.{bad_item, bad_length, bad_spelling, empty, first, outside, spelling, refuses_from}
 use Rattle.judge_core.specs.Readings.{IsJudged, Reading, list_of}
 use Rattle.judge_core.specs.declared.verdict.Verdict.{Verdict}

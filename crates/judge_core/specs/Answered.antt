@@ -10,9 +10,7 @@ use Rattle.judge_core.specs.declared.answer.Answer.{Answer}
 use Rattle.judge_core.specs.declared.answer.Answer.TheVariants.{Judged, Unread}
 use Rattle.judge_core.specs.declared.form.Form.{Form}
 use Rattle.judge_core.specs.declared.limits.Limits.{Limits}
-use Rattle.judge_core.specs.declared.question.Unreadable.{Unreadable}
 use Rattle.judge_core.specs.declared.question.Unreadable.TheVariants.{Bytes, Name, Ranges}
-use Rattle.judge_core.specs.declared.verdict.Verdict.{Verdict}
 use Rattle.judge_core.specs.declared.verdict.Verdict.TheVariants.{Accepted, Refused}
 
 -- the answer is right: the line asks a question and the verdict on its text is right, or what is named of it can't be read

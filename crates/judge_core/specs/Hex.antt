@@ -1,5 +1,5 @@
 -- Bytes as hexadecimal digits.
-use Rattle.std.specs.Prelude.{◌≡◌, ℕ, ◌+◌, ◌*◌, ◌<◌, ◌≤◌, ◌⊎◌, List, [], ◌∷◌, length, codes}
+use Rattle.std.specs.Prelude.{◌≡◌, ℕ, ◌+◌, ◌*◌, ◌<◌, List, [], ◌∷◌, codes}
 use Rattle.std.specs.Char.{digit_value}
 
 -- two digits, of which letters may be lower or upper case, write the byte

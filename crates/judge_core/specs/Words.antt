@@ -1,5 +1,5 @@
 -- The words of a line, and the lines of a text.
-use Rattle.std.specs.Prelude.{ℕ, List, [], ◌∷◌, Option, Some, None, ◌==◌}
+use Rattle.std.specs.Prelude.{ℕ, List, [], Option, Some, None, ◌==◌}
 use Rattle.std.specs.List.{slice_split}
 
 -- the parts of a line between blanks

@@ -48,11 +48,11 @@ pub fn run<A: Allocator + Copy, R: Read, W: Write>(
 
 /// Does what the words after the program's name ask for, and answers the exit status.
 ///
-/// The status is 0 where each line that asks for an answer got a verdict, or the names of the types
-/// were written; 1 where some line couldn't be read; 2 where the words ask for no command; and 3
-/// where memory, the reader or the writer failed. Where it is 2 or 3, one line on `errors` says
-/// why, in one write where `errors` takes it whole. Where `errors` fails, the status is the same.
-/// No call of a device is tried again.
+/// The status is 0 where each line that asks for an answer got a verdict, or the types were
+/// written; 1 where some line couldn't be read; 2 where the words ask for no command; and 3 where
+/// memory, the reader or the writer failed. Where it is 2 or 3, one line on `errors` says why, in
+/// one write where `errors` takes it whole. Where `errors` fails, the status is the same. No call
+/// of a device is tried again.
 pub fn session<A: Allocator + Copy, R: Read, W: Write, E: Write>(
     alloc: A,
     words: &[String<A>],

@@ -8,9 +8,9 @@ use crate::limits::Limit;
 use crate::words::{place_of, strip};
 use std::ops::Bound;
 
-/// The range that the word writes as Rust does: `..`, `a..`, `..b`, `..=b`, `a..b` or `a..=b`, with
-/// numbers of decimal digits that fit a `usize`. Zeros may lead. The answer is `None` exactly where
-/// it writes none.
+/// The range that the word writes as Rust does: `..`, `a..`, `..b`, `..=b`, `a..b` or `a..=b`.
+/// Numbers are decimal digits and fit a `usize`. Zeros may lead. The answer is `None` exactly
+/// where it writes none.
 pub fn read_limit(word: &[u8]) -> Option<Limit>
     ensures range { IfSome result (IsRange word.now) }
     ensures given { (range : Bounds ℕ) → IsRange word.now range → result ≡ Some range }

@@ -49,6 +49,14 @@ fn of(text: &[u8], step: usize) -> Session<'_> {
     }
 }
 
+/// The session of these words, with devices that never fail.
+fn asking<'a>(words: &'a [&'a str]) -> Session<'a> {
+    Session {
+        words,
+        ..of(TEXT.as_bytes(), WHOLE)
+    }
+}
+
 /// What a session came to.
 #[derive(Drop)]
 struct Outcome {
@@ -287,17 +295,14 @@ fn memory_that_is_refused(rt: HostRuntime) -> Result<(), Fail> {
 
 #[test]
 fn other_words(rt: HostRuntime) -> Result<(), Fail> {
-    let mut wanted = of(TEXT.as_bytes(), WHOLE);
-    wanted.words = &["types"];
-    let outcome = held(rt.alloc(), &wanted)?;
+    let outcome = held(rt.alloc(), &asking(&["types"]))?;
     assert_eq!(rt; (outcome.status, outcome.reads, outcome.flushes), (0, 0, 1));
     assert!(rt;
         outcome
             .written
             .starts_with(b"u8\nu32\nvarint\nusize\nparticipant\n")
     );
-    wanted.words = &["types", "types"];
-    let outcome = held(rt.alloc(), &wanted)?;
+    let outcome = held(rt.alloc(), &asking(&["types", "types"]))?;
     assert_eq!(rt; (outcome.status, outcome.reads, outcome.flushes), (2, 0, 0));
     assert!(rt; outcome.written.is_empty());
     assert_eq!(rt;

@@ -1,5 +1,5 @@
 -- Each clause on the words is that of the session of what follows the first argument.
-use Rattle.std.proofs.Common.{ap, arith, drop, ◌∙◌, ◌≡◌}
+use Rattle.std.proofs.Common.{ap, drop, ◌∙◌}
 use Rattle.judge_core.proofs.Taken.{has_words}
 use Rattle.judge_core.proofs.arguments.start.Goals as goal
 

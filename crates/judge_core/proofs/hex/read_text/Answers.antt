@@ -1,6 +1,6 @@
-use Rattle.std.proofs.Common.{◌≡◌, ℕ, ◌+◌, ◌-◌, ◌*◌, ◌<◌, ◌≤◌, List, [], ◌∷◌, ◌++◌, get_or, length, arith, take, drop, subst, sym, ap, ◌∙◌, append_assoc}
-use Rattle.judge_core.specs.Hex.{IsHex, IsHexByte, IsText}
-use Rattle.judge_core.proofs.HexLemmas.{hex_is_text, hex_more, hex_rest, no_byte, text_is_hex, two_front, one_left}
+use Rattle.std.proofs.Common.{◌-◌, ◌≤◌, [], ◌∷◌, ◌++◌, get_or, length, arith, take, drop, subst, sym, ap, ◌∙◌, append_assoc}
+use Rattle.judge_core.specs.Hex.{IsHex}
+use Rattle.judge_core.proofs.HexLemmas.{hex_more, hex_rest, no_byte, text_is_hex, two_front, one_left}
 use Rattle.judge_core.proofs.hex.read_text.Goals as goal
 
 pub loop-rest-preserved : goal.loop-rest-preserved

@@ -1,4 +1,4 @@
-use Rattle.std.proofs.Common.{◌≡◌, false, sym, ◌∙◌}
+use Rattle.std.proofs.Common.{sym, ◌∙◌}
 use Rattle.judge_core.specs.Answered.{answer_line}
 use Rattle.judge_core.proofs.Answering.{asks, one_answered}
 use Rattle.judge_core.proofs.lines.answer_line.Goals as goal

@@ -1,4 +1,4 @@
-use Rattle.std.proofs.Common.{◌≡◌, ℕ, List, sym, subst}
+use Rattle.std.proofs.Common.{◌≡◌, subst}
 use Rattle.judge_core.specs.Ranges.{IsRange}
 use Rattle.judge_core.proofs.question.next_limit.Goals as goal
 

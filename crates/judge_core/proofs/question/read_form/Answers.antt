@@ -1,4 +1,4 @@
-use Rattle.std.proofs.Common.{◌≡◌, ap, sym, arith, ◌∙◌}
+use Rattle.std.proofs.Common.{ap, sym, arith, ◌∙◌}
 use Rattle.judge_core.specs.Forms.{name_of}
 use Rattle.judge_core.proofs.FormLemmas.{listed, place_in_forms, place_inside}
 use Rattle.judge_core.proofs.question.read_form.Goals as goal

@@ -1,10 +1,10 @@
-use Rattle.std.proofs.Common.{◌≡◌, ◌≢◌, ℕ, ◌&&◌, List, [], ◌∷◌, ◌++◌, Err, take, ap, sym, subst, ◌∙◌, append-nil}
+use Rattle.std.proofs.Common.{◌≡◌, ◌≢◌, [], ◌∷◌, ◌++◌, Err, take, ap, sym, subst, ◌∙◌, append-nil}
 use Rattle.std.specs.Io.KnownBytes.{Appends, Consumes}
 use Rattle.std.specs.Str.Lines.{lines}
 use Rattle.std.proofs.KnownBytes.{Appends-trans, Consumes-trans}
 use Rattle.judge_core.specs.Answered.{AreAnswered, Continues}
 use Rattle.judge_core.specs.Session.{IsBeginningAnswered}
-use Rattle.judge_core.specs.declared.error.Failure.TheVariants.{Memory, WriteFailed}
+use Rattle.judge_core.specs.declared.error.Failure.TheVariants.{WriteFailed}
 use Rattle.judge_core.proofs.Answering.{continues_on, text_ended}
 use Rattle.judge_core.proofs.Stopping.{beginning, err_along, for_memory, kept, untouched}
 use Rattle.judge_core.proofs.stream.answer_all.Goals as goal
