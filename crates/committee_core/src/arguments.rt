@@ -31,8 +31,9 @@ pub fn start<A: Allocator + Copy, R: Read, W: Write, E: Write>(
     ensures done { result ≡ 0 → HasWords arguments (λ words. IsDone words
         (Gave (R.remaining input.old.inner) (R.remaining input.new.inner))
         (Appends (W.contents output.old.inner) (W.contents output.new.inner))) }
-    ensures refused { result ≡ 1 → IsRefused
-        (Gave (R.remaining input.old.inner) (R.remaining input.new.inner)) × (output.new ≡ output.old) }
+    ensures refused { result ≡ 1 →
+        IsRefused (Gave (R.remaining input.old.inner) (R.remaining input.new.inner))
+        × (output.new ≡ output.old) }
     ensures asked { result ≤ 1 → HasWords arguments (λ words. ¬ AskForNone words) }
     ensures usage { result ≡ 2 → HasWords arguments AskForNone }
     ensures untouched { result ≡ 2 → (input.new ≡ input.old) × (output.new ≡ output.old) }

@@ -31,7 +31,8 @@ pub fn session<A: Allocator + Copy, R: Read, W: Write, E: Write>(
         (Gave (R.remaining input.old.inner) (R.remaining input.new.inner))
         (Appends (W.contents output.old.inner) (W.contents output.new.inner)) }
     ensures refused { result ≡ 1 →
-        IsRefused (Gave (R.remaining input.old.inner) (R.remaining input.new.inner)) × (output.new ≡ output.old) }
+        IsRefused (Gave (R.remaining input.old.inner) (R.remaining input.new.inner))
+        × (output.new ≡ output.old) }
     ensures usage { (result ≡ 2) ↔ AskForNone (map string_bytes words.now) }
     ensures untouched { result ≡ 2 → (input.new ≡ input.old) × (output.new ≡ output.old) }
     ensures bounds { (n : _) → IsAskedFor (map string_bytes words.now) (Command.Bounds n)

@@ -1,21 +1,35 @@
 -- The place of an item in a strict list.
-use Rattle.std.proofs.Common.{◌≡◌, ℕ, ◌+◌, ◌<◌, Bool, true, List, length, take, get_or, sym, ap, arith, inl, inr, subst}
-use Rattle.std.specs.Prelude.{◌↔◌, None, Option, Some}
+use Rattle.std.proofs.Common.{◌≡◌, ℕ, ◌+◌, ◌<◌, Bool, true, List, length, take, get_or, sym, ◌∙◌, ap, arith, ⊎_elim, inl, inr, subst}
+use Rattle.std.specs.Prelude.{◌↔◌, Err, None, Ok, Option, Result, Some}
 use Rattle.std.specs.List.{slice_get}
+use Rattle.std.specs.List.Sorted.{IsBinarySearchResult, IsSearchInRange, IsSorted}
 use Rattle.std.specs.Cmp.{IsTotalOrder}
-use Rattle.std.specs.Ordering.{is_eq}
+use Rattle.std.specs.Ordering.{is_eq, is_lt, ordering_reverse}
+use Rattle.std.specs.Result.{result_ok}
 use Rattle.std.specs.declared.cmp.Ordering.{Ordering}
 use Rattle.std.specs.declared.cmp.Ordering.TheVariants.{Equal, Less}
 use Rattle.std.proofs.lemmas.Bool.{cases_lt}
 use Rattle.std.proofs.lemmas.Cmp.{alike_right}
 use Rattle.std.proofs.lemmas.List.{get_or-take, length-take}
+use Rattle.std.proofs.lemmas.List.Sorted.{searchable_from_sorted}
 use Rattle.std.proofs.lemmas.Map.Keys.{Less-from_sorted, sorted_from_all_adjacent}
 use Rattle.std.proofs.lemmas.Option.{get_or_from_slice_get, slice_get-get_or, slice_get_within}
 use Rattle.commonware_ordered.specs.Strict.{IsPlaceOf, IsStrict}
 use Rattle.commonware_ordered.specs.StrictLaws.{level}
 
 module _ {X : Type 0} {cmp : X → X → Ordering} (o : IsTotalOrder cmp) where
+  -- no item of a strict list is less than the one before it
+  ascending_from_strict : (xs : List X) → IsStrict cmp xs → IsSorted cmp xs
+  ascending_from_strict xs s k d low high = ap is_lt (o.antisymm (get_or xs (k + 1) d) (get_or xs k d) ∙ ap ordering_reverse (s k d high))
+
   module _ {eq : X → X → Bool} (ties : (x y : X) → eq x y ≡ is_eq (cmp x y)) where
+    -- what halving finds in a strict list is the place of an equal item
+    pub place_from_search : (xs : List X) (x : X) (r : Result ℕ ℕ) → IsStrict cmp xs → IsSearchInRange r (length xs) → IsBinarySearchResult (λ y. cmp y x) xs r → IsPlaceOf eq xs x (result_ok r)
+    place_from_search xs x (Ok i) s within found = (within, λ d. ties (get_or xs i d) x ∙ ap is_eq (found d))
+    place_from_search xs x (Err i) s within found =
+        let p = found (searchable_from_sorted o (λ y. y) xs x (ascending_from_strict xs s)) in
+        λ k d high. ties (get_or xs k d) x ∙ ⊎_elim (λ low. ap is_eq (p.0 k d (omega arith) low)) (λ from. ap is_eq (p.1 k d from high)) (cases_lt k i)
+
     -- of two positions of a strict list, not both hold an item that equals x
     not_before : (xs : List X) (x : X) (i p : ℕ) → IsStrict cmp xs → i < p → p < length xs → eq (get_or xs i x) x ≡ true → eq (get_or xs p x) x ≡ true → ⊥
     not_before xs x i p s low high e f =

@@ -3,6 +3,8 @@ ghost use Rattle.std.specs.Prelude.{◌≡◌, ◌≤◌, ◌<◌, ◌+◌, ℕ,
 ghost use Rattle.std.specs.List.{HoldsAt};
 ghost use Rattle.commonware_ordered.specs.Strict.{IsPlaceOf, IsStrict, IsWithin};
 
+use std::mem::size_of;
+
 /// 1 where the item at a place is at most the one sought, else 0.
 #[inline(always)]
 fn reached<T: Ord>(items: &[T], place: usize, item: &T) -> usize
@@ -40,7 +42,7 @@ fn last_steps<T: Ord>(items: &[T], base: usize, size: usize, item: &T) -> usize
 /// Each step asks the items at three places, which cut the list in four, and adds up the answers:
 /// a processor need not guess one before the next step. It takes one comparison and a half where
 /// halving takes one.
-pub(crate) fn place_of<T: Ord>(items: &[T], item: &T) -> Option<usize>
+fn quartered<T: Ord>(items: &[T], item: &T) -> Option<usize>
     requires { IsStrict T.cmp items.now }
     ensures { IsPlaceOf T.eq items.now item.now result }
 {
@@ -62,5 +64,29 @@ pub(crate) fn place_of<T: Ord>(items: &[T], item: &T) -> Option<usize>
         Some(place)
     } else {
         None
+    }
+}
+
+/// The same place, by halving the list.
+fn halved<T: Ord>(items: &[T], item: &T) -> Option<usize>
+    requires { IsStrict T.cmp items.now }
+    ensures { IsPlaceOf T.eq items.now item.now result }
+{
+    items.binary_search(item).ok()
+}
+
+/// The most bytes of an item whose comparison costs less than a wrong guess.
+const NARROW: usize = 8;
+
+/// The same place. Narrow items are asked three at a time; of wide ones a comparison is dear, so
+/// for them the list is halved.
+pub(crate) fn place_of<T: Ord>(items: &[T], item: &T) -> Option<usize>
+    requires { IsStrict T.cmp items.now }
+    ensures { IsPlaceOf T.eq items.now item.now result }
+{
+    if items.len() * size_of::<T>() <= items.len().saturating_mul(NARROW) {
+        quartered(items, item)
+    } else {
+        halved(items, item)
     }
 }

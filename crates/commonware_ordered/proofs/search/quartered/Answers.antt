@@ -1,7 +1,7 @@
 use Rattle.std.proofs.Common.{◌≤◌, ◌*◌, ◌/◌, sym, ap, ◌∙◌, arith}
 use Rattle.std.proofs.lemmas.List.{get_or_default}
 use Rattle.commonware_ordered.proofs.Narrowing.{narrowed, passed_at_most, none_from_only}
-use Rattle.commonware_ordered.proofs.search.place_of.Goals as goal
+use Rattle.commonware_ordered.proofs.search.quartered.Goals as goal
 
 pub loop-size-preserved : goal.loop-size-preserved
 loop-size-preserved g c =
