@@ -5,7 +5,7 @@ use Rattle.judge_core.specs.Forms.{all_forms, name_of}
 use Rattle.judge_core.specs.declared.form.Form.{Form}
 use Rattle.judge_core.specs.declared.form.Form.TheVariants.{U8, U32, Varint, Usize, Participant, VecU8, VecU32, VecVecU8, VecVecVecU8}
 use Rattle.judge_core.specs.declared.form.Form.TheVariants.{SetU8, SetU32, SetParticipant, SetSetU8, SetNonEmptyU8, MapU8U8, MapU8SetU8}
-use Rattle.judge_core.specs.declared.form.Form.TheVariants.{VecMapU8U8, BiMapU8U8, NonEmptyU8, NonEmptyNonEmptyU8}
+use Rattle.judge_core.specs.declared.form.Form.TheVariants.{VecMapU8U8, BiMapU8U8, NonEmptyU8, NonEmptyNonEmptyU8, Certificate}
 
 -- its place in the list
 abbrev pub place_in_forms : Form → ℕ
@@ -29,6 +29,7 @@ place_in_forms VecMapU8U8 = 16
 place_in_forms BiMapU8U8 = 17
 place_in_forms NonEmptyU8 = 18
 place_in_forms NonEmptyNonEmptyU8 = 19
+place_in_forms Certificate = 20
 
 -- it stands there
 pub listed : (form : Form) → get_or all_forms (place_in_forms form) U8 ≡ form
@@ -52,9 +53,10 @@ listed VecMapU8U8 = refl
 listed BiMapU8U8 = refl
 listed NonEmptyU8 = refl
 listed NonEmptyNonEmptyU8 = refl
+listed Certificate = refl
 
 -- which is inside
-pub place_inside : (form : Form) → place_in_forms form < 20
+pub place_inside : (form : Form) → place_in_forms form < 21
 place_inside U8 = omega arith
 place_inside U32 = omega arith
 place_inside Varint = omega arith
@@ -75,6 +77,7 @@ place_inside VecMapU8U8 = omega arith
 place_inside BiMapU8U8 = omega arith
 place_inside NonEmptyU8 = omega arith
 place_inside NonEmptyNonEmptyU8 = omega arith
+place_inside Certificate = omega arith
 
 -- one name more
 pub names_more : (forms : List Form) (i : ℕ) (old name new text : List ℕ) → i < length forms → new ≡ old ++ (name ++ (10 ∷ [])) → name ≡ name_of (get_or forms i U8)

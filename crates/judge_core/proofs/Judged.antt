@@ -3,11 +3,14 @@ use Rattle.std.proofs.Common.{◌≡◌, ℕ, List, refl, sym, subst}
 use Rattle.std.specs.Prelude.{Result}
 use Rattle.commonware_utils.specs.Codec.{Bounds}
 use Rattle.commonware_base.specs.declared.codec.varint.UInt.{UInt}
-use Rattle.judge_core.specs.Readings.{IsJudged, Reading, a_varint, reading_of}
+use Rattle.committee_certificates.specs.CertificateLaws.{certificate_of}
+use Rattle.committee_certificates.specs.Certificates.{parts}
+use Rattle.committee_certificates.specs.declared.certificate.Certificate.{Certificate}
+use Rattle.judge_core.specs.Readings.{IsJudged, Reading, a_certificate, a_varint, reading_of}
 use Rattle.judge_core.specs.declared.form.Form.{Form}
 use Rattle.judge_core.specs.declared.limits.Limits.{Limits}
 use Rattle.judge_core.specs.declared.verdict.Verdict.{Verdict}
-use Rattle.judge_core.proofs.Seen.{Sees}
+use Rattle.judge_core.proofs.Seen.{Sees, on, sees_on}
 
 -- the ranges by their parts
 abbrev pub limits_of : Bounds ℕ → Bounds ℕ → Bounds ℕ → Limits
@@ -24,28 +27,17 @@ judged_along f g l m text result is are h =
 
 -- a varint as the reader of `UInt` has it
 abbrev pub a_uint : Reading
-a_uint = record {
-  Value = UInt;
-  enc = λ v. a_varint.enc v.0;
-  Writable = λ v. a_varint.Writable v.0;
-  Allowed = λ _. Unit {0};
-  HasFault = a_varint.HasFault;
-  MemoryFree = λ _. Unit {0};
-  items = λ _. 1;
-}
+a_uint = on {V = UInt} a_varint (λ v. v.0)
 
 -- it is seen as its number
 pub sees_uint : Sees a_uint a_varint
-sees_uint = record {
-  view = λ v. v.0;
-  made = λ n w. (record { 0 = n }, refl);
-  same_bytes = λ v. refl;
-  same_items = λ v. refl;
-  writable = λ v h. h;
-  writable_back = λ v h. h;
-  allowed = λ v h. h;
-  allowed_back = λ v h. h;
-  fault = λ text f h. h;
-  fault_back = λ text f h. h;
-  free_back = λ text h. h;
-}
+sees_uint = sees_on a_varint (λ v. v.0) (λ n w. (record { 0 = n }, refl))
+
+-- a certificate as its reader has it
+abbrev pub certificate_read : (A : Type 0) → Bounds ℕ → Bounds ℕ → Reading
+certificate_read A value signers = on {V = Certificate A} (a_certificate value signers) parts
+
+-- it is seen as its parts
+pub sees_certificate : {A : Type 0} → A → (value signers : Bounds ℕ) → Sees (certificate_read A value signers) (a_certificate value signers)
+sees_certificate alloc value signers =
+    sees_on (a_certificate value signers) parts (λ p w. let (c, is) = certificate_of alloc p w in (c, sym is))

@@ -24,11 +24,23 @@ pub record Sees (r s : Reading) : Type 0 where
   pub fault_back : (text : List ℕ) (f : Fault) → s.HasFault text f → r.HasFault text f
   pub free_back : (text : List ℕ) → s.MemoryFree text → r.MemoryFree text
 
--- each reading is seen as itself
-pub sees_itself : (r : Reading) → Sees r r
-sees_itself r = record {
-  view = λ v. v;
-  made = λ x w. (x, refl);
+-- a reading by a view of its values: each is read as what it is seen as
+abbrev pub on : {V : Type 0} → (s : Reading) → (V → s.Value) → Reading
+on {V} s view = record {
+  Value = V;
+  enc = λ v. s.enc (view v);
+  Writable = λ v. s.Writable (view v);
+  Allowed = λ v. s.Allowed (view v);
+  HasFault = s.HasFault;
+  MemoryFree = s.MemoryFree;
+  items = λ v. s.items (view v);
+}
+
+-- which is seen so, where each writable value is what some value is seen as
+pub sees_on : {V : Type 0} (s : Reading) (view : V → s.Value) → ((x : s.Value) → s.Writable x → (v : V) × (view v ≡ x)) → Sees (on s view) s
+sees_on s view made = record {
+  view = view;
+  made = made;
   same_bytes = λ v. refl;
   same_items = λ v. refl;
   writable = λ v h. h;
@@ -39,6 +51,10 @@ sees_itself r = record {
   fault_back = λ text f h. h;
   free_back = λ text h. h;
 }
+
+-- each reading is seen as itself
+pub sees_itself : (r : Reading) → Sees r r
+sees_itself r = sees_on r (λ v. v) (λ x w. (x, refl))
 
 -- what is right of r is right of s
 pub judged_seen : {E : Type 0} (r s : Reading) → Sees r s → (text : List ℕ) (result : Result Verdict E) → IsJudged r text result → IsJudged s text result

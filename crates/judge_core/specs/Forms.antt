@@ -4,7 +4,7 @@ use Rattle.std.specs.List.{flat_map}
 use Rattle.judge_core.specs.declared.form.Form.{Form}
 use Rattle.judge_core.specs.declared.form.Form.TheVariants.{U8, U32, Varint, Usize, Participant, VecU8, VecU32, VecVecU8, VecVecVecU8}
 use Rattle.judge_core.specs.declared.form.Form.TheVariants.{SetU8, SetU32, SetParticipant, SetSetU8, SetNonEmptyU8, MapU8U8, MapU8SetU8}
-use Rattle.judge_core.specs.declared.form.Form.TheVariants.{VecMapU8U8, BiMapU8U8, NonEmptyU8, NonEmptyNonEmptyU8}
+use Rattle.judge_core.specs.declared.form.Form.TheVariants.{VecMapU8U8, BiMapU8U8, NonEmptyU8, NonEmptyNonEmptyU8, Certificate}
 
 -- the name by which a question names a type
 abbrev pub name_of : Form → List ℕ
@@ -28,6 +28,7 @@ name_of VecMapU8U8 = codes "vec<map<u8,u8>>"
 name_of BiMapU8U8 = codes "bimap<u8,u8>"
 name_of NonEmptyU8 = codes "non-empty<u8>"
 name_of NonEmptyNonEmptyU8 = codes "non-empty<non-empty<u8>>"
+name_of Certificate = codes "certificate"
 
 -- how many ranges a question gives for a type
 abbrev pub lengths_of : Form → ℕ
@@ -51,12 +52,13 @@ lengths_of VecMapU8U8 = 2
 lengths_of BiMapU8U8 = 1
 lengths_of NonEmptyU8 = 1
 lengths_of NonEmptyNonEmptyU8 = 2
+lengths_of Certificate = 2
 
 -- the types
 abbrev pub all_forms : List Form
 all_forms =
     U8 ∷ U32 ∷ Varint ∷ Usize ∷ Participant ∷ VecU8 ∷ VecU32 ∷ VecVecU8 ∷ VecVecVecU8 ∷ SetU8
-    ∷ SetU32 ∷ SetParticipant ∷ SetSetU8 ∷ SetNonEmptyU8 ∷ MapU8U8 ∷ MapU8SetU8 ∷ VecMapU8U8 ∷ BiMapU8U8 ∷ NonEmptyU8 ∷ NonEmptyNonEmptyU8 ∷ []
+    ∷ SetU32 ∷ SetParticipant ∷ SetSetU8 ∷ SetNonEmptyU8 ∷ MapU8U8 ∷ MapU8SetU8 ∷ VecMapU8U8 ∷ BiMapU8U8 ∷ NonEmptyU8 ∷ NonEmptyNonEmptyU8 ∷ Certificate ∷ []
 
 -- the names of the types, each on a line
 abbrev pub types_text : List ℕ

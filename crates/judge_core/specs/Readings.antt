@@ -8,10 +8,11 @@ use Rattle.commonware_utils.specs.Codec.{byte, byte_fault, IsByte, IsWord, word_
 use Rattle.commonware_utils.specs.Codec.{list_enc, IsWritableList, IsAllowedList, IsListMemoryFree, ListFault}
 use Rattle.commonware_utils.specs.Ordered.{IsWritableSet, SetFault, map_enc, IsWritableMap, IsAllowedMap, MapFault, IsWritableBiMap, BiMapFault}
 use Rattle.commonware_utils.specs.Vec.{IsWritableNonEmpty, NonEmptyFault}
+use Rattle.committee_certificates.specs.Certificates.{CertificateFault, IsAllowedCertificate, IsWritableCertificate, certificate_enc}
 use Rattle.judge_core.specs.declared.form.Form.{Form}
 use Rattle.judge_core.specs.declared.form.Form.TheVariants.{U8, U32, Varint, Usize, Participant, VecU8, VecU32, VecVecU8, VecVecVecU8}
 use Rattle.judge_core.specs.declared.form.Form.TheVariants.{SetU8, SetU32, SetParticipant, SetSetU8, SetNonEmptyU8, MapU8U8, MapU8SetU8}
-use Rattle.judge_core.specs.declared.form.Form.TheVariants.{VecMapU8U8, BiMapU8U8, NonEmptyU8, NonEmptyNonEmptyU8}
+use Rattle.judge_core.specs.declared.form.Form.TheVariants.{VecMapU8U8, BiMapU8U8, NonEmptyU8, NonEmptyNonEmptyU8, Certificate}
 use Rattle.judge_core.specs.declared.limits.Limits.{Limits}
 use Rattle.judge_core.specs.Limits.{HasNoZero}
 use Rattle.judge_core.specs.declared.verdict.Verdict.{Verdict}
@@ -116,6 +117,18 @@ bimap_of range key cmp value eq = record {
   items = length;
 }
 
+-- a certificate, which is its value and its signers
+abbrev pub a_certificate : Bounds ℕ → Bounds ℕ → Reading
+a_certificate value signers = record {
+  Value = List ℕ × List ℕ;
+  enc = certificate_enc;
+  Writable = IsWritableCertificate;
+  Allowed = IsAllowedCertificate value signers;
+  HasFault = CertificateFault value signers;
+  MemoryFree = λ _. ⊥;
+  items = λ parts. length parts.1;
+}
+
 -- what a text is read as, by the type's name and the ranges of its lengths: numbers are ordered as such, and lists by the
 -- first item in which they differ
 abbrev pub reading_of : Form → Limits → Reading
@@ -139,6 +152,7 @@ reading_of VecMapU8U8 l = list_of l.first (map_of l.second a_byte nat_cmp a_byte
 reading_of BiMapU8U8 l = bimap_of l.first a_byte nat_cmp a_byte nat_eq
 reading_of NonEmptyU8 l = non_empty_of l.first a_byte
 reading_of NonEmptyNonEmptyU8 l = non_empty_of l.first (non_empty_of l.second a_byte)
+reading_of Certificate l = a_certificate l.first l.second
 
 -- the ranges can be those of the type: no bound of a list that is never empty is 0
 abbrev pub IsFit : Form → Limits → Type 0

@@ -1,6 +1,7 @@
 //! How many items a value has.
 ghost use Rattle.std.specs.Prelude.{◌≡◌, ℕ, length, vec_len};
 
+use committee_certificates::Certificate;
 use commonware_utils::Participant;
 use commonware_utils::codec::UInt;
 use commonware_utils::ordered::{BiMap, Map, Set};
@@ -8,8 +9,8 @@ use commonware_utils::vec::NonEmptyVec;
 use std::alloc::Allocator;
 use std::hash::Hash;
 
-/// A type whose values have a number of items: a collection has those of its outermost list, and
-/// everything else counts as one.
+/// A type whose values have a number of items: a collection has those of its outermost list, a
+/// certificate its signers, and everything else counts as one.
 pub trait Counted {
     /// How many items the value has.
     ghost items: { Self → ℕ };
@@ -96,5 +97,13 @@ impl<T, A: Allocator> Counted for NonEmptyVec<T, A> {
 
     fn count(&self) -> usize {
         self.len().get()
+    }
+}
+
+impl<A: Allocator> Counted for Certificate<A> {
+    ghost items = { λ certificate. length certificate.signers };
+
+    fn count(&self) -> usize {
+        self.signers.len()
     }
 }

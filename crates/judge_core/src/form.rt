@@ -25,10 +25,11 @@ pub enum Form {
     BiMapU8U8,
     NonEmptyU8,
     NonEmptyNonEmptyU8,
+    Certificate,
 }
 
 /// Each of the types, once.
-pub const FORMS: [Form; 20] = [
+pub const FORMS: [Form; 21] = [
     Form::U8,
     Form::U32,
     Form::Varint,
@@ -49,6 +50,7 @@ pub const FORMS: [Form; 20] = [
     Form::BiMapU8U8,
     Form::NonEmptyU8,
     Form::NonEmptyNonEmptyU8,
+    Form::Certificate,
 ];
 
 impl Form {
@@ -77,6 +79,7 @@ impl Form {
             Form::BiMapU8U8 => "bimap<u8,u8>",
             Form::NonEmptyU8 => "non-empty<u8>",
             Form::NonEmptyNonEmptyU8 => "non-empty<non-empty<u8>>",
+            Form::Certificate => "certificate",
         }
     }
 
@@ -101,7 +104,8 @@ impl Form {
             | Form::SetNonEmptyU8
             | Form::MapU8SetU8
             | Form::VecMapU8U8
-            | Form::NonEmptyNonEmptyU8 => 2,
+            | Form::NonEmptyNonEmptyU8
+            | Form::Certificate => 2,
             Form::VecVecVecU8 => 3,
         }
     }

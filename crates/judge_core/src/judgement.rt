@@ -6,6 +6,7 @@ use crate::counted::Counted;
 use crate::form::Form;
 use crate::limits::Limits;
 use crate::verdict::Verdict;
+use committee_certificates::Certificate;
 use commonware_utils::Participant;
 use commonware_utils::codec::{Error, Read, Source, UInt};
 use commonware_utils::ordered::{BiMap, Map, Set};
@@ -94,5 +95,6 @@ pub fn judge<A: Allocator + Copy>(
             let second = limits.second.non_zero();
             judge_as::<NonEmptyVec<NonEmptyVec<u8, A>, A>, A>(alloc, text, &(first, (second, ())))
         }
+        Form::Certificate => judge_as::<Certificate<A>, A>(alloc, text, &(first, second)),
     }
 }

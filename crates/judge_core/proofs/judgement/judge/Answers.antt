@@ -1,11 +1,11 @@
 -- Each arm is the judgement of its type, whose values are seen as lists, maps and numbers.
-use Rattle.judge_core.specs.Readings.{a_byte, a_varint, a_word, list_of, map_of}
+use Rattle.judge_core.specs.Readings.{a_byte, a_certificate, a_varint, a_word, list_of, map_of}
 use Rattle.std.specs.Ordering.{nat_cmp}
 use Rattle.commonware_utils.specs.Codec.{as_numbers}
 use Rattle.judge_core.specs.declared.form.Form.TheVariants.{U8, U32, Varint, Usize, Participant, VecU8, VecU32, VecVecU8, VecVecVecU8}
 use Rattle.judge_core.specs.declared.form.Form.TheVariants.{SetU8, SetU32, SetParticipant, SetSetU8, SetNonEmptyU8, MapU8U8, MapU8SetU8}
-use Rattle.judge_core.specs.declared.form.Form.TheVariants.{VecMapU8U8, BiMapU8U8, NonEmptyU8, NonEmptyNonEmptyU8}
-use Rattle.judge_core.proofs.Judged.{a_uint, judged_along, same_limits, sees_uint}
+use Rattle.judge_core.specs.declared.form.Form.TheVariants.{VecMapU8U8, BiMapU8U8, NonEmptyU8, NonEmptyNonEmptyU8, Certificate}
+use Rattle.judge_core.proofs.Judged.{a_uint, certificate_read, judged_along, same_limits, sees_certificate, sees_uint}
 use Rattle.judge_core.proofs.Seen.{judged_seen, sees_itself, sees_list, vec_of_items}
 use Rattle.judge_core.proofs.judgement.judge.Goals as goal
 
@@ -108,3 +108,8 @@ pub returns-in-NonEmptyNonEmptyU8 : goal.returns-in-NonEmptyNonEmptyU8
 returns-in-NonEmptyNonEmptyU8 g c =
     let limits = same_limits c.args.limits.now (as_numbers c.non_zero-first-in-NonEmptyNonEmptyU8.result) (as_numbers c.non_zero-second-in-NonEmptyNonEmptyU8.result) c.range-third.result c.non_zero-first-in-NonEmptyNonEmptyU8.ensures c.non_zero-second-in-NonEmptyNonEmptyU8.ensures c.range-third.ensures in
     judged_along c.args.form NonEmptyNonEmptyU8 c.args.limits.now _ c.args.text.now c.judge_as-in-NonEmptyNonEmptyU8.result c.in-NonEmptyNonEmptyU8.is limits (c.judge_as-in-NonEmptyNonEmptyU8.ensures)
+
+pub returns-in-Certificate : goal.returns-in-Certificate
+returns-in-Certificate g c =
+    let limits = same_limits c.args.limits.now c.range-first.result c.range-second.result c.range-third.result c.range-first.ensures c.range-second.ensures c.range-third.ensures in
+    judged_along c.args.form Certificate c.args.limits.now _ c.args.text.now c.judge_as-in-Certificate.result c.in-Certificate.is limits (judged_seen (certificate_read _ c.range-first.result c.range-second.result) (a_certificate c.range-first.result c.range-second.result) (sees_certificate c.args.alloc c.range-first.result c.range-second.result) c.args.text.now c.judge_as-in-Certificate.result c.judge_as-in-Certificate.ensures)
