@@ -1,0 +1,13 @@
+-- The exit status of a run that has stopped isn't that of other words.
+use Rattle.std.proofs.Common.{◌≡◌, arith}
+use Rattle.speed.specs.Status.{status_of}
+use Rattle.speed.specs.declared.failure.Failure.{Failure}
+use Rattle.speed.specs.declared.failure.Failure.TheVariants.{Line, Memory, Read, Write, Clock}
+
+-- no failure has the status 2
+pub never_two : (failure : Failure) → ¬ (status_of failure ≡ 2)
+never_two (Line _) two = omega (arith, two)
+never_two Memory two = omega (arith, two)
+never_two Read two = omega (arith, two)
+never_two Write two = omega (arith, two)
+never_two Clock two = omega (arith, two)

@@ -1,0 +1,76 @@
+//! The clock, and the lines that it fills.
+ghost use Rattle.std.specs.Prelude.{◌≡◌, ◌*◌, ◌/◌, ◌≤◌};
+ghost use Rattle.std.specs.Duration.{as_nanos};
+
+use crate::failure::Failure;
+use crate::output::write_text;
+use std::alloc::Global;
+use std::io::Write;
+use std::time::{Clock, Duration, Instant};
+
+/// What every line is filled with: a heap, a clock, and where the lines go.
+#[derive(Drop)]
+pub struct Bench<C: Clock, W: Write> {
+    alloc: Global,
+    clock: C,
+    output: W,
+}
+
+/// What a line is about.
+#[derive(Clone, Copy)]
+pub struct Work<'a> {
+    /// The name of the call.
+    pub name: &'a str,
+    /// How many entries one round goes over.
+    pub entries: usize,
+    /// How many rounds there are.
+    pub rounds: u64,
+}
+
+impl<C: Clock, W: Write> Bench<C, W> {
+    /// A bench with this heap, this clock and this output.
+    pub fn new(alloc: Global, clock: C, output: W) -> Self {
+        Bench {
+            alloc,
+            clock,
+            output,
+        }
+    }
+
+    /// The heap.
+    pub fn alloc(&self) -> Global {
+        self.alloc
+    }
+
+    /// Makes the call once a round and writes the line. The answer is the check sum, which goes
+    /// on from `sum` with what each call answers, modulo 2^64.
+    pub fn line<F: FnMut() -> Result<u64, Failure>>(
+        &mut self,
+        work: Work<'_>,
+        sum: u64,
+        mut call: F,
+    ) -> Result<u64, Failure>
+        requires { F.IsAlwaysCallable call }
+    {
+        let mut sum = sum;
+        let start = Instant::now(&self.clock).map_err(|_| Failure::Clock)?;
+        for _ in 0..work.rounds {
+            sum = sum.wrapping_add(call()?);
+        }
+        let elapsed = start.elapsed(&self.clock).map_err(|_| Failure::Clock)?;
+        let cost = hundredths(elapsed, (work.entries as u128 * work.rounds as u128).max(1));
+        let (name, entries) = (work.name, work.entries);
+        let line = format!(in self.alloc; "{name} {entries} {sum} {cost}\n")?;
+        write_text(&mut self.output, line.as_str())?;
+        Ok(sum)
+    }
+}
+
+/// The hundredths of a nanosecond that each of the entries took, rounded down.
+pub fn hundredths(elapsed: Duration, entries: u128) -> u128
+    requires { 1 ≤ entries }
+    ensures { result ≡ as_nanos elapsed * 100 / entries }
+{
+    let nanos = elapsed.as_secs() as u128 * 1_000_000_000 + elapsed.subsec_nanos() as u128;
+    nanos * 100 / entries
+}

@@ -1,0 +1,66 @@
+//! Bimaps of numbers and numbers.
+
+use crate::bench::{Bench, Work};
+use crate::failure::{Failure, count_built};
+use crate::numbers::random;
+use commonware_utils::TryFromIterator;
+use commonware_utils::ordered::{BiMap, Error};
+use std::alloc::Global;
+use std::io::Write;
+use std::time::Clock;
+
+/// The lines of bimaps in which each of so many random numbers has itself as its value.
+pub fn time_bimaps<C: Clock, W: Write>(
+    bench: &mut Bench<C, W>,
+    count: u32,
+    rounds: u64,
+) -> Result<(), Failure> {
+    let alloc = bench.alloc();
+    let numbers = random(alloc, count)?;
+    let work = Work {
+        name: "bimap_try_iter",
+        entries: count as usize,
+        rounds,
+    };
+    bench.line(work, 0, || {
+        count_built(bimap_of(alloc, &numbers).map(|bimap| bimap.len()))
+    })?;
+    match bimap_of(alloc, &numbers) {
+        Ok(bimap) => time_keys(bench, &bimap, &numbers, work),
+        Err(Error::Memory) => Err(Failure::Memory),
+        Err(_) => Ok(()),
+    }
+}
+
+/// The bimap in which each of the numbers has itself as its value.
+fn bimap_of(alloc: Global, numbers: &[u32]) -> Result<BiMap<u32, u32, Global>, Error> {
+    BiMap::try_from_iter(alloc, numbers.iter().map(|number| (*number, *number)))
+}
+
+/// The line of the key of each value looked up, for which all values are compared.
+fn time_keys<C: Clock, W: Write>(
+    bench: &mut Bench<C, W>,
+    bimap: &BiMap<u32, u32, Global>,
+    values: &[u32],
+    work: Work<'_>,
+) -> Result<(), Failure> {
+    let work = Work {
+        name: "bimap_get_key",
+        ..work
+    };
+    bench.line(work, 0, || Ok(sum_of_keys(bimap, values)))?;
+    Ok(())
+}
+
+/// The sum of the keys of the values modulo 2^64, where one that has none counts 1.
+fn sum_of_keys(bimap: &BiMap<u32, u32, Global>, values: &[u32]) -> u64 {
+    let mut sum = 0u64;
+    for value in values {
+        let key = match bimap.get_key(value) {
+            Some(key) => u64::from(*key),
+            None => 1,
+        };
+        sum = sum.wrapping_add(key);
+    }
+    sum
+}

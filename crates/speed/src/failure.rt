@@ -1,0 +1,79 @@
+//! Why a run has stopped.
+ghost use Rattle.std.specs.Prelude.{◌≡◌};
+ghost use Rattle.speed.specs.Status.{status_of};
+
+use commonware_utils::ordered;
+use std::alloc::{AllocError, AllocFailed};
+use std::fmt;
+
+/// Why a run has stopped. Its text is the line that a run says.
+#[derive(Clone, Copy, Debug, PartialEq, Eq)]
+pub enum Failure {
+    /// A request for memory was refused.
+    Memory,
+    /// Standard input failed, or is no UTF-8 text.
+    Read,
+    /// Standard output failed.
+    Write,
+    /// The clock failed.
+    Clock,
+    /// The line of this number, from 1, can't be read.
+    Line(u64),
+}
+
+impl fmt::Display for Failure {
+    fn fmt<W: fmt::Write>(&self, f: &mut fmt::Formatter<W>) -> fmt::Result {
+        match self {
+            Failure::Memory => write!(f, "failed: out of memory"),
+            Failure::Read => write!(f, "failed: read"),
+            Failure::Write => write!(f, "failed: write"),
+            Failure::Clock => write!(f, "failed: clock"),
+            Failure::Line(number) => write!(f, "refused: line {number}"),
+        }
+    }
+}
+
+impl From<AllocError> for Failure {
+    ghost use Rattle.std.specs.Prelude.{◌≡◌};
+    ghost use Rattle.speed.specs.declared.failure.Failure.TheVariants.{Memory};
+
+    ghost from_gives = { λ _ failure. failure ≡ Memory };
+
+    fn from(_error: AllocError) -> Failure {
+        Failure::Memory
+    }
+}
+
+impl<T: Drop> From<AllocFailed<T>> for Failure {
+    ghost use Rattle.std.specs.Prelude.{◌≡◌};
+    ghost use Rattle.speed.specs.declared.failure.Failure.TheVariants.{Memory};
+
+    ghost from_gives = { λ _ failure. failure ≡ Memory };
+
+    fn from(_error: AllocFailed<T>) -> Failure {
+        Failure::Memory
+    }
+}
+
+impl Failure {
+    /// The exit status of a run that has stopped for it: 1 for a line that can't be read, and
+    /// else 3.
+    pub fn status(self) -> u8
+        ensures { result ≡ status_of self }
+    {
+        match self {
+            Failure::Line(_) => 1,
+            Failure::Memory | Failure::Read | Failure::Write | Failure::Clock => 3,
+        }
+    }
+}
+
+/// What a collection that was built counts as: its length, or 1 where it was refused for the
+/// entries that it was to have.
+pub fn count_built(length: Result<usize, ordered::Error>) -> Result<u64, Failure> {
+    match length {
+        Ok(length) => Ok(length as u64),
+        Err(ordered::Error::Memory) => Err(Failure::Memory),
+        Err(_) => Ok(1),
+    }
+}

@@ -1,0 +1,186 @@
+//! A drawing of samples.
+
+use crate::axis::Axis;
+use crate::failure::Failure;
+use crate::labels::{Label, spread};
+use crate::sample::{Sample, parse_line};
+use std::alloc::{AllocError, Global};
+
+/// How many pixels wide the drawing is.
+const WIDTH: u32 = 1280;
+
+/// How many pixels high it is.
+const HEIGHT: u32 = 900;
+
+/// How many pixels are left of the axes.
+const LEFT: u32 = 70;
+
+/// How many pixels are above the axes.
+const TOP: u32 = 30;
+
+/// How many pixels wide the axes are.
+const ACROSS: u32 = 1000;
+
+/// How many pixels high they are.
+const UP: u32 = 810;
+
+/// What stands before the curves: all text and the lines of the axes are of a middle grey.
+const HEAD: &str = "<svg xmlns=\"http://www.w3.org/2000/svg\" viewBox=\"0 0 1280 900\" \
+    font-family=\"sans-serif\" font-size=\"12\" fill=\"none\">\n";
+
+/// The axes of a drawing.
+#[derive(Clone, Copy)]
+struct Frame {
+    across: Axis,
+    up: Axis,
+}
+
+/// The drawing of the lines of a text, or the number of the first line that can't be read.
+pub fn draw(alloc: Global, text: &str) -> Result<String, Failure> {
+    let mut samples = Vec::new(alloc);
+    let mut number = 0u64;
+    for line in text.lines() {
+        number = number.saturating_add(1);
+        match parse_line(line) {
+            Some(sample) => samples.push(sample)?,
+            None => return Err(Failure::Line(number)),
+        }
+    }
+    Ok(draw_samples(alloc, &samples)?)
+}
+
+/// The drawing of the samples.
+fn draw_samples(alloc: Global, samples: &[Sample<'_>]) -> Result<String, AllocError> {
+    let frame = frame_of(alloc, samples)?;
+    let names = names_of(alloc, samples)?;
+    let mut drawing = String::from_str(alloc, HEAD)?;
+    draw_across(&mut drawing, frame.across)?;
+    draw_up(&mut drawing, frame.up)?;
+    for (index, name) in names.iter().enumerate() {
+        draw_curve(&mut drawing, frame, samples, name, index)?;
+    }
+    let labels = labels_of(alloc, frame, samples, &names)?;
+    for label in &spread(alloc, &labels)? {
+        draw_label(&mut drawing, label)?;
+    }
+    drawing.push_str("</svg>\n")?;
+    Ok(drawing)
+}
+
+/// The axes on which all samples stand.
+fn frame_of(alloc: Global, samples: &[Sample<'_>]) -> Result<Frame, AllocError> {
+    let entries: Vec<u32> = samples.iter().map(|sample| sample.entries).collect(alloc)?;
+    let costs: Vec<u32> = samples.iter().map(|sample| sample.cost).collect(alloc)?;
+    Ok(Frame {
+        across: Axis::around(&entries, ACROSS),
+        up: Axis::around(&costs, UP),
+    })
+}
+
+/// The names of the samples, each once.
+fn names_of<'a>(alloc: Global, samples: &[Sample<'a>]) -> Result<Vec<&'a str>, AllocError> {
+    let mut names = Vec::new(alloc);
+    for sample in samples {
+        if !names.iter().any(|name| *name == sample.name) {
+            names.push(sample.name)?;
+        }
+    }
+    Ok(names)
+}
+
+/// The labels of the names, each at the last sample of its name.
+fn labels_of<'a>(
+    alloc: Global,
+    frame: Frame,
+    samples: &[Sample<'_>],
+    names: &[&'a str],
+) -> Result<Vec<Label<'a>>, AllocError> {
+    let mut labels = Vec::new(alloc);
+    for (index, name) in names.iter().enumerate() {
+        let last = samples.iter().rev().find(|sample| sample.name == *name);
+        let top = match last {
+            Some(sample) => top_of(frame, sample),
+            None => TOP,
+        };
+        labels.push(Label { name, index, top })?;
+    }
+    Ok(labels)
+}
+
+/// How many pixels below the top a sample stands.
+fn top_of(frame: Frame, sample: &Sample<'_>) -> u32 {
+    (TOP + UP).saturating_sub(frame.up.place(sample.cost))
+}
+
+/// How many pixels to the right a sample stands.
+fn left_of(frame: Frame, sample: &Sample<'_>) -> u32 {
+    frame.across.place(sample.entries).min(ACROSS) + LEFT
+}
+
+/// The colour of a curve.
+fn hue(index: usize) -> usize {
+    index % 360 * 137 % 360
+}
+
+/// Draws the powers of ten of the entries.
+fn draw_across(drawing: &mut String, axis: Axis) -> Result<(), AllocError> {
+    for exponent in axis.first..=axis.last {
+        let x = axis.place(exponent.saturating_mul(100)).min(ACROSS) + LEFT;
+        write!(
+            drawing,
+            "<path d=\"M{x} {TOP}v{UP}\" stroke=\"#888\" stroke-opacity=\"0.4\"/>\n\
+             <text x=\"{x}\" y=\"860\" fill=\"#888\" text-anchor=\"middle\">10\
+             <tspan dy=\"-5\" font-size=\"9\">{exponent}</tspan></text>\n"
+        )?;
+    }
+    drawing.push_str(
+        "<text x=\"570\" y=\"885\" fill=\"#888\" text-anchor=\"middle\">entries</text>\n",
+    )
+}
+
+/// Draws the powers of ten of the costs.
+fn draw_up(drawing: &mut String, axis: Axis) -> Result<(), AllocError> {
+    for exponent in axis.first..=axis.last {
+        let y = (TOP + UP).saturating_sub(axis.place(exponent.saturating_mul(100)));
+        let nanos = i64::from(exponent) - 2;
+        write!(
+            drawing,
+            "<path d=\"M{LEFT} {y}h{ACROSS}\" stroke=\"#888\" stroke-opacity=\"0.4\"/>\n\
+             <text x=\"60\" y=\"{y}\" fill=\"#888\" text-anchor=\"end\">10\
+             <tspan dy=\"-5\" font-size=\"9\">{nanos}</tspan></text>\n"
+        )?;
+    }
+    drawing.push_str("<text x=\"10\" y=\"20\" fill=\"#888\">nanoseconds an entry</text>\n")
+}
+
+/// Draws the curve of a name.
+fn draw_curve(
+    drawing: &mut String,
+    frame: Frame,
+    samples: &[Sample<'_>],
+    name: &str,
+    index: usize,
+) -> Result<(), AllocError> {
+    let hue = hue(index);
+    write!(
+        drawing,
+        "<polyline stroke=\"hsl({hue},60%,50%)\" stroke-width=\"1.5\" points=\""
+    )?;
+    for sample in samples {
+        if sample.name == name {
+            let x = left_of(frame, sample);
+            let y = top_of(frame, sample);
+            write!(drawing, "{x},{y} ")?;
+        }
+    }
+    drawing.push_str("\"/>\n")
+}
+
+/// Draws a name.
+fn draw_label(drawing: &mut String, label: &Label<'_>) -> Result<(), AllocError> {
+    let (name, top, hue) = (label.name, label.top, hue(label.index));
+    write!(
+        drawing,
+        "<text x=\"1080\" y=\"{top}\" fill=\"hsl({hue},60%,50%)\">{name}</text>\n"
+    )
+}

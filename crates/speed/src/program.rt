@@ -1,0 +1,101 @@
+//! The program from its arguments to its exit status.
+ghost use Rattle.std.specs.Prelude.{◌≡◌, ◌≤◌, ◌↔◌, drop, map, string_bytes};
+ghost use Rattle.speed.specs.Command.{AskForNone};
+
+use crate::bench::Bench;
+use crate::command::{Command, parse_args};
+use crate::failure::Failure;
+use crate::output::write_text;
+use crate::plot::draw;
+use crate::sizes::time_sizes;
+use std::alloc::Global;
+use std::io::{Read, Write};
+use std::process::ExitCode;
+use std::time::Clock;
+use std::{env, io};
+
+/// Does what the words after the program's name ask for, and answers the exit status.
+///
+/// It is 0 where all lines or the drawing were written, 1 where a line can't be read, 2 where the
+/// words ask for nothing, and 3 where memory, the clock, the reader or the writer failed. Unless
+/// it is 0, a line on `errors` says why; where `errors` fails, the status is the same.
+pub fn session<C: Clock + Drop, R: Read + Drop, W: Write + Drop, E: Write>(
+    alloc: Global,
+    words: &[String],
+    clock: C,
+    input: R,
+    output: W,
+    errors: &mut E,
+) -> u8
+    ensures usage { (result ≡ 2) ↔ AskForNone (map string_bytes words.now) }
+    ensures statuses { result ≤ 3 }
+{
+    let Some(command) = parse_args(words) else {
+        let _ = writeln!(errors, "usage: speed <greatest n>, or speed plot");
+        return 2;
+    };
+    match run(alloc, command, clock, input, output) {
+        Ok(()) => 0,
+        Err(failure) => {
+            let _ = writeln!(errors, "{failure}");
+            failure.status()
+        }
+    }
+}
+
+/// Does what the command asks for.
+fn run<C: Clock + Drop, R: Read + Drop, W: Write + Drop>(
+    alloc: Global,
+    command: Command,
+    clock: C,
+    input: R,
+    output: W,
+) -> Result<(), Failure> {
+    match command {
+        Command::Time(greatest) => time_sizes(&mut Bench::new(alloc, clock, output), greatest),
+        Command::Plot => plot(alloc, input, output),
+    }
+}
+
+/// Draws the lines of the input.
+fn plot<R: Read + Drop, W: Write + Drop>(
+    alloc: Global,
+    input: R,
+    mut output: W,
+) -> Result<(), Failure> {
+    let Ok(text) = io::read_to_string(alloc, input) else {
+        return Err(Failure::Read);
+    };
+    let drawing = draw(alloc, text.as_str())?;
+    write_text(&mut output, drawing.as_str())
+}
+
+/// What follows the first text, if there is one.
+fn after_first(texts: &[String]) -> &[String]
+    ensures { result.now ≡ drop 1 texts.now }
+{
+    match texts {
+        [_, words @ ..] => words,
+        [] => texts,
+    }
+}
+
+/// The arguments, or `None` where they can't be taken.
+fn taken(rt: &HostRuntime) -> Option<Vec<String>> {
+    let Ok(arguments) = env::args(rt) else {
+        return None;
+    };
+    arguments.collect(rt.alloc()).ok()
+}
+
+/// The program on its host, with its arguments and its three standard streams. Arguments that
+/// can't be taken count as want of memory.
+pub fn on_host(rt: &HostRuntime) -> ExitCode {
+    let mut errors = rt.stderr();
+    let Some(arguments) = taken(rt) else {
+        let _ = writeln!(errors, "{}", Failure::Memory);
+        return ExitCode::from(Failure::Memory.status());
+    };
+    let words = after_first(&arguments);
+    ExitCode::from(session(rt.alloc(), words, rt, rt.stdin(), rt.stdout(), &mut errors))
+}

@@ -1,0 +1,190 @@
+//! Sets of numbers.
+
+use crate::bench::{Bench, Work};
+use crate::codec::{read, written};
+use crate::failure::{Failure, count_built};
+use crate::numbers::rising;
+use commonware_utils::codec::RangeCfg;
+use commonware_utils::ordered::Set;
+use std::alloc::{AllocError, Global};
+use std::hash::{DefaultHasher, Hash, Hasher};
+use std::io::Write;
+use std::time::Clock;
+
+/// The lines of sets that are built of random numbers, of rising ones and of equal ones, and those
+/// of the set of the random ones.
+pub fn time_sets<C: Clock, W: Write>(
+    bench: &mut Bench<C, W>,
+    random: &[u32],
+    rounds: u64,
+) -> Result<(), Failure> {
+    time_builders(bench, random, rounds)?;
+    let set = set_of(bench.alloc(), random)?;
+    time_lookups(bench, &set, random, rounds)?;
+    time_codec(bench, &set, rounds)?;
+    time_clones(bench, &set, rounds)?;
+    time_hashes(bench, &set, rounds)
+}
+
+/// The set of the numbers.
+pub fn set_of(alloc: Global, numbers: &[u32]) -> Result<Set<u32, Global>, AllocError> {
+    Set::from_iter_dedup(alloc, numbers.iter().copied())
+}
+
+/// The lines of the builders.
+fn time_builders<C: Clock, W: Write>(
+    bench: &mut Bench<C, W>,
+    random: &[u32],
+    rounds: u64,
+) -> Result<(), Failure> {
+    let alloc = bench.alloc();
+    let count = random.len();
+    let rising = rising(alloc, count.min(u32::MAX as usize) as u32)?;
+    let same = vec![in alloc; 5u32; count]?;
+    time_dedup(bench, "set_dedup_random", random, rounds)?;
+    time_dedup(bench, "set_dedup_rising", &rising, rounds)?;
+    time_dedup(bench, "set_dedup_same", &same, rounds)?;
+    time_try_vec(bench, "set_try_vec_rising", &rising, rounds)?;
+    time_try_vec(bench, "set_try_vec_random", random, rounds)
+}
+
+/// The line of sets of which equal numbers are left out.
+fn time_dedup<C: Clock, W: Write>(
+    bench: &mut Bench<C, W>,
+    name: &str,
+    numbers: &[u32],
+    rounds: u64,
+) -> Result<(), Failure> {
+    let alloc = bench.alloc();
+    let work = Work {
+        name,
+        entries: numbers.len(),
+        rounds,
+    };
+    bench.line(work, 0, || Ok(set_of(alloc, numbers)?.len() as u64))?;
+    Ok(())
+}
+
+/// The line of sets that are refused for equal numbers, each of a list that is copied.
+fn time_try_vec<C: Clock, W: Write>(
+    bench: &mut Bench<C, W>,
+    name: &str,
+    numbers: &[u32],
+    rounds: u64,
+) -> Result<(), Failure> {
+    let alloc = bench.alloc();
+    let work = Work {
+        name,
+        entries: numbers.len(),
+        rounds,
+    };
+    bench.line(work, 0, || {
+        let copy = Vec::from_slice(alloc, numbers)?;
+        count_built(Set::try_from_vec(copy).map(|set| set.len()))
+    })?;
+    Ok(())
+}
+
+/// The line of each number looked up.
+fn time_lookups<C: Clock, W: Write>(
+    bench: &mut Bench<C, W>,
+    set: &Set<u32, Global>,
+    numbers: &[u32],
+    rounds: u64,
+) -> Result<(), Failure> {
+    let work = Work {
+        name: "set_position",
+        entries: numbers.len(),
+        rounds,
+    };
+    bench.line(work, 0, || Ok(sum_of_places(set, numbers)))?;
+    Ok(())
+}
+
+/// The sum of the places of the numbers modulo 2^64, where one that has none counts 1.
+fn sum_of_places(set: &Set<u32, Global>, numbers: &[u32]) -> u64 {
+    let mut sum = 0u64;
+    for number in numbers {
+        let place = match set.position(number) {
+            Some(place) => place as u64,
+            None => 1,
+        };
+        sum = sum.wrapping_add(place);
+    }
+    sum
+}
+
+/// The lines of the set written and read.
+fn time_codec<C: Clock, W: Write>(
+    bench: &mut Bench<C, W>,
+    set: &Set<u32, Global>,
+    rounds: u64,
+) -> Result<(), Failure> {
+    let alloc = bench.alloc();
+    let entries = set.len();
+    let work = Work {
+        name: "set_write",
+        entries,
+        rounds,
+    };
+    bench.line(work, 0, || Ok(written(alloc, set)?.len() as u64))?;
+    let bytes = written(alloc, set)?;
+    let work = Work {
+        name: "set_read",
+        entries,
+        rounds,
+    };
+    bench.line(work, 0, || count_read(alloc, &bytes))?;
+    Ok(())
+}
+
+/// How many numbers the set at the front of the bytes has, or 1 where they are refused.
+fn count_read(alloc: Global, bytes: &[u8]) -> Result<u64, Failure> {
+    let limits = (RangeCfg::from(..), ());
+    match read::<Set<u32, Global>>(alloc, bytes, &limits)? {
+        Some(set) => Ok(set.len() as u64),
+        None => Ok(1),
+    }
+}
+
+/// The lines of the set cloned, and compared with its clone.
+fn time_clones<C: Clock, W: Write>(
+    bench: &mut Bench<C, W>,
+    set: &Set<u32, Global>,
+    rounds: u64,
+) -> Result<(), Failure> {
+    let entries = set.len();
+    let work = Work {
+        name: "set_clone",
+        entries,
+        rounds,
+    };
+    bench.line(work, 0, || Ok(set.clone()?.len() as u64))?;
+    let other = set.clone()?;
+    let work = Work {
+        name: "set_equal",
+        entries,
+        rounds,
+    };
+    bench.line(work, 0, || Ok(u64::from(*set == other)))?;
+    Ok(())
+}
+
+/// The line of the set hashed.
+fn time_hashes<C: Clock, W: Write>(
+    bench: &mut Bench<C, W>,
+    set: &Set<u32, Global>,
+    rounds: u64,
+) -> Result<(), Failure> {
+    let work = Work {
+        name: "set_hash",
+        entries: set.len(),
+        rounds,
+    };
+    bench.line(work, 0, || {
+        let mut hasher = DefaultHasher::new();
+        set.hash(&mut hasher);
+        Ok(hasher.finish())
+    })?;
+    Ok(())
+}

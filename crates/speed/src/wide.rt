@@ -1,0 +1,90 @@
+//! Sets of items of 32 bytes.
+ghost use Rattle.std.specs.Prelude.{◌≡◌, ◌++◌, replicate};
+ghost use Rattle.commonware_utils.specs.Codec.{word_bytes};
+
+use crate::bench::{Bench, Work};
+use crate::codec::{read, written};
+use crate::failure::Failure;
+use committee_core::Member;
+use commonware_utils::codec::RangeCfg;
+use commonware_utils::ordered::Set;
+use std::alloc::{AllocError, Global};
+use std::io::Write;
+use std::time::Clock;
+
+/// The lines of sets of items that begin with the numbers: built, read, and looked up.
+pub fn time_wide<C: Clock, W: Write>(
+    bench: &mut Bench<C, W>,
+    numbers: &[u32],
+    rounds: u64,
+) -> Result<(), Failure> {
+    let alloc = bench.alloc();
+    let items: Vec<Member> = numbers.iter().map(|number| wide(*number)).collect(alloc)?;
+    let work = Work {
+        name: "wide_dedup",
+        entries: numbers.len(),
+        rounds,
+    };
+    bench.line(work, 0, || Ok(set_of(alloc, &items)?.len() as u64))?;
+    let set = set_of(alloc, &items)?;
+    time_read(bench, &set, rounds)?;
+    let work = Work {
+        name: "wide_position",
+        ..work
+    };
+    bench.line(work, 0, || Ok(sum_of_places(&set, &items)))?;
+    Ok(())
+}
+
+/// The item whose first four bytes are the number, the most significant first, and the rest zeros.
+fn wide(number: u32) -> Member
+    ensures { result ≡ word_bytes number ++ replicate 28 0 }
+{
+    let mut bytes = [0u8; 32];
+    bytes[..4].copy_from_slice(&number.to_be_bytes());
+    Member::new(bytes)
+}
+
+/// The set of the items.
+fn set_of(alloc: Global, items: &[Member]) -> Result<Set<Member, Global>, AllocError> {
+    Set::from_iter_dedup(alloc, items.iter().copied())
+}
+
+/// The line of the set read.
+fn time_read<C: Clock, W: Write>(
+    bench: &mut Bench<C, W>,
+    set: &Set<Member, Global>,
+    rounds: u64,
+) -> Result<(), Failure> {
+    let alloc = bench.alloc();
+    let bytes = written(alloc, set)?;
+    let work = Work {
+        name: "wide_read",
+        entries: set.len(),
+        rounds,
+    };
+    bench.line(work, 0, || count_read(alloc, &bytes))?;
+    Ok(())
+}
+
+/// How many items the set at the front of the bytes has, or 1 where they are refused.
+fn count_read(alloc: Global, bytes: &[u8]) -> Result<u64, Failure> {
+    let limits = (RangeCfg::from(..), ());
+    match read::<Set<Member, Global>>(alloc, bytes, &limits)? {
+        Some(set) => Ok(set.len() as u64),
+        None => Ok(1),
+    }
+}
+
+/// The sum of the places of the items modulo 2^64, where one that has none counts 1.
+fn sum_of_places(set: &Set<Member, Global>, items: &[Member]) -> u64 {
+    let mut sum = 0u64;
+    for item in items {
+        let place = match set.position(item) {
+            Some(place) => place as u64,
+            None => 1,
+        };
+        sum = sum.wrapping_add(place);
+    }
+    sum
+}
