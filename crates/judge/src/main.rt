@@ -1,4 +1,5 @@
-//! Answers, for each line of standard input, what a text is as a value of a type that has a byte form.
+//! Answers, for each line of standard input, what a text is as a value of a type that has a byte
+//! form.
 #![tactic(auto)]
 
 use std::process::ExitCode;

@@ -1,5 +1,7 @@
 //! The program from its arguments to its exit status.
-ghost use Rattle.std.specs.Prelude.{◌≡◌, ◌≤◌, ◌↔◌, drop, map, string_bytes};
+ghost use Rattle.std.specs.Prelude.{◌≡◌, ◌≢◌, ◌≤◌, ◌↔◌, drop, map, string_bytes};
+ghost use Rattle.std.specs.IoError.{error_kind};
+ghost use Rattle.std_io.specs.declared.io.kind.ErrorKind.TheVariants.{OutOfMemory};
 ghost use Rattle.speed.specs.Command.{AskForNone};
 
 use crate::bench::Bench;
@@ -9,7 +11,7 @@ use crate::output::write_text;
 use crate::plot::draw;
 use crate::sizes::time_sizes;
 use std::alloc::Global;
-use std::io::{Read, Write};
+use std::io::{ErrorKind, Read, Write};
 use std::process::ExitCode;
 use std::time::Clock;
 use std::{env, io};
@@ -63,11 +65,23 @@ fn plot<R: Read + Drop, W: Write + Drop>(
     input: R,
     mut output: W,
 ) -> Result<(), Failure> {
-    let Ok(text) = io::read_to_string(alloc, input) else {
-        return Err(Failure::Read);
+    let text = match io::read_to_string(alloc, input) {
+        Ok(text) => text,
+        Err(error) => return Err(failed_read(&error)),
     };
     let drawing = draw(alloc, text.as_str())?;
     write_text(&mut output, drawing.as_str())
+}
+
+/// Why a run has stopped that couldn't read its input: for want of memory, or as the input failed.
+pub fn failed_read(error: &io::Error) -> Failure
+    ensures memory { error_kind error.now ≡ OutOfMemory → result ≡ Failure.Memory }
+    ensures read { error_kind error.now ≢ OutOfMemory → result ≡ Failure.Read }
+{
+    match error.kind() {
+        ErrorKind::OutOfMemory => Failure::Memory,
+        _ => Failure::Read,
+    }
 }
 
 /// What follows the first text, if there is one.

@@ -3,14 +3,16 @@
 use crate::axis::Axis;
 use crate::bench::Bench;
 use crate::bimaps::time_bimaps;
+use crate::failure::Failure;
 use crate::logarithm::logarithm;
 use crate::numbers::random;
-use crate::program::session;
+use crate::program::{failed_read, session};
 use crate::sample::{Sample, parse_line};
 use crate::sizes::time_size;
 use std::alloc::Global;
 use std::cell::Cell;
 use std::io;
+use std::io::ErrorKind;
 use std::num::NonZeroU64;
 use std::test::Fail;
 use std::time::{Clock, Duration};
@@ -232,5 +234,17 @@ fn an_output_without_room_ends_a_run(rt: HostRuntime) -> Result<(), Fail> {
         &mut errors,
     );
     assert!(rt; status == 3 && errors.as_slice() == b"failed: write\n".as_slice());
+    Ok(())
+}
+
+#[test]
+fn reads_that_fail(rt: HostRuntime) -> Result<(), Fail> {
+    for (kind, failure) in [
+        (ErrorKind::OutOfMemory, Failure::Memory),
+        (ErrorKind::InvalidData, Failure::Read),
+        (ErrorKind::Other, Failure::Read),
+    ] {
+        assert!(rt; failed_read(&io::Error::from(kind)) == failure);
+    }
     Ok(())
 }
