@@ -6,15 +6,17 @@ use Rattle.std.specs.Cmp.{and_equiv, nat_eq_equiv, on_equiv, partial_equiv_from_
 use Rattle.std.specs.Cmp.Lexicographic.{lists_equiv, pointwise}
 use Rattle.std.specs.Ordering.{nat_cmp}
 use Rattle.std.proofs.lemmas.Cmp.{nat_cmp_total}
-use Rattle.commonware_base.specs.Bytes.{byte, byte_canonical, byte_fault, byte_laws, byte_prefix_free}
+use Rattle.commonware_base.specs.Bytes.{byte, byte_fault}
+use Rattle.commonware_base.specs.ByteLaws.{byte_canonical, byte_laws, byte_prefix_free}
 use Rattle.commonware_base.specs.Fault.{Fault}
 use Rattle.commonware_base.specs.ListLaws.{list_bytes, list_canonical, list_laws, list_prefix_free}
 use Rattle.commonware_base.specs.Lists.{list_enc, IsWritableList}
-use Rattle.commonware_base.specs.MadeVec.{vec_of}
-use Rattle.commonware_base.specs.Numbers.{number_canonical, number_prefix_free, varint_laws}
+use Rattle.commonware_base.specs.VecLaws.{vec_of}
+use Rattle.commonware_base.specs.NumberLaws.{number_canonical, number_prefix_free, varint_laws}
 use Rattle.commonware_base.specs.Range.{Bounds}
-use Rattle.commonware_base.specs.Sequence.{sequence_bytes, sequence_canonical, sequence_cut}
-use Rattle.commonware_base.specs.Sequence.{sequence_laws, sequence_one_cut, sequence_prefix_free}
+use Rattle.commonware_base.specs.Sequence.{sequence_cut}
+use Rattle.commonware_base.specs.SequenceLaws.{sequence_bytes, sequence_canonical}
+use Rattle.commonware_base.specs.SequenceLaws.{sequence_laws, sequence_one_cut, sequence_prefix_free}
 use Rattle.commonware_base.specs.Text.{AreBytes, CanonicalLaws, IsByte, IsPrefixFree, ReadLaws}
 use Rattle.commonware_base.specs.Varint.{varint, varint_fault}
 use Rattle.commonware_base.specs.VarintLaws.{varint_bytes}

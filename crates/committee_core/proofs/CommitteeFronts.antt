@@ -7,10 +7,11 @@ use Rattle.commonware_base.specs.Fronts.{IsFront, IsSettledBy}
 use Rattle.commonware_base.specs.ListLaws.{list_wants_memory}
 use Rattle.commonware_base.specs.Lists.{IsListMemoryFree}
 use Rattle.commonware_base.specs.Range.{Bounds}
-use Rattle.commonware_base.specs.Refusal.{Refuses, refuses_from}
+use Rattle.commonware_base.specs.Refusal.{Refuses}
+use Rattle.commonware_base.specs.RefusalLaws.{refuses_from}
 use Rattle.commonware_base.specs.Varint.{varint}
 use Rattle.commonware_base.specs.declared.codec.error.Error.{Error}
-use Rattle.commonware_ordered.specs.SetFronts.{set_fault_settled}
+use Rattle.commonware_ordered.specs.SetFrontLaws.{set_fault_settled}
 use Rattle.commonware_ordered.specs.Sets.{SetFault}
 use Rattle.committee_core.specs.MemberLaws.{member_length}
 use Rattle.committee_core.specs.Members.{IsMember, member_bytes, member_cmp, member_fault}

@@ -6,7 +6,8 @@ use Rattle.std.specs.declared.vec.IntoIter.{IntoIter}
 
 -- the arguments are these texts, of which the first is the program's name: the words follow it
 abbrev pub AreWords : {A : Type 0} → IntoIter (String A) A → List (List ℕ) → Type 0
-AreWords {A} arguments words = (texts : List (String A)) × Drains into_iter_steps arguments texts × (words ≡ map string_bytes (drop 1 texts))
+AreWords {A} arguments words =
+    (texts : List (String A)) × Drains into_iter_steps arguments texts × (words ≡ map string_bytes (drop 1 texts))
 
 -- the arguments were taken, and P holds of the words
 abbrev pub HasWords : {A E : Type 0} → Result (IntoIter (String A) A) E → (List (List ℕ) → Type 0) → Type 0

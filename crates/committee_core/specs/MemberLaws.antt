@@ -6,7 +6,7 @@ use Rattle.std.proofs.lemmas.Bool.{cases_lt}
 use Rattle.std.proofs.lemmas.Cmp.{nat_list_eq_equiv}
 use Rattle.std.proofs.lemmas.List.{length-append, length-take-le, take-append-drop}
 use Rattle.std.proofs.Math.Seq.{take-append_seam}
-use Rattle.commonware_base.specs.Clones.{equal_from_same}
+use Rattle.commonware_base.specs.CloneLaws.{equal_from_same}
 use Rattle.commonware_base.specs.Fault.{EndOfBuffer}
 use Rattle.commonware_base.specs.Text.{AreBytes, AcceptedOrFaulty, IsPrefixFree, ReadLaws, CanonicalLaws}
 use Rattle.committee_core.specs.Members.{IsMember, member_bytes, member_fault}
@@ -14,7 +14,8 @@ use Rattle.committee_core.specs.Members.{IsMember, member_bytes, member_fault}
 -- two members that begin one text are the same
 pub member_prefix_free : IsPrefixFree member_bytes IsMember
 member_prefix_free a b x y p q e =
-    sym (take-append_seam a x) ∙ ap (take (length a)) e ∙ ap (λ n. take n (b ++ y)) (p.count ∙ sym q.count) ∙ take-append_seam b y
+    sym (take-append_seam a x) ∙ ap (take (length a)) e ∙ ap (λ n. take n (b ++ y)) (p.count ∙ sym q.count)
+    ∙ take-append_seam b y
 
 -- the beginning of a text is a text
 pub bytes_left : (n : ℕ) (s : List ℕ) → AreBytes s → AreBytes (take n s)
@@ -23,7 +24,8 @@ bytes_left (suc n) [] h = tt
 bytes_left (suc n) (b ∷ s) h = (h.0, bytes_left n s h.1)
 
 -- 32 bytes are left, or fewer
-member_accepted_or_faulty : (s : List ℕ) → AreBytes s → AcceptedOrFaulty member_bytes IsMember (λ _. Unit {0}) (member_fault s) s
+member_accepted_or_faulty : (s : List ℕ) → AreBytes s
+    → AcceptedOrFaulty member_bytes IsMember (λ _. Unit {0}) (member_fault s) s
 member_accepted_or_faulty s h = elim (cases_lt (length s) 32) [
   | inl short ↦ inr (EndOfBuffer, (short, refl))
   | inr enough ↦ inl (

@@ -3,7 +3,6 @@ use Rattle.std.specs.Prelude.{ℕ}
 use Rattle.commonware_faults.specs.Subsets.{Greatest3, Greatest5, LeastM}
 
 -- the numbers of n members: the greatest f of each model, and the least m of the second
--- each is fixed by n: `Greatest3-unique`, `Greatest5-unique` and `LeastM-unique` say that there is one
 pub record AreNumbers (n f3 f5 m : ℕ) : Type 0 where
   pub n3f1 : Greatest3 n f3
   pub n5f1 : Greatest5 n f5

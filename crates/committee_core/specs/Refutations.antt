@@ -10,7 +10,8 @@ subset_of n range = places n range.start range.end
 
 -- two ranges of n positions, and the count of the places in both
 abbrev pub counted : ℕ → Range ℕ → Range ℕ → Refutation
-counted n first second = record { first = first; second = second; shared = shared (subset_of n first) (subset_of n second) }
+counted n first second =
+    record { first = first; second = second; shared = shared (subset_of n first) (subset_of n second) }
 
 -- the first a and the last b of n positions, and the count of the places in both
 abbrev pub ends : ℕ → ℕ → ℕ → Refutation

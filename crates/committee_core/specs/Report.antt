@@ -28,7 +28,8 @@ n3f1_line faults quorum = codes "N3f1 faults " ++ (decimal faults ++ (codes " qu
 -- the line of the second model, with its smaller quorum m
 unfoldable pub n5f1_line : ℕ → ℕ → ℕ → List ℕ
 n5f1_line faults quorum m =
-    codes "N5f1 faults " ++ (decimal faults ++ (codes " quorum " ++ (decimal quorum ++ (codes " m-quorum " ++ (decimal m ++ line_end)))))
+    codes "N5f1 faults "
+    ++ (decimal faults ++ (codes " quorum " ++ (decimal quorum ++ (codes " m-quorum " ++ (decimal m ++ line_end)))))
 
 -- the report on the members, with the numbers of the fault models
 abbrev pub report_with : List (List ℕ) → ℕ → ℕ → ℕ → List ℕ
@@ -38,4 +39,5 @@ report_with items f3 f5 m =
 
 -- the text is the report on the members: the one with their numbers, so there is one such text
 abbrev pub IsMembersReport : List (List ℕ) → List ℕ → Type 0
-IsMembersReport items text = (f3 : ℕ) × (f5 : ℕ) × (m : ℕ) × AreNumbers (length items) f3 f5 m × (text ≡ report_with items f3 f5 m)
+IsMembersReport items text =
+    (f3 : ℕ) × (f5 : ℕ) × (m : ℕ) × AreNumbers (length items) f3 f5 m × (text ≡ report_with items f3 f5 m)

@@ -10,7 +10,8 @@ use Rattle.commonware_base.specs.Refusal.{Refuses}
 use Rattle.commonware_base.specs.Text.{Accepts}
 use Rattle.commonware_base.specs.declared.codec.error.Error.{Error}
 use Rattle.commonware_base.specs.declared.codec.error.Error.TheVariants as faults
-use Rattle.commonware_base.specs.declared.codec.error.Error.TheVariants.{EndOfBuffer, InvalidVarint, InvalidLength, Invalid}
+use Rattle.commonware_base.specs.declared.codec.error.Error.TheVariants.{EndOfBuffer, InvalidVarint, InvalidLength}
+use Rattle.commonware_base.specs.declared.codec.error.Error.TheVariants.{Invalid}
 use Rattle.commonware_ordered.specs.Sets.{IsWritableSet, SetFault}
 use Rattle.committee_core.specs.BoundsReport.{IsBoundsReport}
 use Rattle.committee_core.specs.Command.{IsAskedFor}
@@ -61,7 +62,8 @@ IsFirstFault s error = Refuses (committee_fault s) (Unit {0}) error
 
 -- s is a committee, and then count more bytes, of which there are some
 abbrev pub IsLeftOver : List ℕ → ℕ → Type 0
-IsLeftOver s count = (members : List (List ℕ)) × (rest : List ℕ) × IsCommittee s members rest × (length rest ≡ count) × (0 < count)
+IsLeftOver s count =
+    (members : List (List ℕ)) × (rest : List ℕ) × IsCommittee s members rest × (length rest ≡ count) × (0 < count)
 
 -- why no report was written, where the reader gave bytes of which Given holds: what the error says of them
 abbrev pub IsRefusal : (List ℕ → Type 0) → RunError → Type 0
@@ -73,7 +75,8 @@ IsRefusal Given WriteFailed = Unit {0}
 
 -- the bytes were refused: they have a first fault, or they go on after a committee
 abbrev pub IsRefused : (List ℕ → Type 0) → Type 0
-IsRefused Given = (s : List ℕ) × Given s × (((error : Error) × IsFirstFault s error) ⊎ ((count : ℕ) × IsLeftOver s count))
+IsRefused Given =
+    (s : List ℕ) × Given s × (((error : Error) × IsFirstFault s error) ⊎ ((count : ℕ) × IsLeftOver s count))
 
 -- what a reader's refusal is for a run
 abbrev pub refusal_of : Error → RunError
@@ -85,12 +88,15 @@ refusal_of faults.Memory = Memory
 
 -- the text is the report that the command asks for, where the reader gave bytes of which Given holds
 abbrev pub IsReport : (List ℕ → Type 0) → Command → List ℕ → Type 0
-IsReport Given commands.Read text = (s : List ℕ) × Given s × (members : List (List ℕ)) × IsCommittee s members [] × IsMembersReport members text
+IsReport Given commands.Read text =
+    (s : List ℕ) × Given s × (members : List (List ℕ)) × IsCommittee s members [] × IsMembersReport members text
 IsReport Given (commands.Bounds n) text = IsBoundsReport (non_zero_u32_get n) text
 
--- the report that the words ask for was written, where the reader gave bytes of which Given holds, and Written of the text
+-- the report that the words ask for was written, where the reader gave bytes of which Given holds, and Written of the
+-- text
 abbrev pub IsDone : List (List ℕ) → (List ℕ → Type 0) → (List ℕ → Type 0) → Type 0
-IsDone words Given Written = (command : Command) × IsAskedFor words command × ((text : List ℕ) × Written text × IsReport Given command text)
+IsDone words Given Written =
+    (command : Command) × IsAskedFor words command × ((text : List ℕ) × Written text × IsReport Given command text)
 
 -- the exit status where no report was written: 1 where the bytes are refused, 3 where memory or a device failed
 abbrev pub status_of : RunError → ℕ

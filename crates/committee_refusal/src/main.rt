@@ -1,4 +1,5 @@
-//! The program `committee`, whose stored run is one on bytes that are no committee: status 1, and nothing is written.
+//! The program `committee`, whose stored run is one on bytes that are no committee: status 1, and
+//! nothing is written.
 #![tactic(auto)]
 
 use std::process::ExitCode;

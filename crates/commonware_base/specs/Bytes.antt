@@ -1,9 +1,6 @@
 -- A byte, which stands for itself.
-use Rattle.std.specs.Prelude.{◌≡◌, ℕ, ◌≤◌, length, List, [], ◌∷◌, ◌++◌, refl, ◌==◌}
-use Rattle.std.proofs.Common.{arith, inl, inr, ap, sym, subst, ◌∙◌}
-use Rattle.std.proofs.lemmas.Bool.{eqb-true, eq-eqb}
+use Rattle.std.specs.Prelude.{◌≡◌, ℕ, List, [], ◌∷◌}
 use Rattle.commonware_base.specs.Fault.{Fault, EndOfBuffer}
-use Rattle.commonware_base.specs.Text.{AreBytes, AcceptedOrFaulty, IsByte, IsPrefixFree, ReadLaws, CanonicalLaws}
 
 -- a byte is its own text
 abbrev pub byte : ℕ → List ℕ
@@ -12,32 +9,3 @@ byte b = b ∷ []
 -- what is wrong with a text that should begin with a byte
 abbrev pub byte_fault : List ℕ → Fault → Type 0
 byte_fault s f = (s ≡ []) × (f ≡ EndOfBuffer)
-
--- two bytes that begin one text are the same
-pub byte_prefix_free : IsPrefixFree byte IsByte
-byte_prefix_free a b x y p q e = cc
-
--- a text begins with a byte, or ends
-byte_or_end : (s : List ℕ) → AreBytes s → AcceptedOrFaulty byte IsByte (λ _. Unit {0}) (byte_fault s) s
-byte_or_end [] h = inr (EndOfBuffer, (refl, refl))
-byte_or_end (b ∷ s) h = inl (b, s, record { writable = h.0; allowed = tt; begins = refl })
-
--- what is promised of the texts of bytes
-pub byte_laws : ReadLaws byte IsByte (λ _. Unit {0}) byte_fault
-byte_laws = record {
-  allowed_by_bytes = λ a b _ _ _ h. h;
-  one_fault = λ s f g v w. v.1 ∙ sym w.1;
-  accepted_no_fault = λ s v r f a w. let e : s ≡ byte v ++ r = a.begins in let n : s ≡ [] = w.0 in cc;
-  accepted_or_faulty = byte_or_end;
-}
-
--- bytes are equal exactly where their texts are
-pub byte_canonical : CanonicalLaws byte IsByte (λ a b. a == b)
-byte_canonical = record {
-  equal_by_bytes = λ a b _ _. ((λ e. ap byte (eqb-true a b e)), (λ e. eq-eqb a b cc));
-  writable_together = λ a b e p. subst IsByte (eqb-true a b e) p;
-}
-
--- a byte has one byte
-pub byte_length : (b : ℕ) → length (byte b) ≤ 1
-byte_length b = omega arith

@@ -1,26 +1,34 @@
 -- What the front of a text settles: the first fault of a list, and whether reading it takes memory.
-use Rattle.std.proofs.Common.{◌≡◌, ℕ, suc, ◌+◌, ◌*◌, ◌^◌, ◌<◌, ◌≤◌, List, [], ◌∷◌, ◌++◌, length, refl, ap, sym, ◌∙◌, arith, inl, inr, subst}
+use Rattle.std.proofs.Common.{◌≡◌, ℕ, suc, ◌+◌, ◌*◌, ◌^◌, ◌<◌, ◌≤◌, List, [], ◌∷◌, ◌++◌, length, refl, ap, sym, ◌∙◌}
+use Rattle.std.proofs.Common.{arith, inl, inr, subst}
 use Rattle.std.proofs.Common.{append_assoc, append-nil, length-append}
 use Rattle.std.proofs.lemmas.Nat.{mul-le}
 use Rattle.std.specs.List.{AllByRecursion, flat_map}
 use Rattle.std.specs.Prelude.{◌↔◌}
 use Rattle.commonware_base.specs.Fault.{Fault, EndOfBuffer, InvalidVarint, InvalidLength, Invalid}
 use Rattle.commonware_base.specs.Fronts.{IsSettledBy, IsFront}
-use Rattle.commonware_base.specs.Lists.{BeginsOutOfRange, BeginsWithFaultyItem, ListFault, bad_spelling, bad_length, bad_item}
+use Rattle.commonware_base.specs.Lists.{BeginsOutOfRange, BeginsWithFaultyItem, ListFault, bad_spelling, bad_length}
+use Rattle.commonware_base.specs.Lists.{bad_item}
 use Rattle.commonware_base.specs.Lists.{IsListMemoryFree, spelling, outside, empty, first}
 use Rattle.commonware_base.specs.Range.{Bounds, Within}
 use Rattle.commonware_base.specs.Varint.{IsMisspelled, varint, varint_fault}
 use Rattle.commonware_base.specs.VarintLaws.{varint-length}
 
 -- what is settled holds of the whole exactly where it holds of the front
-pub settled_front : (bound : ℕ) (P : List ℕ → Type 0) (s front : List ℕ) → IsSettledBy bound P → IsFront bound s front → P front ↔ P s
+pub settled_front : (bound : ℕ) (P : List ℕ → Type 0) (s front : List ℕ) → IsSettledBy bound P → IsFront bound s front
+    → P front ↔ P s
 settled_front bound P s front settled f = elim f.enough [
-  | inl none ↦ (let same : s ≡ front = f.whole ∙ ap (λ r. front ++ r) none ∙ append-nil front in (subst P (sym same), subst P same))
-  | inr long ↦ (let both = settled front f.rest long in ((λ p. subst P (sym f.whole) (both.0 p)), (λ p. both.1 (subst P f.whole p))))
+  | inl none ↦
+      (let same : s ≡ front = f.whole ∙ ap (λ r. front ++ r) none ∙ append-nil front in
+      (subst P (sym same), subst P same))
+  | inr long ↦
+      (let both = settled front f.rest long in
+      ((λ p. subst P (sym f.whole) (both.0 p)), (λ p. both.1 (subst P f.whole p))))
 ]
 
 -- a text that begins with x, of which the front is as long as x or longer: the front begins with x
-pub cut : (x s more r : List ℕ) → s ++ more ≡ x ++ r → length x ≤ length s → (c : List ℕ) × (s ≡ x ++ c) × (r ≡ c ++ more)
+pub cut : (x s more r : List ℕ) → s ++ more ≡ x ++ r → length x ≤ length s
+    → (c : List ℕ) × (s ≡ x ++ c) × (r ≡ c ++ more)
 cut [] s more r e h = (s, refl, sym e)
 cut (b ∷ x) [] more r e h = absurd (omega arith)
 cut (b ∷ x) (a ∷ s) more r e h =
@@ -70,7 +78,8 @@ varint_fault_settled InvalidVarint s more h = (on, back)
 varint_fault_settled (InvalidLength n) s more h = ((λ w. w), (λ w. w))
 varint_fault_settled (Invalid what why) s more h = ((λ w. w), (λ w. w))
 
--- Items take at most size bytes each, and the range allows at most so many: then as many bytes as that comes to settle the
+-- Items take at most size bytes each, and the range allows at most so many: then as many bytes as that comes to settle
+-- the
 -- rest, with five for the length.
 module _ {T : Type 0} (enc : T → List ℕ) (Writable Allowed : T → Type 0) (item_fault : List ℕ → Fault → Type 0)
     (ItemMemoryFree : List ℕ → Type 0) (range : Bounds ℕ) (size most : ℕ)
@@ -82,31 +91,43 @@ module _ {T : Type 0} (enc : T → List ℕ) (Writable Allowed : T → Type 0) (
   items_short (x ∷ xs) p = omega (arith, item_short x p.0, items_short xs p.1, length-append (enc x) (flat_map enc xs))
 
   -- where fewer items than the length says stand before it, what follows has room for one more
-  room_left : (s x y r : List ℕ) (n : ℕ) → 5 + most * size ≤ length s → s ≡ x ++ (y ++ r) → length x ≤ 5 → length y ≤ n * size → n < most → size ≤ length r
+  room_left : (s x y r : List ℕ) (n : ℕ) → 5 + most * size ≤ length s → s ≡ x ++ (y ++ r) → length x ≤ 5
+      → length y ≤ n * size → n < most → size ≤ length r
   room_left s x y r n h e p q l =
       let one : suc n * size ≤ most * size = mul-le (suc n) size most size (omega arith) (omega arith) in
       omega (arith, ap length e, length-append x (y ++ r), length-append y r)
 
   module _ (s more : List ℕ) (h : 5 + most * size ≤ length s) where
     -- a text that begins with a number
-    after_number : (n : ℕ) (r : List ℕ) → n < 2 ^ 32 → s ++ more ≡ varint n ++ r → (c : List ℕ) × (s ≡ varint n ++ c) × (r ≡ c ++ more)
+    after_number : (n : ℕ) (r : List ℕ) → n < 2 ^ 32 → s ++ more ≡ varint n ++ r
+        → (c : List ℕ) × (s ≡ varint n ++ c) × (r ≡ c ++ more)
     after_number n r small e = cut (varint n) s more r e (omega (arith, varint-length n small))
 
     -- a length out of the range
     out_on : (n : ℕ) → BeginsOutOfRange range s n → BeginsOutOfRange range (s ++ more) n
-    out_on n w = record { rest = w.rest ++ more; short = w.short; begins = grow (varint n) s more w.rest w.begins; outside = w.outside }
+    out_on n w =
+        record {
+          rest = w.rest ++ more;
+          short = w.short;
+          begins = grow (varint n) s more w.rest w.begins;
+          outside = w.outside;
+        }
 
     out_back : (n : ℕ) → BeginsOutOfRange range (s ++ more) n → BeginsOutOfRange range s n
-    out_back n w = let c = after_number n w.rest w.short w.begins in record { rest = c.0; short = w.short; begins = c.1; outside = w.outside }
+    out_back n w = let c = after_number n w.rest w.short w.begins in
+        record { rest = c.0; short = w.short; begins = c.1; outside = w.outside }
 
     -- the fault of an item
     module _ (item_settled : (f : Fault) → IsSettledBy size (λ s. item_fault s f)) where
-      item_on : (f : Fault) → BeginsWithFaultyItem enc Writable Allowed item_fault range s f → BeginsWithFaultyItem enc Writable Allowed item_fault range (s ++ more) f
+      item_on : (f : Fault) → BeginsWithFaultyItem enc Writable Allowed item_fault range s f
+          → BeginsWithFaultyItem enc Writable Allowed item_fault range (s ++ more) f
       item_on f w =
           let items = flat_map enc w.items in
           let less : length w.items < most = omega (arith, w.fewer, few w.count w.in_range) in
           let number = varint-length w.count w.short in
-          let room = room_left s (varint w.count) items w.rest (length w.items) h w.begins number (items_short w.items w.writable) less in
+          let room =
+          room_left s (varint w.count) items w.rest (length w.items) h w.begins number
+          (items_short w.items w.writable) less in
           let longer = grow (varint w.count) s more (items ++ w.rest) w.begins in
           record {
             count = w.count;
@@ -121,13 +142,15 @@ module _ {T : Type 0} (enc : T → List ℕ) (Writable Allowed : T → Type 0) (
             faulty = (item_settled f w.rest more room).0 w.faulty;
           }
 
-      item_back : (f : Fault) → BeginsWithFaultyItem enc Writable Allowed item_fault range (s ++ more) f → BeginsWithFaultyItem enc Writable Allowed item_fault range s f
+      item_back : (f : Fault) → BeginsWithFaultyItem enc Writable Allowed item_fault range (s ++ more) f
+          → BeginsWithFaultyItem enc Writable Allowed item_fault range s f
       item_back f w =
           let items = flat_map enc w.items in
           let less : length w.items < most = omega (arith, w.fewer, few w.count w.in_range) in
           let c = after_number w.count (items ++ w.rest) w.short w.begins in
           let known = items_short w.items w.writable in
-          let upto : length w.items * size ≤ most * size = mul-le (length w.items) size most size (omega arith) (omega arith) in
+          let upto : length w.items * size ≤ most * size =
+          mul-le (length w.items) size most size (omega arith) (omega arith) in
           let number = varint-length w.count w.short in
           let long : length items ≤ length c.0 = omega (arith, ap length c.1, length-append (varint w.count) c.0) in
           let d = cut items c.0 more w.rest (sym c.2) long in
@@ -146,12 +169,14 @@ module _ {T : Type 0} (enc : T → List ℕ) (Writable Allowed : T → Type 0) (
             faulty = (item_settled f d.0 more room).1 (subst (λ t. item_fault t f) d.2 w.faulty);
           }
 
-      list_on : (f : Fault) → ListFault enc Writable Allowed item_fault range s f → ListFault enc Writable Allowed item_fault range (s ++ more) f
+      list_on : (f : Fault) → ListFault enc Writable Allowed item_fault range s f
+          → ListFault enc Writable Allowed item_fault range (s ++ more) f
       list_on f (bad_spelling w) = bad_spelling ((varint_fault_settled f s more (omega arith)).0 w)
       list_on f (bad_length n same w) = bad_length n same (out_on n w)
       list_on f (bad_item w) = bad_item (item_on f w)
 
-      list_back : (f : Fault) → ListFault enc Writable Allowed item_fault range (s ++ more) f → ListFault enc Writable Allowed item_fault range s f
+      list_back : (f : Fault) → ListFault enc Writable Allowed item_fault range (s ++ more) f
+          → ListFault enc Writable Allowed item_fault range s f
       list_back f (bad_spelling w) = bad_spelling ((varint_fault_settled f s more (omega arith)).1 w)
       list_back f (bad_length n same w) = bad_length n same (out_back n w)
       list_back f (bad_item w) = bad_item (item_back f w)
@@ -163,7 +188,8 @@ module _ {T : Type 0} (enc : T → List ℕ) (Writable Allowed : T → Type 0) (
             let one : 1 * size ≤ most * size = mul-le 1 size most size some (omega arith) in
             omega (arith, ap length e, length-append (varint n) c, varint-length n small)
 
-        free_on : IsListMemoryFree item_fault ItemMemoryFree range s → IsListMemoryFree item_fault ItemMemoryFree range (s ++ more)
+        free_on : IsListMemoryFree item_fault ItemMemoryFree range s
+            → IsListMemoryFree item_fault ItemMemoryFree range (s ++ more)
         free_on (spelling f w) = spelling f ((varint_fault_settled f s more (omega arith)).0 w)
         free_on (outside n w) = outside n (out_on n w)
         free_on (empty r w) = empty (r ++ more) (grow (varint 0) s more r w)
@@ -172,7 +198,8 @@ module _ {T : Type 0} (enc : T → List ℕ) (Writable Allowed : T → Type 0) (
             let faulty = (item_settled f r more room).0 fault in
             first n (r ++ more) f small (grow (varint n) s more r w) ((free_settled r more room).0 free) faulty
 
-        free_back : IsListMemoryFree item_fault ItemMemoryFree range (s ++ more) → IsListMemoryFree item_fault ItemMemoryFree range s
+        free_back : IsListMemoryFree item_fault ItemMemoryFree range (s ++ more)
+            → IsListMemoryFree item_fault ItemMemoryFree range s
         free_back (spelling f w) = spelling f ((varint_fault_settled f s more (omega arith)).1 w)
         free_back (outside n w) = outside n (out_back n w)
         free_back (empty r w) = let c = after_number 0 r (omega arith) w in empty c.0 c.1
@@ -184,9 +211,12 @@ module _ {T : Type 0} (enc : T → List ℕ) (Writable Allowed : T → Type 0) (
 
   module _ (item_settled : (f : Fault) → IsSettledBy size (λ s. item_fault s f)) where
     -- the fault of a list
-    pub list_fault_settled : (f : Fault) → IsSettledBy (5 + most * size) (λ s. ListFault enc Writable Allowed item_fault range s f)
+    pub list_fault_settled :
+        (f : Fault) → IsSettledBy (5 + most * size) (λ s. ListFault enc Writable Allowed item_fault range s f)
     list_fault_settled f s more h = (list_on s more h item_settled f, list_back s more h item_settled f)
 
     -- whether a list is read or refused with no memory
-    pub list_memory_free_settled : 1 ≤ most → IsSettledBy size ItemMemoryFree → IsSettledBy (5 + most * size) (IsListMemoryFree item_fault ItemMemoryFree range)
-    list_memory_free_settled some free s more h = (free_on s more h item_settled some free, free_back s more h item_settled some free)
+    pub list_memory_free_settled : 1 ≤ most → IsSettledBy size ItemMemoryFree
+        → IsSettledBy (5 + most * size) (IsListMemoryFree item_fault ItemMemoryFree range)
+    list_memory_free_settled some free s more h =
+        (free_on s more h item_settled some free, free_back s more h item_settled some free)

@@ -21,5 +21,6 @@ below_or_not Unbounded n = inl tt
 pub within_or_not : (r : Bounds ℕ) (n : ℕ) → Within r n ⊎ (¬ Within r n)
 within_or_not r n = elim (above_or_not r.lower n) [
   | inr p ↦ inr (λ w. p w.above)
-  | inl p ↦ elim (below_or_not r.upper n) [ inr q ↦ inr (λ w. q w.below) | inl q ↦ inl (record { above = p; below = q }) ]
+  | inl p ↦ elim (below_or_not r.upper n)
+      [ inr q ↦ inr (λ w. q w.below) | inl q ↦ inl (record { above = p; below = q }) ]
 ]

@@ -3,13 +3,17 @@ use Rattle.std.specs.Prelude.{◌≡◌, Bool, List, Option, true}
 use Rattle.std.specs.Iterator.{Drains, DrainsIf}
 
 -- the iterator that is made of given gave the items xs and then ended, and P holds of xs
-abbrev pub TakesAll : {Given State Item : Type 0} → (Given → State → Type 0) → (State → Option Item → State → Type 0) → Given → (List Item → Type 0) → Type 0
-TakesAll {Given} {State} {Item} becomes steps given P = (s : State) × (xs : List Item) × becomes given s × Drains steps s xs × P xs
+abbrev pub TakesAll : {Given State Item : Type 0} → (Given → State → Type 0) → (State → Option Item → State → Type 0)
+    → Given → (List Item → Type 0) → Type 0
+TakesAll {Given} {State} {Item} becomes steps given P =
+    (s : State) × (xs : List Item) × becomes given s × Drains steps s xs × P xs
 
 -- the iterator s gave the items xs, and then ended if ended is true, and P holds of both
-abbrev pub DrawsSome : {State Item : Type 0} → (State → Option Item → State → Type 0) → State → (List Item → Bool → Type 0) → Type 0
+abbrev pub DrawsSome : {State Item : Type 0} → (State → Option Item → State → Type 0) → State
+    → (List Item → Bool → Type 0) → Type 0
 DrawsSome {State} {Item} steps s P = (xs : List Item) × (ended : Bool) × DrainsIf steps (ended ≡ true) s xs × P xs ended
 
 -- the same of the iterator that is made of given
-abbrev pub TakesSome : {Given State Item : Type 0} → (Given → State → Type 0) → (State → Option Item → State → Type 0) → Given → (List Item → Bool → Type 0) → Type 0
+abbrev pub TakesSome : {Given State Item : Type 0} → (Given → State → Type 0) → (State → Option Item → State → Type 0)
+    → Given → (List Item → Bool → Type 0) → Type 0
 TakesSome {Given} {State} {Item} becomes steps given P = (s : State) × becomes given s × DrawsSome steps s P

@@ -1,17 +1,21 @@
 -- Laws of varints.
-use Rattle.std.proofs.Common.{◌≡◌, ℕ, zero, suc, ◌+◌, ◌*◌, ◌/◌, ◌%◌, ◌^◌, ◌<◌, ◌≤◌, List, [], ◌∷◌, ◌++◌, length, refl, ap, sym, ◌∙◌, arith, inl, inr, subst, length-append, drop, take, get_or, add-one, ◌-◌}
+use Rattle.std.proofs.Common.{◌≡◌, ℕ, zero, suc, ◌+◌, ◌*◌, ◌/◌, ◌%◌, ◌^◌, ◌<◌, ◌≤◌, List, [], ◌∷◌, ◌++◌, length, refl}
+use Rattle.std.proofs.Common.{ap, sym, ◌∙◌, arith, inl, inr, subst, length-append, drop, take, get_or, add-one, ◌-◌}
 use Rattle.std.specs.Prelude.{◌⊎◌}
 use Rattle.std.proofs.lemmas.Bool.{cases_lt, lt-ltb, le-ltb}
-use Rattle.std.proofs.lemmas.List.{append_assoc, take-append-drop, drop_more, length-take-le, take_more, nil_from_length}
+use Rattle.std.proofs.lemmas.List.{append_assoc, take-append-drop, drop_more, length-take-le, take_more}
+use Rattle.std.proofs.lemmas.List.{nil_from_length}
 use Rattle.std.proofs.Math.Nat.{pow-succ'}
 use Rattle.std.proofs.Math.Seq.{drop-nil}
 use Rattle.commonware_base.specs.Fault.{Fault, EndOfBuffer, InvalidVarint, InvalidLength, Invalid}
 use Rattle.commonware_base.specs.Text.{AreBytes}
 use Rattle.commonware_base.specs.TextLaws.{bytes_append}
-use Rattle.commonware_base.specs.Varint.{IsContinued, AreContinued, groups_sum, IsVarint, groups, varint, varint_size, IsTruncated, IsMisspelled, varint_fault}
+use Rattle.commonware_base.specs.Varint.{IsContinued, AreContinued, groups_sum, IsVarint, groups, varint, varint_size}
+use Rattle.commonware_base.specs.Varint.{IsTruncated, IsMisspelled, varint_fault}
 
 -- Two texts that agree: their high bytes in front, and the byte after them, are the same.
-pub same_front : (f g : List ℕ) (l m : ℕ) (x y : List ℕ) → AreContinued f → AreContinued g → l < 128 → m < 128 → f ++ l ∷ x ≡ g ++ m ∷ y → (f ≡ g) × (l ≡ m) × (x ≡ y)
+pub same_front : (f g : List ℕ) (l m : ℕ) (x y : List ℕ) → AreContinued f → AreContinued g → l < 128 → m < 128
+    → f ++ l ∷ x ≡ g ++ m ∷ y → (f ≡ g) × (l ≡ m) × (x ≡ y)
 same_front [] [] l m x y hf hg hl hm e = (refl, cc, cc)
 same_front [] (c ∷ g) l m x y hf hg hl hm e = let d : l ≡ c = cc in absurd (omega arith)
 same_front (b ∷ f) [] l m x y hf hg hl hm e = let d : b ≡ m = cc in absurd (omega arith)
@@ -27,18 +31,25 @@ sum_pos [] m p h = omega arith
 sum_pos (c ∷ g) m p h = let r = sum_pos g m p h in omega (arith, r)
 
 -- Two spellings with one sum are the same.
-pub same_sum : (f g : List ℕ) (l m : ℕ) → AreContinued f → AreContinued g → l < 128 → m < 128 → (l ≡ 0 → f ≡ []) → (m ≡ 0 → g ≡ []) → groups_sum (f ++ l ∷ []) ≡ groups_sum (g ++ m ∷ []) → f ++ l ∷ [] ≡ g ++ m ∷ []
+pub same_sum : (f g : List ℕ) (l m : ℕ) → AreContinued f → AreContinued g → l < 128 → m < 128 → (l ≡ 0 → f ≡ [])
+    → (m ≡ 0 → g ≡ []) → groups_sum (f ++ l ∷ []) ≡ groups_sum (g ++ m ∷ []) → f ++ l ∷ [] ≡ g ++ m ∷ []
 same_sum [] [] l m hf hg hl hm sf sg e = let d : l ≡ m = omega arith in ap (λ n. n ∷ []) d
 same_sum [] (c ∷ g) l m hf hg hl hm sf sg e =
-    let pos : 0 < m = (elim (cases_lt 0 m) [ inl p ↦ p | inr q ↦ (let z : m ≡ 0 = omega arith in let n : c ∷ g ≡ [] = sg z in absurd (cc)) ]) in
+    let pos : 0 < m =
+    (elim (cases_lt 0 m)
+    [ inl p ↦ p | inr q ↦ (let z : m ≡ 0 = omega arith in let n : c ∷ g ≡ [] = sg z in absurd (cc)) ]) in
     let s = sum_pos g m pos hm in absurd (omega arith)
 same_sum (b ∷ f) [] l m hf hg hl hm sf sg e =
-    let pos : 0 < l = (elim (cases_lt 0 l) [ inl p ↦ p | inr q ↦ (let z : l ≡ 0 = omega arith in let n : b ∷ f ≡ [] = sf z in absurd (cc)) ]) in
+    let pos : 0 < l =
+    (elim (cases_lt 0 l)
+    [ inl p ↦ p | inr q ↦ (let z : l ≡ 0 = omega arith in let n : b ∷ f ≡ [] = sf z in absurd (cc)) ]) in
     let s = sum_pos f l pos hl in absurd (omega arith)
 same_sum (b ∷ f) (c ∷ g) l m hf hg hl hm sf sg e =
     let d : b ≡ c = omega arith in
     let r : groups_sum (f ++ l ∷ []) ≡ groups_sum (g ++ m ∷ []) = omega arith in
-    let rest = same_sum f g l m hf.1 hg.1 hl hm (λ z. let n : b ∷ f ≡ [] = sf z in absurd (cc)) (λ z. let n : c ∷ g ≡ [] = sg z in absurd (cc)) r in
+    let rest =
+    same_sum f g l m hf.1 hg.1 hl hm (λ z. let n : b ∷ f ≡ [] = sf z in absurd (cc))
+    (λ z. let n : c ∷ g ≡ [] = sg z in absurd (cc)) r in
     cc
 
 -- A spelling in groups, of any length.
@@ -55,9 +66,31 @@ record Spells (number more : ℕ) (bytes : List ℕ) : Type 0 where
 
 -- the groups of a number spell it
 spells : (more n : ℕ) → n < 128 ^ suc more → Spells n more (groups more n)
-spells zero n h = record { front = []; last = n; bytes_are = refl; high = tt; low = omega arith; shortest = λ _. refl; short = omega arith; sum = omega arith; positive = λ p. p }
+spells zero n h =
+    record {
+      front = [];
+      last = n;
+      bytes_are = refl;
+      high = tt;
+      low = omega arith;
+      shortest = λ _. refl;
+      short = omega arith;
+      sum = omega arith;
+      positive = λ p. p;
+    }
 spells (suc more) n h = elim (cases_lt n 128) [
-  | inl p ↦ rw (lt-ltb n 128 p) (record { front = []; last = n; bytes_are = refl; high = tt; low = p; shortest = λ _. refl; short = omega arith; sum = omega arith; positive = λ q. q })
+  | inl p ↦ rw (lt-ltb n 128 p)
+      (record {
+        front = [];
+        last = n;
+        bytes_are = refl;
+        high = tt;
+        low = p;
+        shortest = λ _. refl;
+        short = omega arith;
+        sum = omega arith;
+        positive = λ q. q;
+      })
   | inr p ↦ rw (le-ltb n 128 p) (
       let below : n / 128 < 128 ^ suc more = omega (arith, pow-succ' 128 (suc more)) in
       let rest = spells more (n / 128) below in
@@ -80,7 +113,17 @@ pub varint_is : (n : ℕ) → n < 2 ^ 32 → IsVarint n (varint n)
 unfolding varint
 varint_is n h =
     let s = spells 4 n (omega arith) in
-    record { front = s.front; last = s.last; bytes_are = s.bytes_are; high = s.high; low = s.low; shortest = s.shortest; short = s.short; sum = s.sum; fits = h }
+    record {
+      front = s.front;
+      last = s.last;
+      bytes_are = s.bytes_are;
+      high = s.high;
+      low = s.low;
+      shortest = s.shortest;
+      short = s.short;
+      sum = s.sum;
+      fits = h;
+    }
 
 -- high bytes are bytes
 high_bytes : (f : List ℕ) → AreContinued f → AreBytes f
@@ -89,7 +132,9 @@ high_bytes (b ∷ f) h = (omega (arith, h.0.1), high_bytes f h.1)
 
 -- The bytes of a number are bytes.
 pub varint_bytes : (n : ℕ) → n < 2 ^ 32 → AreBytes (varint n)
-varint_bytes n h = let v = varint_is n h in subst AreBytes (sym v.bytes_are) (bytes_append v.front (v.last ∷ []) (high_bytes v.front v.high) (omega (arith, v.low), tt))
+varint_bytes n h = let v = varint_is n h in
+    subst AreBytes (sym v.bytes_are)
+    (bytes_append v.front (v.last ∷ []) (high_bytes v.front v.high) (omega (arith, v.low), tt))
 
 -- No other bytes spell it.
 pub varint_only : (n : ℕ) (s : List ℕ) → IsVarint n s → s ≡ varint n
@@ -97,19 +142,24 @@ varint_only n s v =
     let w = varint_is n v.fits in
     let sv = v.bytes_are in
     let sw = w.bytes_are in
-    sv ∙ same_sum v.front w.front v.last w.last v.high w.high v.low w.low v.shortest w.shortest (ap groups_sum (sym sv) ∙ (v.sum ∙ sym w.sum) ∙ ap groups_sum sw) ∙ sym sw
+    sv ∙ same_sum v.front w.front v.last w.last v.high w.high v.low w.low v.shortest w.shortest
+    (ap groups_sum (sym sv) ∙ (v.sum ∙ sym w.sum) ∙ ap groups_sum sw) ∙ sym sw
 
 -- Where a text begins with two numbers, they are the same, and so is what follows.
-pub varint_split : (m n : ℕ) (x y : List ℕ) → m < 2 ^ 32 → n < 2 ^ 32 → varint m ++ x ≡ varint n ++ y → (m ≡ n) × (x ≡ y)
+pub varint_split : (m n : ℕ) (x y : List ℕ) → m < 2 ^ 32 → n < 2 ^ 32 → varint m ++ x ≡ varint n ++ y
+    → (m ≡ n) × (x ≡ y)
 varint_split m n x y hm hn e =
     let v = varint_is m hm in
     let w = varint_is n hn in
-    let p : (v.front ++ v.last ∷ []) ++ x ≡ (w.front ++ w.last ∷ []) ++ y = ap (λ s. s ++ x) (sym v.bytes_are) ∙ e ∙ ap (λ s. s ++ y) w.bytes_are in
-    let q : v.front ++ v.last ∷ x ≡ w.front ++ w.last ∷ y = sym (append_assoc v.front (v.last ∷ []) x) ∙ p ∙ append_assoc w.front (w.last ∷ []) y in
+    let p : (v.front ++ v.last ∷ []) ++ x ≡ (w.front ++ w.last ∷ []) ++ y =
+    ap (λ s. s ++ x) (sym v.bytes_are) ∙ e ∙ ap (λ s. s ++ y) w.bytes_are in
+    let q : v.front ++ v.last ∷ x ≡ w.front ++ w.last ∷ y =
+    sym (append_assoc v.front (v.last ∷ []) x) ∙ p ∙ append_assoc w.front (w.last ∷ []) y in
     let s = same_front v.front w.front v.last w.last x y v.high w.high v.low w.low q in
     let f : v.front ≡ w.front = s.0 in
     let l : v.last ≡ w.last = s.1 in
-    let t : varint m ≡ varint n = v.bytes_are ∙ ap (λ g. g ++ v.last ∷ []) f ∙ ap (λ b. w.front ++ b ∷ []) l ∙ sym w.bytes_are in
+    let t : varint m ≡ varint n =
+    v.bytes_are ∙ ap (λ g. g ++ v.last ∷ []) f ∙ ap (λ b. w.front ++ b ∷ []) l ∙ sym w.bytes_are in
     (sym v.sum ∙ ap groups_sum t ∙ w.sum, s.2)
 
 -- the text that a number begins, with its parts
@@ -122,7 +172,8 @@ not_all_high [] l x h a = omega (arith, a.0.0)
 not_all_high (b ∷ f) l x h a = not_all_high f l x h a.1
 
 -- Two texts that agree: up to the first byte below 128, or the fifth.
-same_wrong : (f g : List ℕ) (l m : ℕ) (x y : List ℕ) → AreContinued f → AreContinued g → l < 128 → f ++ l ∷ x ≡ g ++ m ∷ y → length f ≤ length g → (f ≡ g) × (l ≡ m)
+same_wrong : (f g : List ℕ) (l m : ℕ) (x y : List ℕ) → AreContinued f → AreContinued g → l < 128
+    → f ++ l ∷ x ≡ g ++ m ∷ y → length f ≤ length g → (f ≡ g) × (l ≡ m)
 same_wrong [] [] l m x y hf hg hl e h = (refl, cc)
 same_wrong [] (c ∷ g) l m x y hf hg hl e h = let d : l ≡ c = cc in absurd (omega arith)
 same_wrong (b ∷ f) [] l m x y hf hg hl e h = absurd (omega arith)
@@ -142,21 +193,25 @@ last_of_five (a ∷ b ∷ c ∷ d ∷ []) l e h s = omega arith
 last_of_five (a ∷ b ∷ c ∷ d ∷ k ∷ f) l e h s = absurd (omega arith)
 
 -- A text that a number begins has no fault.
-pub varint_no_fault : (s : List ℕ) (n : ℕ) (r : List ℕ) (f : Fault) → n < 2 ^ 32 → s ≡ varint n ++ r → varint_fault s f → ⊥
+pub varint_no_fault : (s : List ℕ) (n : ℕ) (r : List ℕ) (f : Fault) → n < 2 ^ 32 → s ≡ varint n ++ r → varint_fault s f
+    → ⊥
 varint_no_fault s n r EndOfBuffer h e w =
     let v = varint_is n h in
     not_all_high v.front v.last r v.low (subst AreContinued (parts s n r v e) w.high)
 varint_no_fault s n r InvalidVarint h e w =
     let v = varint_is n h in
     let p : v.front ++ v.last ∷ r ≡ w.front ++ w.last ∷ w.rest = sym (parts s n r v e) ∙ w.begins in
-    let sum : groups_sum (v.front ++ v.last ∷ []) < 2 ^ 32 = subst (λ m. m < 2 ^ 32) (sym (ap groups_sum (sym v.bytes_are) ∙ v.sum)) h in
+    let sum : groups_sum (v.front ++ v.last ∷ []) < 2 ^ 32 =
+    subst (λ m. m < 2 ^ 32) (sym (ap groups_sum (sym v.bytes_are) ∙ v.sum)) h in
     elim w.wrong [
       | inl z ↦ (let low : w.last < 128 = omega (arith, z.0) in
           let q = same_front v.front w.front v.last w.last r w.rest v.high w.high v.low low p in
           let nil : v.front ≡ [] = v.shortest (q.1 ∙ z.0) in
           let nil' : length w.front ≡ 0 = ap length (sym q.0 ∙ nil) in
           omega (arith, z.1, nil'))
-      | inr z ↦ (let q = same_wrong v.front w.front v.last w.last r w.rest v.high w.high v.low p (omega (arith, v.short, z.0)) in
+      | inr z ↦
+          (let q = same_wrong v.front w.front v.last w.last r w.rest v.high w.high v.low p (omega (arith, v.short, z.0))
+          in
           let four : length v.front ≡ 4 = ap length q.0 ∙ z.0 in
           let small = last_of_five v.front v.last four v.low sum in
           let same : v.last ≡ w.last = q.1 in
@@ -201,9 +256,11 @@ pub record Stops (more : ℕ) (s : List ℕ) : Type 0 where
 -- a text of bytes is high and short, or it stops
 pub stop_of : (more : ℕ) (s : List ℕ) → AreBytes s → (AreContinued s × (length s ≤ more)) ⊎ Stops more s
 stop_of more [] h = inl (tt, omega arith)
-stop_of zero (b ∷ s) h = inr (record { front = []; last = b; rest = s; begins = refl; high = tt; short = omega arith; stops = inr refl })
+stop_of zero (b ∷ s) h =
+    inr (record { front = []; last = b; rest = s; begins = refl; high = tt; short = omega arith; stops = inr refl })
 stop_of (suc more) (b ∷ s) h = elim (cases_lt b 128) [
-  | inl p ↦ inr (record { front = []; last = b; rest = s; begins = refl; high = tt; short = omega arith; stops = inl p })
+  | inl p ↦ inr
+      (record { front = []; last = b; rest = s; begins = refl; high = tt; short = omega arith; stops = inl p })
   | inr p ↦ elim (stop_of more s h.1) [
     | inl a ↦ inl (((p, h.0), a.0), omega (arith, a.1))
     | inr w ↦ inr (record {
@@ -228,18 +285,37 @@ sum_fits (a ∷ b ∷ c ∷ d ∷ []) l e h s = let p : l ≤ 15 = s refl in ome
 sum_fits (a ∷ b ∷ c ∷ d ∷ k ∷ f) l e h s = absurd (omega arith)
 
 -- A text that stops is a number or has the fault.
-pub number_of : (s : List ℕ) (front : List ℕ) (last : ℕ) (rest : List ℕ) → s ≡ front ++ last ∷ rest → AreContinued front → length front ≤ 4 → (last < 128) ⊎ (length front ≡ 4) →
+pub number_of : (s : List ℕ) (front : List ℕ) (last : ℕ) (rest : List ℕ) → s ≡ front ++ last ∷ rest → AreContinued front
+    → length front ≤ 4 → (last < 128) ⊎ (length front ≡ 4) →
     ((n : ℕ) × (n ≡ groups_sum (front ++ last ∷ [])) × IsVarint n (front ++ last ∷ [])) ⊎ IsMisspelled s
 number_of s front last rest begins high short stops = elim (cases_lt 0 last) [
   | inr z ↦ (let zero' : last ≡ 0 = omega arith in elim (cases_lt 0 (length front)) [
-    | inl p ↦ inr (record { front = front; last = last; rest = rest; begins = begins; high = high; wrong = inl (zero', p, short) })
+    | inl p ↦ inr
+        (record {
+          front = front;
+          last = last;
+          rest = rest;
+          begins = begins;
+          high = high;
+          wrong = inl (zero', p, short);
+        })
     | inr p ↦ inl (good (omega arith) (λ _. nil_of front (omega arith)) (λ four. omega arith))
   ])
   | inl p ↦ elim (cases_lt 15 last) [
     | inr q ↦ inl (good (omega arith) (λ z. absurd (omega arith)) (λ _. q))
     | inl q ↦ elim (cases_lt (length front) 4) [
-      | inl t ↦ inl (good (elim stops [ inl a ↦ a | inr a ↦ absurd (omega arith) ]) (λ z. absurd (omega arith)) (λ four. absurd (omega arith)))
-      | inr t ↦ inr (record { front = front; last = last; rest = rest; begins = begins; high = high; wrong = inr (omega arith, q) })
+      | inl t ↦ inl
+          (good (elim stops [ inl a ↦ a | inr a ↦ absurd (omega arith) ]) (λ z. absurd (omega arith))
+          (λ four. absurd (omega arith)))
+      | inr t ↦ inr
+          (record {
+            front = front;
+            last = last;
+            rest = rest;
+            begins = begins;
+            high = high;
+            wrong = inr (omega arith, q);
+          })
     ]
   ]
 ]
@@ -248,15 +324,37 @@ number_of s front last rest begins high short stops = elim (cases_lt 0 last) [
     nil_of [] e = refl
     nil_of (b ∷ f) e = absurd (omega arith)
 
-    good : last < 128 → (last ≡ 0 → front ≡ []) → (length front ≡ 4 → last ≤ 15) → (n : ℕ) × (n ≡ groups_sum (front ++ last ∷ [])) × IsVarint n (front ++ last ∷ [])
-    good low shortest five = (groups_sum (front ++ last ∷ []), refl, record { front = front; last = last; bytes_are = refl; high = high; low = low; shortest = shortest; short = short; sum = refl; fits = sum_fits front last short low five })
+    good : last < 128 → (last ≡ 0 → front ≡ []) → (length front ≡ 4 → last ≤ 15)
+        → (n : ℕ) × (n ≡ groups_sum (front ++ last ∷ [])) × IsVarint n (front ++ last ∷ [])
+    good low shortest five = (
+      groups_sum (front ++ last ∷ []),
+      refl,
+      record {
+        front = front;
+        last = last;
+        bytes_are = refl;
+        high = high;
+        low = low;
+        shortest = shortest;
+        short = short;
+        sum = refl;
+        fits = sum_fits front last short low five;
+      },
+    )
 
 -- A text of bytes begins with a number or has a fault.
-pub varint_or_fault : (s : List ℕ) → AreBytes s → ((n : ℕ) × (r : List ℕ) × (n < 2 ^ 32) × (s ≡ varint n ++ r)) ⊎ ((f : Fault) × varint_fault s f)
+pub varint_or_fault : (s : List ℕ) → AreBytes s
+    → ((n : ℕ) × (r : List ℕ) × (n < 2 ^ 32) × (s ≡ varint n ++ r)) ⊎ ((f : Fault) × varint_fault s f)
 varint_or_fault s h = elim (stop_of 4 s h) [
   | inl a ↦ inr (EndOfBuffer, record { high = a.0; short = a.1 })
   | inr w ↦ elim (number_of s w.front w.last w.rest w.begins w.high w.short w.stops) [
-    | inl v ↦ inl (v.0, w.rest, v.2.fits, w.begins ∙ sym (append_assoc w.front (w.last ∷ []) w.rest) ∙ ap (λ t. t ++ w.rest) (varint_only v.0 _ v.2))
+    | inl v ↦ inl (
+      v.0,
+      w.rest,
+      v.2.fits,
+      w.begins ∙ sym (append_assoc w.front (w.last ∷ []) w.rest)
+          ∙ ap (λ t. t ++ w.rest) (varint_only v.0 _ v.2),
+    )
     | inr b ↦ inr (InvalidVarint, b)
   ]
 ]
@@ -273,15 +371,18 @@ unfolding varint
 goes_start n h = record { more = 4; below = omega arith; text = refl }
 
 -- one more group is spelled
-pub goes_step : (n left : ℕ) (sofar : List ℕ) → Goes n left sofar → 128 ≤ left → Goes n (left / 128) (sofar ++ (left % 128 + 128) ∷ [])
+pub goes_step : (n left : ℕ) (sofar : List ℕ) → Goes n left sofar → 128 ≤ left
+    → Goes n (left / 128) (sofar ++ (left % 128 + 128) ∷ [])
 goes_step n left sofar g h = step g.more g.below g.text
   where
-    step : (more : ℕ) → left < 128 ^ suc more → varint n ≡ sofar ++ groups more left → Goes n (left / 128) (sofar ++ (left % 128 + 128) ∷ [])
+    step : (more : ℕ) → left < 128 ^ suc more → varint n ≡ sofar ++ groups more left
+        → Goes n (left / 128) (sofar ++ (left % 128 + 128) ∷ [])
     step zero below text = absurd (omega arith)
     step (suc more) below text = record {
       more = more;
       below = omega (arith, pow-succ' 128 (suc more));
-      text = (rw (le-ltb left 128 h) at text) ∙ sym (append_assoc sofar ((left % 128 + 128) ∷ []) (groups more (left / 128)));
+      text = (rw (le-ltb left 128 h) at text) ∙ sym
+          (append_assoc sofar ((left % 128 + 128) ∷ []) (groups more (left / 128)));
     }
 
 -- at the end the last group is left
@@ -302,7 +403,8 @@ groups_not_empty (suc more) left = elim (cases_lt left 128) [
 
 -- a varint has at most five bytes
 pub varint-length : (n : ℕ) → n < 2 ^ 32 → length (varint n) ≤ 5
-varint-length n h = let v = varint_is n h in omega (arith, ap length v.bytes_are, length-append v.front (v.last ∷ []), v.short)
+varint-length n h = let v = varint_is n h in
+    omega (arith, ap length v.bytes_are, length-append v.front (v.last ∷ []), v.short)
 
 -- the size of a varint is its length
 pub varint_size_is : (n : ℕ) → length (varint n) ≡ varint_size n
@@ -314,12 +416,6 @@ pub groups_sum-drop : (i : ℕ) (xs : List ℕ) → groups_sum (drop i xs) ≤ g
 groups_sum-drop i [] = simp (drop-nil {A = ℕ}) (omega arith)
 groups_sum-drop zero (x ∷ xs) = omega arith
 groups_sum-drop (suc i) (x ∷ xs) = let r = groups_sum-drop i xs in omega (arith, r)
-
--- one more high byte
-pub high_more : (xs : List ℕ) (i : ℕ) → i < length xs → AreContinued (take i xs) → IsContinued (get_or xs i 0) → AreContinued (take (suc i) xs)
-high_more [] i h a b = absurd (omega arith)
-high_more (x ∷ xs) zero h a b = (b, tt)
-high_more (x ∷ xs) (suc i) h a b = (a.0, high_more xs i (omega arith) a.1 b)
 
 -- What the bytes up to a place make.
 module _ (s : List ℕ) (i : ℕ) (within : i < length s) (high : AreContinued (take i s)) (short : i ≤ 4) where
@@ -333,14 +429,31 @@ module _ (s : List ℕ) (i : ℕ) (within : i < length s) (high : AreContinued (
 
   -- a last byte of 0 is a misspelling
   pub bad_zero : 0 < i → get_or s i 0 ≡ 0 → IsMisspelled s
-  bad_zero p z = let n = front_length in record { front = take i s; last = get_or s i 0; rest = drop (i + 1) s; begins = cut_at; high = high; wrong = inl (z, omega (arith, n), omega (arith, n)) }
+  bad_zero p z = let n =
+      front_length in record {
+        front = take i s;
+        last = get_or s i 0;
+        rest = drop (i + 1) s;
+        begins = cut_at;
+        high = high;
+        wrong = inl (z, omega (arith, n), omega (arith, n));
+      }
 
   -- a fifth byte above 15 is one
   pub bad_fifth : i ≡ 4 → 15 < get_or s i 0 → IsMisspelled s
-  bad_fifth p z = let n = front_length in record { front = take i s; last = get_or s i 0; rest = drop (i + 1) s; begins = cut_at; high = high; wrong = inr (n ∙ p, z) }
+  bad_fifth p z = let n =
+      front_length in record {
+        front = take i s;
+        last = get_or s i 0;
+        rest = drop (i + 1) s;
+        begins = cut_at;
+        high = high;
+        wrong = inr (n ∙ p, z);
+      }
 
   -- else the bytes up to the place are a varint
-  pub good_at : get_or s i 0 < 128 → (get_or s i 0 ≡ 0 → i ≡ 0) → (i ≡ 4 → get_or s i 0 ≤ 15) → IsVarint (groups_sum (take (i + 1) s)) (take (i + 1) s)
+  pub good_at : get_or s i 0 < 128 → (get_or s i 0 ≡ 0 → i ≡ 0) → (i ≡ 4 → get_or s i 0 ≤ 15)
+      → IsVarint (groups_sum (take (i + 1) s)) (take (i + 1) s)
   good_at low shortest five =
       let n = front_length in
       let e : take (i + 1) s ≡ take i s ++ get_or s i 0 ∷ [] = take_more s i 0 within in
@@ -353,11 +466,13 @@ module _ (s : List ℕ) (i : ℕ) (within : i < length s) (high : AreContinued (
         shortest = λ z. nil_from_length (take i s) (n ∙ shortest z);
         short = omega (arith, n);
         sum = refl;
-        fits = subst (λ t. groups_sum t < 2 ^ 32) (sym e) (sum_fits (take i s) (get_or s i 0) (omega (arith, n)) low (λ f. five (sym n ∙ f)));
+        fits = subst (λ t. groups_sum t < 2 ^ 32) (sym e)
+            (sum_fits (take i s) (get_or s i 0) (omega (arith, n)) low (λ f. five (sym n ∙ f)));
       }
 
 -- the sum of the groups from the place before
-pub sum_before : (s : List ℕ) (i : ℕ) → 0 < i → i ≤ length s → groups_sum (drop (i - 1) s) ≡ get_or s (i - 1) 0 % 128 + 128 * groups_sum (drop i s)
+pub sum_before : (s : List ℕ) (i : ℕ) → 0 < i → i ≤ length s
+    → groups_sum (drop (i - 1) s) ≡ get_or s (i - 1) 0 % 128 + 128 * groups_sum (drop i s)
 sum_before s zero p h = absurd (omega arith)
 sum_before s (suc i) p h = let w : i < length s = omega arith in
     let e : suc i - 1 ≡ i = omega arith in

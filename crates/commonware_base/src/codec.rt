@@ -1,7 +1,9 @@
-//! Byte forms with laws: what is written, what is accepted, and the first fault of every other text.
+//! Byte forms with laws: what is written, what is accepted, and the first fault of every other
+//! text.
 //!
-//! A type says what its bytes are (`EncodeSize`), how they are appended (`Write`) and how they are read (`Read`).
-//! Each of these traits carries its laws, so generic code over them is proved once for every type that keeps them.
+//! A type says what its bytes are (`EncodeSize`), how they are appended (`Write`) and how they are
+//! read (`Read`). Each of these traits carries its laws, so generic code over them is proved once
+//! for every type that keeps them.
 
 mod config;
 mod error;

@@ -2,8 +2,8 @@
 ghost use Rattle.std.specs.Prelude.{◌≡◌, ◌<◌, ◌^◌, ◌==◌, ◌≤◌, Some, refl, true, length};
 ghost use Rattle.std.proofs.lemmas.Cmp.{nat_eq_equiv};
 ghost use Rattle.std.specs.Fmt.{decimal};
-ghost use Rattle.commonware_base.specs.Clones.{equal_from_same};
-ghost use Rattle.commonware_base.specs.Numbers.{number_canonical, number_prefix_free, varint_laws};
+ghost use Rattle.commonware_base.specs.CloneLaws.{equal_from_same};
+ghost use Rattle.commonware_base.specs.NumberLaws.{number_canonical, number_prefix_free, varint_laws};
 ghost use Rattle.commonware_base.specs.Varint.{varint, varint_fault};
 ghost use Rattle.commonware_base.specs.VarintLaws.{varint_bytes, varint-length};
 ghost use Rattle.commonware_base.specs.Words.{IsWord};

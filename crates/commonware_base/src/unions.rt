@@ -15,7 +15,8 @@ pub fn union<A: Allocator>(alloc: A, a: &[u8], b: &[u8]) -> Result<Vec<u8, A>, A
     Ok(union)
 }
 
-/// The length of the namespace as a varint, the namespace, and the message. The namespace has at most 4294967295 bytes.
+/// The length of the namespace as a varint, the namespace, and the message. The namespace has at
+/// most 4294967295 bytes.
 ///
 /// No other pair of a namespace and a message has these bytes.
 pub fn union_unique<A: Allocator>(

@@ -6,9 +6,9 @@ use Rattle.std.specs.List.Sorted.{IsPermutation}
 use Rattle.std.specs.Map.{values_of}
 use Rattle.std.specs.declared.cmp.Ordering.{Ordering}
 use Rattle.std.proofs.lemmas.List.Sorted.{IsPermutation-map, IsPermutation-sym}
-use Rattle.commonware_base.specs.Clones.{equal_from_all_zip}
+use Rattle.commonware_base.specs.CloneLaws.{equal_from_all_zip}
 use Rattle.commonware_base.specs.Taken.{TakesAll, TakesSome}
-use Rattle.commonware_ordered.specs.EqualItems.{equal_items_or_none, none_equal_moved}
+use Rattle.commonware_ordered.specs.EqualItemLaws.{equal_items_or_none, none_equal_moved}
 use Rattle.commonware_map.specs.Pairs.{is_equal_pair}
 use Rattle.commonware_ordered.specs.Whole.{IsSetOfAll, IsSetOfClones, MatchError}
 use Rattle.commonware_ordered.specs.declared.error.Error.{Error}

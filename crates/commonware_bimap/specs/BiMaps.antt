@@ -8,13 +8,16 @@ use Rattle.commonware_map.specs.Maps.{map_enc, IsAllowedMap, IsWritableMap, MapF
 use Rattle.commonware_ordered.specs.Whole.{HasEqualItems}
 
 -- A bimap can be written where it can be written as a map. No two of its values are equal, as those of every bimap.
-pub record IsWritableBiMap {K V : Type 0} (KeyWritable : K → Type 0) (cmp : K → K → Ordering) (ValueWritable : V → Type 0) (value_eq : V → V → Bool) (m : List (K × V)) : Type 0 where
+pub record IsWritableBiMap {K V : Type 0} (KeyWritable : K → Type 0) (cmp : K → K → Ordering)
+    (ValueWritable : V → Type 0) (value_eq : V → V → Bool) (m : List (K × V)) : Type 0 where
   pub map : IsWritableMap KeyWritable cmp ValueWritable m
   pub distinct : ¬ HasEqualItems value_eq (values_of m)
 
 -- The text begins with a writable, allowed map of which two values are equal.
-pub record BeginsRepeated {K V : Type 0} (key_enc : K → List ℕ) (KeyWritable : K → Type 0) (cmp : K → K → Ordering) (KeyAllowed : K → Type 0)
-    (value_enc : V → List ℕ) (ValueWritable ValueAllowed : V → Type 0) (value_eq : V → V → Bool) (range : Bounds ℕ) (text : List ℕ) : Type 0 where
+pub record BeginsRepeated {K V : Type 0} (key_enc : K → List ℕ) (KeyWritable : K → Type 0) (cmp : K → K → Ordering)
+    (KeyAllowed : K → Type 0)
+    (value_enc : V → List ℕ) (ValueWritable ValueAllowed : V → Type 0) (value_eq : V → V → Bool) (range : Bounds ℕ)
+    (text : List ℕ) : Type 0 where
   pub pairs : List (K × V)
   pub rest : List ℕ
   pub begins : text ≡ map_enc key_enc value_enc pairs ++ rest
@@ -26,13 +29,22 @@ pub record BeginsRepeated {K V : Type 0} (key_enc : K → List ℕ) (KeyWritable
 abbrev pub repeated_fault : Fault
 repeated_fault = Invalid (codes "BiMap") (codes "duplicate value detected during deserialization")
 
--- The first fault of a text that should begin with a bimap: that of the map; then, where there is none, that two values are equal.
-pub data BiMapFault {K V : Type 0} (key_enc : K → List ℕ) (KeyWritable : K → Type 0) (cmp : K → K → Ordering) (KeyAllowed : K → Type 0) (key_fault : List ℕ → Fault → Type 0)
-    (value_enc : V → List ℕ) (ValueWritable ValueAllowed : V → Type 0) (value_fault : List ℕ → Fault → Type 0) (value_eq : V → V → Bool) (range : Bounds ℕ) (text : List ℕ) (fault : Fault) : Type 0 where
-  bad_map : MapFault key_enc KeyWritable cmp KeyAllowed key_fault value_enc ValueWritable ValueAllowed value_fault range text fault
-      → BiMapFault key_enc KeyWritable cmp KeyAllowed key_fault value_enc ValueWritable ValueAllowed value_fault value_eq range text fault
-  bad_values : fault ≡ repeated_fault → BeginsRepeated key_enc KeyWritable cmp KeyAllowed value_enc ValueWritable ValueAllowed value_eq range text
-      → BiMapFault key_enc KeyWritable cmp KeyAllowed key_fault value_enc ValueWritable ValueAllowed value_fault value_eq range text fault
+-- The first fault of a text that should begin with a bimap: that of the map; then, where there is none, that two values
+-- are equal.
+pub data BiMapFault {K V : Type 0} (key_enc : K → List ℕ) (KeyWritable : K → Type 0) (cmp : K → K → Ordering)
+    (KeyAllowed : K → Type 0) (key_fault : List ℕ → Fault → Type 0)
+    (value_enc : V → List ℕ) (ValueWritable ValueAllowed : V → Type 0) (value_fault : List ℕ → Fault → Type 0)
+    (value_eq : V → V → Bool) (range : Bounds ℕ) (text : List ℕ) (fault : Fault) : Type 0 where
+  bad_map :
+      MapFault key_enc KeyWritable cmp KeyAllowed key_fault value_enc ValueWritable ValueAllowed value_fault range text
+      fault
+      → BiMapFault key_enc KeyWritable cmp KeyAllowed key_fault value_enc ValueWritable ValueAllowed value_fault
+      value_eq range text fault
+  bad_values :
+      fault ≡ repeated_fault → BeginsRepeated key_enc KeyWritable cmp KeyAllowed value_enc ValueWritable ValueAllowed
+      value_eq range text
+      → BiMapFault key_enc KeyWritable cmp KeyAllowed key_fault value_enc ValueWritable ValueAllowed value_fault
+      value_eq range text fault
 
 -- The cuts at which a text that should begin with a bimap can be faulty.
 pub data BiMapCut : Type 0 where
@@ -40,8 +52,12 @@ pub data BiMapCut : Type 0 where
   at_values : BiMapCut
 
 -- the cut of a fault
-abbrev pub bimap_cut : {K V : Type 0} {key_enc : K → List ℕ} {KeyWritable : K → Type 0} {cmp : K → K → Ordering} {KeyAllowed : K → Type 0} {key_fault : List ℕ → Fault → Type 0}
-    {value_enc : V → List ℕ} {ValueWritable ValueAllowed : V → Type 0} {value_fault : List ℕ → Fault → Type 0} {value_eq : V → V → Bool} {range : Bounds ℕ} {text : List ℕ} {fault : Fault}
-    → BiMapFault key_enc KeyWritable cmp KeyAllowed key_fault value_enc ValueWritable ValueAllowed value_fault value_eq range text fault → BiMapCut
+abbrev pub bimap_cut :
+    {K V : Type 0} {key_enc : K → List ℕ} {KeyWritable : K → Type 0} {cmp : K → K → Ordering} {KeyAllowed : K → Type 0}
+    {key_fault : List ℕ → Fault → Type 0}
+    {value_enc : V → List ℕ} {ValueWritable ValueAllowed : V → Type 0} {value_fault : List ℕ → Fault → Type 0}
+    {value_eq : V → V → Bool} {range : Bounds ℕ} {text : List ℕ} {fault : Fault}
+    → BiMapFault key_enc KeyWritable cmp KeyAllowed key_fault value_enc ValueWritable ValueAllowed value_fault value_eq
+    range text fault → BiMapCut
 bimap_cut (bad_map w) = at_map
 bimap_cut (bad_values same w) = at_values

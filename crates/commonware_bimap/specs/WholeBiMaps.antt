@@ -1,4 +1,5 @@
--- What the builders of bimaps answer: all pairs in the order of their keys, or why there are none. Keys come before values.
+-- What the builders of bimaps answer: all pairs in the order of their keys, or why there are none. Keys come before
+-- values.
 use Rattle.std.specs.Prelude.{Bool, List, MatchResult, Result}
 use Rattle.std.specs.Map.{values_of}
 use Rattle.std.specs.declared.cmp.Ordering.{Ordering}
@@ -14,21 +15,31 @@ abbrev pub HasEqualValues : {K V : Type 0} → (V → V → Bool) → List (K ×
 HasEqualValues value_eq l = HasEqualItems value_eq (values_of l)
 
 -- m has all of l in order, and no two positions of l hold equal keys or equal values
-abbrev pub IsBiMapOfAll : {K V : Type 0} → (K → K → Bool) → (K → K → Ordering) → (V → V → Bool) → List (K × V) → List (K × V) → Type 0
-IsBiMapOfAll key_eq key_cmp value_eq l m = IsSetOfAll (λ p q. key_eq p.0 q.0) (λ p q. key_cmp p.0 q.0) l m × (¬ HasEqualValues value_eq l)
+abbrev pub IsBiMapOfAll : {K V : Type 0} → (K → K → Bool) → (K → K → Ordering) → (V → V → Bool) → List (K × V)
+    → List (K × V) → Type 0
+IsBiMapOfAll key_eq key_cmp value_eq l m =
+    IsSetOfAll (λ p q. key_eq p.0 q.0) (λ p q. key_cmp p.0 q.0) l m × (¬ HasEqualValues value_eq l)
 
--- l is refused as two of its positions hold equal keys; or as none do, Whole holds, and two positions hold equal values; or for want of memory
+-- l is refused as two of its positions hold equal keys; or as none do, Whole holds, and two positions hold equal
+-- values; or for want of memory
 abbrev pub IsRefusedBiMap : {K V : Type 0} → (K → K → Bool) → (V → V → Bool) → Type 0 → List (K × V) → Error → Type 0
-IsRefusedBiMap key_eq value_eq Whole l error = MatchError error (HasEqualKeys key_eq l) (HasEqualValues value_eq l × (¬ HasEqualKeys key_eq l) × Whole)
+IsRefusedBiMap key_eq value_eq Whole l error =
+    MatchError error (HasEqualKeys key_eq l) (HasEqualValues value_eq l × (¬ HasEqualKeys key_eq l) × Whole)
 
 -- the bimap of all of l, or why there is none
-abbrev pub IsWholeBiMap : {K V : Type 0} → (K → K → Bool) → (K → K → Ordering) → (V → V → Bool) → List (K × V) → Result (List (K × V)) Error → Type 0
-IsWholeBiMap key_eq key_cmp value_eq l result = MatchResult result (IsBiMapOfAll key_eq key_cmp value_eq l) (IsRefusedBiMap key_eq value_eq (Unit {0}) l)
+abbrev pub IsWholeBiMap : {K V : Type 0} → (K → K → Bool) → (K → K → Ordering) → (V → V → Bool) → List (K × V)
+    → Result (List (K × V)) Error → Type 0
+IsWholeBiMap key_eq key_cmp value_eq l result =
+    MatchResult result (IsBiMapOfAll key_eq key_cmp value_eq l) (IsRefusedBiMap key_eq value_eq (Unit {0}) l)
 
 -- m has clones of all of l in order, and no two positions of l hold equal keys or equal values
-abbrev pub IsBiMapOfClones : {K V : Type 0} → (K → K → Bool) → (K → K → Ordering) → (V → V → Bool) → (K × V → K × V → Type 0) → List (K × V) → List (K × V) → Type 0
-IsBiMapOfClones key_eq key_cmp value_eq Clone l m = IsSetOfClones (λ p q. key_eq p.0 q.0) (λ p q. key_cmp p.0 q.0) Clone l m × (¬ HasEqualValues value_eq l)
+abbrev pub IsBiMapOfClones : {K V : Type 0} → (K → K → Bool) → (K → K → Ordering) → (V → V → Bool)
+    → (K × V → K × V → Type 0) → List (K × V) → List (K × V) → Type 0
+IsBiMapOfClones key_eq key_cmp value_eq Clone l m =
+    IsSetOfClones (λ p q. key_eq p.0 q.0) (λ p q. key_cmp p.0 q.0) Clone l m × (¬ HasEqualValues value_eq l)
 
 -- the bimap of clones of all of l, or why there is none
-abbrev pub IsWholeBiMapOfClones : {K V : Type 0} → (K → K → Bool) → (K → K → Ordering) → (V → V → Bool) → (K × V → K × V → Type 0) → List (K × V) → Result (List (K × V)) Error → Type 0
-IsWholeBiMapOfClones key_eq key_cmp value_eq Clone l result = MatchResult result (IsBiMapOfClones key_eq key_cmp value_eq Clone l) (IsRefusedBiMap key_eq value_eq (Unit {0}) l)
+abbrev pub IsWholeBiMapOfClones : {K V : Type 0} → (K → K → Bool) → (K → K → Ordering) → (V → V → Bool)
+    → (K × V → K × V → Type 0) → List (K × V) → Result (List (K × V)) Error → Type 0
+IsWholeBiMapOfClones key_eq key_cmp value_eq Clone l result =
+    MatchResult result (IsBiMapOfClones key_eq key_cmp value_eq Clone l) (IsRefusedBiMap key_eq value_eq (Unit {0}) l)

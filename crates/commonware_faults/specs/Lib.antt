@@ -1,4 +1,4 @@
 pub mod Counts
 pub mod SubsetLaws
-pub mod SubsetSizes
+pub mod SubsetSizeLaws
 pub mod Subsets

@@ -1,9 +1,11 @@
 -- Which numbers of faults the sizes of sub-sets allow.
-use Rattle.std.proofs.Common.{◌≡◌, inl, inr, ℕ, zero, suc, ◌+◌, ◌-◌, ◌*◌, ◌/◌, ◌<◌, ◌≤◌, Bool, true, false, ◌&&◌, List, [], ◌∷◌, length, refl, ap, sym, ◌∙◌, arith}
+use Rattle.std.proofs.Common.{◌≡◌, inl, inr, ℕ, zero, suc, ◌+◌, ◌-◌, ◌*◌, ◌/◌, ◌<◌, ◌≤◌, Bool, true, false, ◌&&◌, List}
+use Rattle.std.proofs.Common.{[], ◌∷◌, length, refl, ap, sym, ◌∙◌, arith}
 use Rattle.std.proofs.lemmas.Bool.{cases_order}
 use Rattle.commonware_faults.specs.Counts.{GreatestFit}
-use Rattle.commonware_faults.specs.Subsets.{size, shared, places, Overlap, OverlapAtLeast, GreatestFor, Greatest3, Greatest5, LeastM, IsIn, IsOutside, MeetsOutside}
-use Rattle.commonware_faults.specs.SubsetSizes.{size-le-shared, size-places, shared-places, length-passing}
+use Rattle.commonware_faults.specs.Subsets.{size, shared, places, Overlap, OverlapAtLeast, GreatestFor, Greatest3}
+use Rattle.commonware_faults.specs.Subsets.{Greatest5, LeastM, IsIn, IsOutside, MeetsOutside}
+use Rattle.commonware_faults.specs.SubsetSizeLaws.{size-le-shared, size-places, shared-places, length-passing}
 
 -- sub-sets of sizes a and b share at least a + b - n
 pub Overlap-by_size : (n a b k : ℕ) → k + n ≤ a + b → Overlap n a b k
@@ -18,39 +20,17 @@ Overlap-at_ends n a b k below_a below_b h =
     let last = places n (n - b) n in
     let size_first : size first ≡ a = omega (arith, size-places n 0 a) in
     let size_last : size last ≡ b = omega (arith, size-places n (n - b) n) in
-    omega (arith, h.shares first last (length-passing _ n) (length-passing _ n) size_first size_last, shared-places n 0 a (n - b) n)
+    omega (
+      arith,
+      h.shares first last (length-passing _ n) (length-passing _ n) size_first size_last,
+      shared-places n 0 a (n - b) n,
+    )
 
 -- what overlaps at two sizes overlaps at greater ones
 pub Overlap-at_least : (n a b k : ℕ) → a ≤ n → b ≤ n → Overlap n a b k → OverlapAtLeast n a b k
 Overlap-at_least n a b k below_a below_b h = record {
   shares = λ xs ys l m s t. omega (arith, Overlap-at_ends n a b k below_a below_b h, size-le-shared xs ys (l ∙ sym m));
 }
-
--- there is one greatest f
-GreatestFor-unique : (needed : ℕ → ℕ) (n f g : ℕ) → GreatestFor needed n f → GreatestFor needed n g → f ≡ g
-GreatestFor-unique needed n f g h k =
-    elim (cases_order f g) [
-      | inl same ↦ same
-      | inr (inl less) ↦ absurd (h.greatest g less k.at_most k.overlaps)
-      | inr (inr more) ↦ absurd (k.greatest f more h.at_most h.overlaps)
-    ]
-
--- there is one greatest f for which two sub-sets share f + 1
-pub Greatest3-unique : (n f g : ℕ) → Greatest3 n f → Greatest3 n g → f ≡ g
-Greatest3-unique = GreatestFor-unique (λ g. g + 1)
-
--- there is one greatest f for which two sub-sets share 3f + 1
-pub Greatest5-unique : (n f g : ℕ) → Greatest5 n f → Greatest5 n g → f ≡ g
-Greatest5-unique = GreatestFor-unique (λ g. 3 * g + 1)
-
--- there is one least m
-pub LeastM-unique : (n f m k : ℕ) → LeastM n f m → LeastM n f k → m ≡ k
-LeastM-unique n f m k h j =
-    elim (cases_order m k) [
-      | inl same ↦ same
-      | inr (inl less) ↦ absurd (j.least m less h.overlaps)
-      | inr (inr more) ↦ absurd (h.least k more j.overlaps)
-    ]
 
 -- the greatest f with 3f + 1 up to n is the greatest f by counting
 pub Greatest3-by_thirds : (n f : ℕ) → 3 * f + 1 ≤ n → n < 3 * f + 4 → Greatest3 n f
@@ -65,7 +45,8 @@ pub Greatest5-by_fifths : (n f : ℕ) → 5 * f + 1 ≤ n → n < 5 * f + 6 → 
 Greatest5-by_fifths n f low high = record {
   at_most = omega arith;
   overlaps = Overlap-by_size n (n - f) (n - f) (3 * f + 1) (omega arith);
-  greatest = λ g above within h. omega (arith, Overlap-at_ends n (n - g) (n - g) (3 * g + 1) (omega arith) (omega arith) h);
+  greatest =
+      λ g above within h. omega (arith, Overlap-at_ends n (n - g) (n - g) (3 * g + 1) (omega arith) (omega arith) h);
 }
 
 -- n is below what the next greater f asks for
@@ -98,7 +79,8 @@ pub LeastM-shares : (n f m : ℕ) → f ≤ n → LeastM n f m → OverlapAtLeas
 LeastM-shares n f m within h = Overlap-at_least n (n - f) m (f + 1) (omega arith) h.at_most h.overlaps
 
 -- a sub-set with more members than another has one outside it
-pub beyond : (large small : List Bool) → length large ≡ length small → size small < size large → (p : ℕ) × IsIn large p × IsOutside small p
+pub beyond : (large small : List Bool) → length large ≡ length small → size small < size large
+    → (p : ℕ) × IsIn large p × IsOutside small p
 beyond [] [] e h = absurd (omega arith)
 beyond [] (y ∷ ys) e h = absurd (omega arith)
 beyond (x ∷ xs) [] e h = absurd (omega arith)
@@ -154,7 +136,8 @@ MeetsOutside-by_overlap n q f within h = record {
 
 -- where 3f + 1 is up to n, two sub-sets of n - f share a position outside any f
 pub MeetsOutside-by_thirds : (n f : ℕ) → 3 * f + 1 ≤ n → MeetsOutside n (n - f) f
-MeetsOutside-by_thirds n f h = MeetsOutside-by_overlap n (n - f) f (omega arith) (Overlap-by_size n (n - f) (n - f) (f + 1) (omega arith))
+MeetsOutside-by_thirds n f h =
+    MeetsOutside-by_overlap n (n - f) f (omega arith) (Overlap-by_size n (n - f) (n - f) (f + 1) (omega arith))
 
 -- the number of `N3f1` is the greatest f
 pub n3f1_greatest : (n : ℕ) → 1 ≤ n → Greatest3 n ((n - 1) / 3)

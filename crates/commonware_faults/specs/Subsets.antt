@@ -1,5 +1,6 @@
 -- Sub-sets of n positions, and what two of them share. A sub-set is a list of n truth values.
-use Rattle.std.specs.Prelude.{◌≡◌, ℕ, suc, ◌+◌, ◌-◌, ◌*◌, ◌<◌, ◌≤◌, Bool, true, false, ◌&&◌, nat_le, nat_lt, Some, slice_get, List, [], ◌∷◌, length, map}
+use Rattle.std.specs.Prelude.{◌≡◌, ℕ, suc, ◌+◌, ◌-◌, ◌*◌, ◌<◌, ◌≤◌, Bool, true, false, ◌&&◌, nat_le, nat_lt, Some}
+use Rattle.std.specs.Prelude.{slice_get, List, [], ◌∷◌, length, map}
 use Rattle.std.specs.List.{range_with_len}
 
 -- the size of a sub-set: how many of its truth values are true
@@ -18,11 +19,13 @@ shared (false ∷ rest) (y ∷ others) = shared rest others
 
 -- every sub-set of n positions of size a and every one of size b share at least k
 pub record Overlap (n a b k : ℕ) : Type 0 where
-  pub shares : (first second : List Bool) → length first ≡ n → length second ≡ n → size first ≡ a → size second ≡ b → k ≤ shared first second
+  pub shares : (first second : List Bool) → length first ≡ n → length second ≡ n → size first ≡ a → size second ≡ b
+      → k ≤ shared first second
 
 -- every sub-set of at least a of n positions and every one of at least b share at least k
 pub record OverlapAtLeast (n a b k : ℕ) : Type 0 where
-  pub shares : (first second : List Bool) → length first ≡ n → length second ≡ n → a ≤ size first → b ≤ size second → k ≤ shared first second
+  pub shares : (first second : List Bool) → length first ≡ n → length second ≡ n → a ≤ size first → b ≤ size second
+      → k ≤ shared first second
 
 -- f is the greatest number, up to n, for which any two sub-sets of n - f share at least `needed f`
 pub record GreatestFor (needed : ℕ → ℕ) (n f : ℕ) : Type 0 where
@@ -54,7 +57,8 @@ IsOutside subset p = slice_get subset p ≡ Some false
 
 -- two sub-sets of at least q of n positions share a position outside any sub-set of at most f
 pub record MeetsOutside (n q f : ℕ) : Type 0 where
-  pub meets : (first second faulty : List Bool) → length first ≡ n → length second ≡ n → length faulty ≡ n → q ≤ size first → q ≤ size second → size faulty ≤ f → (p : ℕ) × IsIn first p × IsIn second p × IsOutside faulty p
+  pub meets : (first second faulty : List Bool) → length first ≡ n → length second ≡ n → length faulty ≡ n
+      → q ≤ size first → q ≤ size second → size faulty ≤ f → (p : ℕ) × IsIn first p × IsIn second p × IsOutside faulty p
 
 -- the sub-set of the n positions that pass a test
 abbrev pub passing : (ℕ → Bool) → ℕ → List Bool

@@ -1,8 +1,9 @@
 //! Fault models of consensus: how many of n participants may be faulty, and how many make a quorum.
 //!
-//! A model answers for every number of participants from 1 to `u32::MAX`, given as a whole number of any type. No call
-//! takes memory. What the numbers of `N3f1` and `N5f1` mean is said by counting: of any two sub-sets of the participants
-//! of such a size, how many participants do they share?
+//! A model answers for every number of participants from 1 to `u32::MAX`, given as a whole number
+//! of any type. No call takes memory. What the numbers of `N3f1` and `N5f1` mean is said by
+//! counting: of any two sub-sets of the participants of such a size, how many participants do they
+//! share?
 ghost use Rattle.std.specs.Prelude.{◌≡◌, ℕ, ◌+◌, ◌-◌, ◌*◌, ◌/◌, ◌^◌, ◌<◌, ◌≤◌};
 ghost use Rattle.std.proofs.Common.{arith};
 ghost use Rattle.commonware_faults.specs.Counts.{IsCommitteeSize, GreatestFit, amount};
@@ -21,7 +22,8 @@ pub trait Faults {
         ensures faults { result ≡ faults (amount (N.number n)) }
         ensures at_most { result ≤ amount (N.number n) };
 
-    /// How many of `n` participants make a quorum: all but as many as may be faulty. `n` is from 1 to `u32::MAX`.
+    /// How many of `n` participants make a quorum: all but as many as may be faulty. `n` is from 1
+    /// to `u32::MAX`.
     fn quorum<N: Count>(n: N) -> u32
         requires { IsCommitteeSize (N.number n) }
         ensures { result + faults (amount (N.number n)) ≡ amount (N.number n) }
@@ -34,8 +36,8 @@ pub trait Faults {
     ghost at_most: { (n : ℕ) → 1 ≤ n → n < 2 ^ 32 → faults n ≤ n };
 }
 
-/// The model that needs `n >= 3f + 1` participants for f faults: any two quorums share one that isn't faulty. Among 6
-/// participants one may be faulty and 5 are a quorum; among 100, 33 and 67.
+/// The model that needs `n >= 3f + 1` participants for f faults: any two quorums share one that
+/// isn't faulty. Among 6 participants one may be faulty and 5 are a quorum; among 100, 33 and 67.
 #[derive(Clone, Copy, Debug, Default, PartialEq, Eq)]
 pub struct N3f1;
 
@@ -44,8 +46,8 @@ impl Faults for N3f1 {
 
     ghost at_most = { λ n h k. Prim.omega arith };
 
-    /// The greatest f for which `3f + 1` is at most `n`, which is the greatest f for which any two sub-sets of n - f
-    /// participants share at least f + 1. `n` is from 1 to `u32::MAX`.
+    /// The greatest f for which `3f + 1` is at most `n`, which is the greatest f for which any two
+    /// sub-sets of n - f participants share at least f + 1. `n` is from 1 to `u32::MAX`.
     fn max_faults<N: Count>(n: N) -> u32
         requires { IsCommitteeSize (N.number n) }
         ensures faults { result ≡ (amount (N.number n) - 1) / 3 }
@@ -58,8 +60,8 @@ impl Faults for N3f1 {
         (total - 1) / 3
     }
 
-    /// All but `max_faults(n)`. Two quorums share a participant outside any sub-set of at most so many. `n` is from 1 to
-    /// `u32::MAX`.
+    /// All but `max_faults(n)`. Two quorums share a participant outside any sub-set of at most so
+    /// many. `n` is from 1 to `u32::MAX`.
     fn quorum<N: Count>(n: N) -> u32
         requires { IsCommitteeSize (N.number n) }
         ensures value { result + (amount (N.number n) - 1) / 3 ≡ amount (N.number n) }
@@ -70,8 +72,9 @@ impl Faults for N3f1 {
     }
 }
 
-/// The model that needs `n >= 5f + 1` participants for f faults, with a larger and a smaller quorum. Among 10 participants
-/// one may be faulty, 9 are the larger quorum and 3 the smaller one; among 100, 19, 81 and 39.
+/// The model that needs `n >= 5f + 1` participants for f faults, with a larger and a smaller
+/// quorum. Among 10 participants one may be faulty, 9 are the larger quorum and 3 the smaller one;
+/// among 100, 19, 81 and 39.
 #[derive(Clone, Copy, Debug, Default, PartialEq, Eq)]
 pub struct N5f1;
 
@@ -80,8 +83,8 @@ impl Faults for N5f1 {
 
     ghost at_most = { λ n h k. Prim.omega arith };
 
-    /// The greatest f for which `5f + 1` is at most `n`, which is the greatest f for which any two sub-sets of n - f
-    /// participants share at least 3f + 1. `n` is from 1 to `u32::MAX`.
+    /// The greatest f for which `5f + 1` is at most `n`, which is the greatest f for which any two
+    /// sub-sets of n - f participants share at least 3f + 1. `n` is from 1 to `u32::MAX`.
     fn max_faults<N: Count>(n: N) -> u32
         requires { IsCommitteeSize (N.number n) }
         ensures faults { result ≡ (amount (N.number n) - 1) / 5 }
@@ -94,8 +97,8 @@ impl Faults for N5f1 {
         (total - 1) / 5
     }
 
-    /// All but `max_faults(n)`. Two quorums share a participant outside any sub-set of at most so many. `n` is from 1 to
-    /// `u32::MAX`.
+    /// All but `max_faults(n)`. Two quorums share a participant outside any sub-set of at most so
+    /// many. `n` is from 1 to `u32::MAX`.
     fn quorum<N: Count>(n: N) -> u32
         requires { IsCommitteeSize (N.number n) }
         ensures value { result + (amount (N.number n) - 1) / 5 ≡ amount (N.number n) }
@@ -115,8 +118,8 @@ impl N5f1 {
         Self::quorum(n)
     }
 
-    /// The smaller quorum of `n` participants, `2f + 1` for f faults: the least size whose sub-sets share at least f + 1
-    /// participants with each larger quorum. `n` is from 1 to `u32::MAX`.
+    /// The smaller quorum of `n` participants, `2f + 1` for f faults: the least size whose sub-sets
+    /// share at least f + 1 participants with each larger quorum. `n` is from 1 to `u32::MAX`.
     pub fn m_quorum<N: Count>(n: N) -> u32
         requires { IsCommitteeSize (N.number n) }
         ensures value { result ≡ 2 * ⟦<N5f1 as Faults>⟧.faults (amount (N.number n)) + 1 }

@@ -1,5 +1,5 @@
-//! Fault models of consensus: how many of n participants may be faulty, how many make a quorum, and what that means of
-//! the sub-sets of the participants.
+//! Fault models of consensus: how many of n participants may be faulty, how many make a quorum, and
+//! what that means of the sub-sets of the participants.
 #![tactic(auto)]
 
 mod count;

@@ -10,7 +10,8 @@ use Rattle.std.proofs.lemmas.List.Elements.{length_all_zip}
 use Rattle.std.proofs.lemmas.Option.{same_Some}
 use Rattle.std.proofs.lemmas.Map.Entries.{length-keys_of}
 use Rattle.std.proofs.lemmas.Map.Made.{keys_of-zip}
-use Rattle.commonware_base.specs.Calls.{CallableAlong, CallsGiveAll, CallsSoFar, length_answers, takes_next}
+use Rattle.commonware_base.specs.Calls.{CallableAlong, CallsGiveAll}
+use Rattle.commonware_base.specs.CallLaws.{CallsSoFar, length_answers, takes_next}
 use Rattle.commonware_map.proofs.Columns.{values_of-zip}
 use Rattle.commonware_map.specs.ValueMaps.{IsFirstError, TakesRefs}
 

@@ -1,7 +1,7 @@
 pub mod Lends
-pub mod Lookups
+pub mod LookupLaws
 pub mod MapLaws
 pub mod Maps
+pub mod PairLaws
 pub mod Pairs
-pub mod SetValues
 pub mod ValueMaps

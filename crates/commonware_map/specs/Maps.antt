@@ -18,7 +18,8 @@ map_enc key_enc value_enc m = sequence_enc (list_enc key_enc) (list_enc value_en
 
 -- The keys can be written as a set, and the values as a list.
 abbrev pub IsWritableMap : {K V : Type 0} → (K → Type 0) → (K → K → Ordering) → (V → Type 0) → List (K × V) → Type 0
-IsWritableMap KeyWritable cmp ValueWritable m = IsWritableSequence (IsWritableSet KeyWritable cmp) (IsWritableList ValueWritable) (columns m)
+IsWritableMap KeyWritable cmp ValueWritable m =
+    IsWritableSequence (IsWritableSet KeyWritable cmp) (IsWritableList ValueWritable) (columns m)
 
 -- as many values as keys, and each is allowed
 abbrev pub AreAllowedValues : {K V : Type 0} → (V → Type 0) → List K → List V → Type 0
@@ -26,11 +27,17 @@ AreAllowedValues ValueAllowed keys = IsAllowedList (exactly (length keys)) Value
 
 -- The length is in the range, and each key and each value is allowed.
 abbrev pub IsAllowedMap : {K V : Type 0} → Bounds ℕ → (K → Type 0) → (V → Type 0) → List (K × V) → Type 0
-IsAllowedMap range KeyAllowed ValueAllowed m = IsAllowedSequence (IsAllowedList range KeyAllowed) (AreAllowedValues ValueAllowed) (columns m)
+IsAllowedMap range KeyAllowed ValueAllowed m =
+    IsAllowedSequence (IsAllowedList range KeyAllowed) (AreAllowedValues ValueAllowed) (columns m)
 
--- The first fault of a text that should begin with a map: that of the keys as a set; then, where there is none, that of the values as a list of as many.
-abbrev pub MapFault : {K V : Type 0} (key_enc : K → List ℕ) (KeyWritable : K → Type 0) (cmp : K → K → Ordering) (KeyAllowed : K → Type 0) (key_fault : List ℕ → Fault → Type 0)
-    (value_enc : V → List ℕ) (ValueWritable ValueAllowed : V → Type 0) (value_fault : List ℕ → Fault → Type 0) → Bounds ℕ → List ℕ → Fault → Type 0
+-- The first fault of a text that should begin with a map: that of the keys as a set; then, where there is none, that of
+-- the values as a list of as many.
+abbrev pub MapFault :
+    {K V : Type 0} (key_enc : K → List ℕ) (KeyWritable : K → Type 0) (cmp : K → K → Ordering) (KeyAllowed : K → Type 0)
+    (key_fault : List ℕ → Fault → Type 0)
+    (value_enc : V → List ℕ) (ValueWritable ValueAllowed : V → Type 0) (value_fault : List ℕ → Fault → Type 0)
+    → Bounds ℕ → List ℕ → Fault → Type 0
 MapFault key_enc KeyWritable cmp KeyAllowed key_fault value_enc ValueWritable ValueAllowed value_fault range =
-    SequenceFault (list_enc key_enc) (IsWritableSet KeyWritable cmp) (IsAllowedList range KeyAllowed) (SetFault key_enc KeyWritable cmp KeyAllowed key_fault range)
+    SequenceFault (list_enc key_enc) (IsWritableSet KeyWritable cmp) (IsAllowedList range KeyAllowed)
+    (SetFault key_enc KeyWritable cmp KeyAllowed key_fault range)
     (λ keys. ListFault value_enc ValueWritable ValueAllowed value_fault (exactly (length keys)))

@@ -1,20 +1,20 @@
--- Equality of lists of pairs, and the text of a pair.
-use Rattle.std.specs.Prelude.{◌≡◌, ℕ, Bool, true, false, ◌&&◌, List, [], ◌∷◌, Option, Some, codes, refl}
+-- Pairs that are compared by their keys or by both parts, equality of lists of them, and the text of a pair.
+use Rattle.std.specs.Prelude.{ℕ, Bool, ◌&&◌, List, Option, Some, codes}
 use Rattle.std.specs.Cmp.Lexicographic.{pointwise}
 use Rattle.std.specs.Fmt.{◌++?◌}
-use Rattle.std.specs.Map.{keys_of, values_of}
-use Rattle.std.specs.Hash.{HashWrites, slice, and-Alike, on_Alike, items_Alike}
-use Rattle.std.proofs.Common.{ap, subst, ◌∙◌, ◌++◌, IsTrue}
+use Rattle.std.proofs.Common.{◌++◌}
+
+-- what is said of two keys, said of two pairs by their keys
+abbrev pub on_keys : {K V R : Type 0} → (K → K → R) → K × V → K × V → R
+on_keys of_keys p q = of_keys p.0 q.0
+
+-- one thing is true of the keys of two pairs, and another of their values
+abbrev pub on_both : {K V : Type 0} → (K → K → Type 0) → (V → V → Type 0) → K × V → K × V → Type 0
+on_both of_keys of_values p q = of_keys p.0 q.0 × of_values p.1 q.1
 
 -- `(k, v)`, where both texts are known
 abbrev pub pair_text : Option (List ℕ) → Option (List ℕ) → Option (List ℕ)
 pair_text key value = Some (codes "(") ++? key ++? Some (codes ", ") ++? value ++? Some (codes ")")
-
-and_regroup : (a b c d : Bool) → ((a && b) && (c && d)) ≡ ((a && c) && (b && d))
-and_regroup true true c d = refl
-and_regroup true false true d = refl
-and_regroup true false false d = refl
-and_regroup false b c d = refl
 
 module _ {K V : Type 0} (key_eq : K → K → Bool) (value_eq : V → V → Bool) where
   -- both parts are equal
@@ -24,23 +24,3 @@ module _ {K V : Type 0} (key_eq : K → K → Bool) (value_eq : V → V → Bool
   -- as many pairs, equal place by place
   abbrev pub are_equal_pairs : List (K × V) → List (K × V) → Bool
   are_equal_pairs = pointwise is_equal_pair
-
-  -- lists of pairs are equal where their first parts are and their second parts are
-  pub equal_by_parts : (es fs : List (K × V)) → are_equal_pairs es fs ≡ (pointwise key_eq (keys_of es) (keys_of fs) && pointwise value_eq (values_of es) (values_of fs))
-  equal_by_parts [] [] = refl
-  equal_by_parts [] (f ∷ fs) = refl
-  equal_by_parts (e ∷ es) [] = refl
-  equal_by_parts (e ∷ es) (f ∷ fs) =
-      ap (λ b. is_equal_pair e f && b) (equal_by_parts es fs)
-      ∙ and_regroup (key_eq e.0 f.0) (value_eq e.1 f.1) (pointwise key_eq (keys_of es) (keys_of fs)) (pointwise value_eq (values_of es) (values_of fs))
-
-  -- equal lists of pairs feed a hasher alike, keys first
-  pub pairs_respect_eq : (F : K → HashWrites) (G : V → HashWrites) → ((x y : K) → IsTrue (key_eq x y) → F x ≡ F y) → ((x y : V) → IsTrue (value_eq x y) → G x ≡ G y) → (es fs : List (K × V)) → IsTrue (are_equal_pairs es fs)
-      → (slice F (keys_of es) ++ slice G (values_of es)) ≡ (slice F (keys_of fs) ++ slice G (values_of fs))
-  pairs_respect_eq F G f g es fs h =
-      (and-Alike (on_Alike keys_of (items_Alike (record { fed = f }))) (on_Alike values_of (items_Alike (record { fed = g })))).fed es fs
-      (subst IsTrue (equal_by_parts es fs) h)
-
-  -- pairs of clones are equal
-  pub both_equal : (C : K → K → Type 0) (D : V → V → Type 0) → ((x y : K) → C x y → key_eq x y ≡ true) → ((x y : V) → D x y → value_eq x y ≡ true) → (p q : K × V) → C p.0 q.0 × D p.1 q.1 → is_equal_pair p q ≡ true
-  both_equal C D each_key each_value p q h = λ i. each_key p.0 q.0 h.0 i && each_value p.1 q.1 h.1 i

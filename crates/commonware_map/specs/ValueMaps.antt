@@ -8,7 +8,8 @@ use Rattle.commonware_map.specs.declared.map_error.MapError.{MapError}
 use Rattle.commonware_map.specs.declared.map_error.MapError.TheVariants.{Memory, Closure}
 
 -- A call of f at references to the key and the value of a pair answered r and left f'.
-pub record CalledAtRefs {F K V R : Type 0} (calls : Mut F (Bor K × (Bor V × Unit {0})) R) (f : F) (pair : K × V) (r : R) (f' : F) : Type 0 where
+pub record CalledAtRefs {F K V R : Type 0} (calls : Mut F (Bor K × (Bor V × Unit {0})) R) (f : F) (pair : K × V) (r : R)
+    (f' : F) : Type 0 where
   pub key : Bor K
   pub value : Bor V
   pub key_is : key.now ≡ pair.0
@@ -16,21 +17,24 @@ pub record CalledAtRefs {F K V R : Type 0} (calls : Mut F (Bor K × (Bor V × Un
   pub called : Called calls f (key, (value, tt)) r f'
 
 -- A call of f at a reference to the key of a pair and at its value answered r and left f'.
-pub record CalledAtPair {F K V R : Type 0} (calls : Mut F (Bor K × (V × Unit {0})) R) (f : F) (pair : K × V) (r : R) (f' : F) : Type 0 where
+pub record CalledAtPair {F K V R : Type 0} (calls : Mut F (Bor K × (V × Unit {0})) R) (f : F) (pair : K × V) (r : R)
+    (f' : F) : Type 0 where
   pub key : Bor K
   pub key_is : key.now ≡ pair.0
   pub called : Called calls f (key, (pair.1, tt)) r f'
 
 -- f may be called at references to the key and the value of a pair.
 abbrev pub TakesRefs : {F K V R : Type 0} → Mut F (Bor K × (Bor V × Unit {0})) R → F → K × V → Type 0
-TakesRefs {F} {K} {V} calls f pair = (key : Bor K) → (value : Bor V) → key.now ≡ pair.0 → value.now ≡ pair.1 → Takes calls f (key, (value, tt))
+TakesRefs {F} {K} {V} calls f pair = (key : Bor K) → (value : Bor V) → key.now ≡ pair.0 → value.now ≡ pair.1
+    → Takes calls f (key, (value, tt))
 
 -- f may be called at a reference to the key of a pair and at its value.
 abbrev pub TakesPair : {F K V R : Type 0} → Mut F (Bor K × (V × Unit {0})) R → F → K × V → Type 0
 TakesPair {F} {K} calls f pair = (key : Bor K) → key.now ≡ pair.0 → Takes calls f (key, (pair.1, tt))
 
 -- The calls at the first of xs answered `Ok`, and the one after them answered the error e.
-pub record IsFirstError {F X R E : Type 0} (step : F → X → Result R E → F → Type 0) (f : F) (xs : List X) (e : E) : Type 0 where
+pub record IsFirstError {F X R E : Type 0} (step : F → X → Result R E → F → Type 0) (f : F) (xs : List X) (e : E) :
+    Type 0 where
   pub before : List X
   pub at : X
   pub after : List X

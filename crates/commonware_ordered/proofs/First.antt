@@ -27,15 +27,6 @@ module _ {X : Type 0} (p : X → Bool) where
       go rest true e g = subst (λ z. p z ≡ true) (same_Some x y g) e
       go rest false e g = rest g
 
-  -- what is found is an item
-  pub found_is_in : (xs : List X) (y : X) → find p xs ≡ Some y → Contains xs y
-  found_is_in [] y f = cc
-  found_is_in (x ∷ xs) y f = go (found_is_in xs y) (p x) f
-    where
-      go : (find p xs ≡ Some y → Contains xs y) → (b : Bool) → cond b (Some x) (find p xs) ≡ Some y → Contains (x ∷ xs) y
-      go rest true g = subst (Contains (x ∷ xs)) (same_Some x y g) (contains_head x xs)
-      go rest false g = Contains-append_right (x ∷ []) xs y (rest g)
-
   -- where an item passes, one is found
   pub found_if_passes : (xs : List X) (y : X) → Contains xs y → p y ≡ true → find p xs ≡ None → ⊥
   found_if_passes [] y h t n = omega arith

@@ -20,4 +20,5 @@ HaveSameItems {T} eq xs ys = (x : T) → list_any (eq x) xs ≡ list_any (eq x) 
 
 -- r, which is the set of l, equals the set of another list exactly where l and that list hold the same items
 abbrev pub EqualsSameItems : {T : Type 0} → (T → T → Bool) → (T → T → Ordering) → List T → List T → Type 0
-EqualsSameItems {T} eq cmp l r = (other set : List T) → IsDedup eq cmp other set → IsTrue (pointwise eq r set) ↔ HaveSameItems eq l other
+EqualsSameItems {T} eq cmp l r = (other set : List T) → IsDedup eq cmp other set
+    → IsTrue (pointwise eq r set) ↔ HaveSameItems eq l other

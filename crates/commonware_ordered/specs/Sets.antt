@@ -12,7 +12,8 @@ pub record IsWritableSet {T : Type 0} (Writable : T → Type 0) (cmp : T → T �
   pub strict : IsStrict cmp items
 
 -- The text begins with a writable, allowed list that isn't strict.
-pub record BeginsUnsorted {T : Type 0} (enc : T → List ℕ) (Writable : T → Type 0) (cmp : T → T → Ordering) (Allowed : T → Type 0) (range : Bounds ℕ) (text : List ℕ) : Type 0 where
+pub record BeginsUnsorted {T : Type 0} (enc : T → List ℕ) (Writable : T → Type 0) (cmp : T → T → Ordering)
+    (Allowed : T → Type 0) (range : Bounds ℕ) (text : List ℕ) : Type 0 where
   pub items : List T
   pub rest : List ℕ
   pub begins : text ≡ list_enc enc items ++ rest
@@ -24,10 +25,15 @@ pub record BeginsUnsorted {T : Type 0} (enc : T → List ℕ) (Writable : T → 
 abbrev pub unsorted_fault : Fault
 unsorted_fault = Invalid (codes "Set") (codes "items must be sorted and unique")
 
--- The first fault of a text that should begin with a set: that of the list; then, where there is none, that the list isn't strict.
-pub data SetFault {T : Type 0} (enc : T → List ℕ) (Writable : T → Type 0) (cmp : T → T → Ordering) (Allowed : T → Type 0) (item_fault : List ℕ → Fault → Type 0) (range : Bounds ℕ) (text : List ℕ) (fault : Fault) : Type 0 where
-  bad_list : ListFault enc Writable Allowed item_fault range text fault → SetFault enc Writable cmp Allowed item_fault range text fault
-  bad_order : fault ≡ unsorted_fault → BeginsUnsorted enc Writable cmp Allowed range text → SetFault enc Writable cmp Allowed item_fault range text fault
+-- The first fault of a text that should begin with a set: that of the list; then, where there is none, that the list
+-- isn't strict.
+pub data SetFault {T : Type 0} (enc : T → List ℕ) (Writable : T → Type 0) (cmp : T → T → Ordering)
+    (Allowed : T → Type 0) (item_fault : List ℕ → Fault → Type 0) (range : Bounds ℕ) (text : List ℕ) (fault : Fault) :
+    Type 0 where
+  bad_list : ListFault enc Writable Allowed item_fault range text fault
+      → SetFault enc Writable cmp Allowed item_fault range text fault
+  bad_order : fault ≡ unsorted_fault → BeginsUnsorted enc Writable cmp Allowed range text
+      → SetFault enc Writable cmp Allowed item_fault range text fault
 
 -- The cuts at which a text that should begin with a set can be faulty.
 pub data SetCut : Type 0 where
@@ -35,6 +41,9 @@ pub data SetCut : Type 0 where
   at_order : SetCut
 
 -- the cut of a fault
-abbrev pub set_cut : {T : Type 0} {enc : T → List ℕ} {Writable : T → Type 0} {cmp : T → T → Ordering} {Allowed : T → Type 0} {item_fault : List ℕ → Fault → Type 0} {range : Bounds ℕ} {text : List ℕ} {fault : Fault} → SetFault enc Writable cmp Allowed item_fault range text fault → SetCut
+abbrev pub set_cut :
+    {T : Type 0} {enc : T → List ℕ} {Writable : T → Type 0} {cmp : T → T → Ordering} {Allowed : T → Type 0}
+    {item_fault : List ℕ → Fault → Type 0} {range : Bounds ℕ} {text : List ℕ} {fault : Fault}
+    → SetFault enc Writable cmp Allowed item_fault range text fault → SetCut
 set_cut (bad_list w) = at_list
 set_cut (bad_order same w) = at_order

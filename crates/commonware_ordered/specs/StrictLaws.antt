@@ -1,4 +1,5 @@
--- Strict order can be told of every list, lists of equal items share it, and it puts each item below all that follow it.
+-- Strict order can be told of every list, lists of equal items share it, and it puts each item below all that follow
+-- it.
 use Rattle.std.specs.Prelude.{◌≡◌, zero, suc, ◌+◌, ◌⊎◌, Bool, true, List, [], ◌∷◌, refl}
 use Rattle.std.specs.Cmp.{IsTotalOrder, Equal-is}
 use Rattle.std.specs.Cmp.Lexicographic.{pointwise}
@@ -38,7 +39,8 @@ module _ {T : Type 0} (cmp : T → T → Ordering) where
   strict_or_not (x ∷ []) = inl (λ k d high. absurd (omega arith))
   strict_or_not (x ∷ y ∷ l) = elim (less_or_not (cmp x y)) [
     | inr n ↦ inr (λ s. n (s 0 x (omega arith)))
-    | inl less ↦ elim (strict_or_not (y ∷ l)) [ inl s ↦ inl (strict_cons x y l less s) | inr n ↦ inr (λ s. n (strict_tail x (y ∷ l) s)) ]
+    | inl less ↦ elim (strict_or_not (y ∷ l))
+        [ inl s ↦ inl (strict_cons x y l less s) | inr n ↦ inr (λ s. n (strict_tail x (y ∷ l) s)) ]
   ]
 
   module _ (eq : T → T → Bool) (total : IsTotalOrder cmp) (matches_eq : (x y : T) → eq x y ≡ is_eq (cmp x y)) where
@@ -58,10 +60,12 @@ module _ {T : Type 0} (cmp : T → T → Ordering) where
         let q = and_parts (eq z w) (pointwise eq xs ys) p.1 in
         let a = level x y p.0 in
         let b = level z w q.0 in
-        strict_cons y w ys (sym (alike_right total z w y b) ∙ sym (total.congr x y z a) ∙ s 0 x (omega arith)) (strict_same (z ∷ xs) (w ∷ ys) p.1 (strict_tail x (z ∷ xs) s))
+        strict_cons y w ys (sym (alike_right total z w y b) ∙ sym (total.congr x y z a) ∙ s 0 x (omega arith))
+        (strict_same (z ∷ xs) (w ∷ ys) p.1 (strict_tail x (z ∷ xs) s))
 
 -- each item of a strict list is less than all that follow it
-pub sorted_from_strict : {T : Type 0} {cmp : T → T → Ordering} → IsTotalOrder cmp → (xs : List T) → IsStrict cmp xs → IsStrictlySortedBy cmp xs
+pub sorted_from_strict : {T : Type 0} {cmp : T → T → Ordering} → IsTotalOrder cmp → (xs : List T) → IsStrict cmp xs
+    → IsStrictlySortedBy cmp xs
 unfolding IsStrictlySortedBy
 sorted_from_strict total [] s = tt
 sorted_from_strict total (x ∷ xs) s = sorted_from_all_adjacent total (x ∷ xs) x (λ k h. s k x h)

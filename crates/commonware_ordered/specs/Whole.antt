@@ -9,7 +9,9 @@ use Rattle.commonware_ordered.specs.declared.error.Error.TheVariants.{DuplicateK
 
 -- two positions of l hold equal items
 abbrev pub HasEqualItems : {T : Type 0} → (T → T → Bool) → List T → Type 0
-HasEqualItems {T} eq l = (i : ℕ) × (j : ℕ) × (x : T) × (y : T) × (i < j) × (slice_get l i ≡ Some x) × (slice_get l j ≡ Some y) × IsTrue (eq x y)
+HasEqualItems {T} eq l =
+    (i : ℕ) × (j : ℕ) × (x : T) × (y : T) × (i < j) × (slice_get l i ≡ Some x) × (slice_get l j ≡ Some y)
+    × IsTrue (eq x y)
 
 -- Keys at `DuplicateKey`, Values at `DuplicateValue`; of want of memory nothing is said
 abbrev pub MatchError : Error → Type 0 → Type 0 → Type 0
@@ -30,9 +32,12 @@ abbrev pub IsWholeSet : {T : Type 0} → (T → T → Bool) → (T → T → Ord
 IsWholeSet eq cmp l result = MatchResult result (IsSetOfAll eq cmp l) (IsRefusedFor eq l)
 
 -- set has clones of all of l in order, and no two positions of l hold equal items
-abbrev pub IsSetOfClones : {T : Type 0} → (T → T → Bool) → (T → T → Ordering) → (T → T → Type 0) → List T → List T → Type 0
-IsSetOfClones {T} eq cmp Clone l set = (clones : List T) × AllZip Clone l clones × IsStrict cmp set × IsPermutation clones set × (¬ HasEqualItems eq l)
+abbrev pub IsSetOfClones : {T : Type 0} → (T → T → Bool) → (T → T → Ordering) → (T → T → Type 0) → List T → List T
+    → Type 0
+IsSetOfClones {T} eq cmp Clone l set =
+    (clones : List T) × AllZip Clone l clones × IsStrict cmp set × IsPermutation clones set × (¬ HasEqualItems eq l)
 
 -- the set of clones of all of l, or why there is none
-abbrev pub IsWholeSetOfClones : {T : Type 0} → (T → T → Bool) → (T → T → Ordering) → (T → T → Type 0) → List T → Result (List T) Error → Type 0
+abbrev pub IsWholeSetOfClones : {T : Type 0} → (T → T → Bool) → (T → T → Ordering) → (T → T → Type 0) → List T
+    → Result (List T) Error → Type 0
 IsWholeSetOfClones eq cmp Clone l result = MatchResult result (IsSetOfClones eq cmp Clone l) (IsRefusedFor eq l)

@@ -1,6 +1,8 @@
--- What was drawn of an iterator in order stands in the list that it had left. So at such an iterator the builders answer
+-- What was drawn of an iterator in order stands in the list that it had left. So at such an iterator the builders
+-- answer
 -- what they answer for that list, however far they read.
-use Rattle.std.specs.Prelude.{◌≡◌, ◌<◌, ℕ, Bool, Err, IfErr, IfOk, IfSome, List, Ok, Option, Result, Some, length, slice_get, slice_index_or, true}
+use Rattle.std.specs.Prelude.{◌≡◌, ◌<◌, ℕ, Bool, Err, IfErr, IfOk, IfSome, List, Ok, Option, Result, Some, length}
+use Rattle.std.specs.Prelude.{slice_get, slice_index_or, true}
 use Rattle.std.specs.Iterator.{Drains, DrainsIf}
 use Rattle.std.specs.Iterator.Runs.{Run, Trigger, YieldsInOrder, YieldsRun}
 use Rattle.std.specs.Option.{option_map}
@@ -12,7 +14,8 @@ use Rattle.commonware_ordered.specs.Whole.{HasEqualItems, IsRefusedFor, IsSetOfA
 use Rattle.commonware_ordered.specs.declared.error.Error.{Error}
 use Rattle.commonware_ordered.specs.declared.error.Error.TheVariants.{DuplicateKey, DuplicateValue, Memory}
 
-module _ {S A : Type 0} {steps : S → Option A → S → Type 0} (rest : S → List A) (in_order : YieldsInOrder steps rest) where
+module _ {S A : Type 0} {steps : S → Option A → S → Type 0} (rest : S → List A)
+    (in_order : YieldsInOrder steps rest) where
   -- the run of calls that gave xs
   run_of : (s : S) (xs : List A) (ended : Bool) → DrainsIf steps (ended ≡ true) s xs → Run steps
   unfolding YieldsRun Trigger
@@ -34,7 +37,8 @@ module _ {S A : Type 0} {steps : S → Option A → S → Type 0} (rest : S → 
   whole_list s xs d = (in_order (run_of s xs true (d.1.0, d.1.1, λ _. (d.0, d.1.2))) tt).4 refl
 
   -- each item that was drawn stands at its place in that list
-  pub drawn_stays : (s : S) (xs : List A) (ended : Bool) → DrainsIf steps (ended ≡ true) s xs → (k : ℕ) (x : A) → slice_get xs k ≡ Some x → slice_get (rest s) k ≡ Some x
+  pub drawn_stays : (s : S) (xs : List A) (ended : Bool) → DrainsIf steps (ended ≡ true) s xs → (k : ℕ) (x : A)
+      → slice_get xs k ≡ Some x → slice_get (rest s) k ≡ Some x
   unfolding Trigger run_of
   drawn_stays s xs ended d k x at =
       let said = in_order (run_of s xs ended d) tt in
@@ -43,12 +47,17 @@ module _ {S A : Type 0} {steps : S → Option A → S → Type 0} (rest : S → 
       slice_get-get_or (rest s) k x (omega (arith, said.0, within)) ∙ ap Some (sym same)
 
   -- equal items that were drawn are equal items of that list
-  pub equal_items_stay : (eq : A → A → Bool) (s : S) (xs : List A) (ended : Bool) → DrainsIf steps (ended ≡ true) s xs → HasEqualItems eq xs → HasEqualItems eq (rest s)
-  equal_items_stay eq s xs ended d (i, j, x, y, before, at, later, same) = (i, j, x, y, before, drawn_stays s xs ended d i x at, drawn_stays s xs ended d j y later, same)
+  pub equal_items_stay : (eq : A → A → Bool) (s : S) (xs : List A) (ended : Bool) → DrainsIf steps (ended ≡ true) s xs
+      → HasEqualItems eq xs → HasEqualItems eq (rest s)
+  equal_items_stay eq s xs ended d (i, j, x, y, before, at, later, same) =
+      (i, j, x, y, before, drawn_stays s xs ended d i x at, drawn_stays s xs ended d j y later, same)
 
 -- where each iterator that is made of given is in order and has l left, what is answered for given is answered for l
-pub whole_set_of_list : {S A Given : Type 0} {steps : S → Option A → S → Type 0} (rest : S → List A) (becomes : Given → S → Type 0) (given : Given) (l : List A) (eq : A → A → Bool) (cmp : A → A → Ordering) (r : Result (List A) Error)
-    → IfOk r (λ set. TakesAll becomes steps given (λ xs. IsSetOfAll eq cmp xs set)) → IfErr r (λ e. TakesSome becomes steps given (λ xs ended. IsRefusedFor eq xs e))
+pub whole_set_of_list :
+    {S A Given : Type 0} {steps : S → Option A → S → Type 0} (rest : S → List A) (becomes : Given → S → Type 0)
+    (given : Given) (l : List A) (eq : A → A → Bool) (cmp : A → A → Ordering) (r : Result (List A) Error)
+    → IfOk r (λ set. TakesAll becomes steps given (λ xs. IsSetOfAll eq cmp xs set))
+    → IfErr r (λ e. TakesSome becomes steps given (λ xs ended. IsRefusedFor eq xs e))
     → ((s : S) → becomes given s → (rest s ≡ l) × YieldsInOrder steps rest) → IsWholeSet eq cmp l r
 whole_set_of_list rest becomes given l eq cmp (Ok set) (s, xs, made, drained, whole) refused known =
     let k = known s made in subst (λ ys. IsSetOfAll eq cmp ys set) (whole_list rest k.1 s xs drained ∙ k.0) whole

@@ -9,7 +9,8 @@ use commonware_base::Participant;
 use commonware_faults::Faults;
 use std::alloc::Allocator;
 
-/// A committee: its members in order, each with the index that stands for it, and its numbers under a fault model.
+/// A committee: its members in order, each with the index that stands for it, and its numbers under
+/// a fault model.
 pub trait Quorum {
     /// What the members are.
     type Item: Ord;
@@ -31,8 +32,9 @@ pub trait Quorum {
     fn key(&self, index: Participant) -> Option<&Self::Item>
         ensures { IsItemAt (members self.now) index result };
 
-    /// The index of the member that equals `key`, or `None` where none does. All indices fit a `u32`: there are at most
-    /// 4294967296 members. The member at an index equals `key` exactly where the index is the one answered.
+    /// The index of the member that equals `key`, or `None` where none does. All indices fit a
+    /// `u32`: there are at most 4294967296 members. The member at an index equals `key` exactly
+    /// where the index is the one answered.
     fn index(&self, key: &Self::Item) -> Option<Participant>
         requires { length (members self.now) ≤ 2 ^ 32 }
         ensures place { IsPlaceOf Self.Item.eq (members self.now) key.now result }

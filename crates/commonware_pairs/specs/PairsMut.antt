@@ -29,8 +29,11 @@ module _ {K V : Type 0} where
 
 -- Each run of `next` lends what was left, in order.
 abbrev pub LendsInOrder : Type 0 → Type 0 → Type 0
-LendsInOrder K V = EveryRun (pairs_mut_steps {K = K} {V = V}) (λ run. ItemsMapTo run deref_pair_mut (pairs_mut_left run.from))
+LendsInOrder K V =
+    EveryRun (pairs_mut_steps {K = K} {V = V}) (λ run. ItemsMapTo run deref_pair_mut (pairs_mut_left run.from))
 
 -- Each run of `next_back` lends it in reverse.
 abbrev pub LendsInReverse : Type 0 → Type 0 → Type 0
-LendsInReverse K V = EveryRun (pairs_mut_steps_back {K = K} {V = V}) (λ run. ItemsMapToReversed run deref_pair_mut (pairs_mut_left run.from))
+LendsInReverse K V =
+    EveryRun (pairs_mut_steps_back {K = K} {V = V})
+    (λ run. ItemsMapToReversed run deref_pair_mut (pairs_mut_left run.from))

@@ -8,8 +8,8 @@ use std::alloc::Allocator;
 use std::marker::Model;
 use std::vec;
 
-/// The pairs of keys and the values beside them, as a map has them in the order of its keys, from both ends. It is seen
-/// as the list of the pairs that are left.
+/// The pairs of keys and the values beside them, as a map has them in the order of its keys, from
+/// both ends. It is seen as the list of the pairs that are left.
 #[derive(Drop)]
 pub struct MapIntoIter<K, V, A: Allocator> {
     keys: vec::IntoIter<K, A>,
@@ -28,7 +28,8 @@ impl<K, V, A: Allocator> Model for MapIntoIter<K, V, A> {
 }
 
 impl<K, V, A: Allocator> MapIntoIter<K, V, A> {
-    /// The pairs of keys and of the values at their positions, of which there have to be as many. It takes no memory.
+    /// The pairs of keys and of the values at their positions, of which there have to be as many.
+    /// It takes no memory.
     pub fn new(keys: Vec<K, A>, values: Vec<V, A>) -> Self
         requires { length values.items ≡ length keys.items }
         ensures { result ≡ zip keys.items values.items }

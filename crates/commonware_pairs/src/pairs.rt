@@ -7,8 +7,9 @@ ghost use Rattle.std.specs.Map.Iter.{TakesFirst, TakesLast, deref_pair};
 use std::marker::Model;
 use std::slice;
 
-/// The pairs of keys and the values beside them, as a map has them in the order of its keys, from both ends, each as a
-/// reference to the key and one to the value. It is seen as the list of the pairs that are left.
+/// The pairs of keys and the values beside them, as a map has them in the order of its keys, from
+/// both ends, each as a reference to the key and one to the value. It is seen as the list of the
+/// pairs that are left.
 #[derive(Drop)]
 pub struct Pairs<'a, K, V> {
     keys: slice::Iter<'a, K>,

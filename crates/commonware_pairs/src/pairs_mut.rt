@@ -6,8 +6,9 @@ ghost use Rattle.commonware_pairs.specs.PairsMut.{CanStep, pairs_mut_left, pairs
 
 use std::slice;
 
-/// The pairs of keys and the values beside them, as a map has them in the order of its keys, from both ends, each as a
-/// reference to the key and one to the value, through which the value is written. Keys stay as they are.
+/// The pairs of keys and the values beside them, as a map has them in the order of its keys, from
+/// both ends, each as a reference to the key and one to the value, through which the value is
+/// written. Keys stay as they are.
 #[derive(Drop)]
 pub struct PairsMut<'a, K, V> {
     keys: slice::Iter<'a, K>,

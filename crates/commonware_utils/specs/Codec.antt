@@ -1,7 +1,8 @@
 -- The words of `codec`: texts, faults, refusals, fronts, sources, ranges and lists; and the forms of bytes, words,
 -- numbers and sequences with their laws, which an item of a user's own cites.
-pub use Rattle.commonware_base.specs.Bytes.{byte, byte_canonical, byte_fault, byte_laws}
-pub use Rattle.commonware_base.specs.Bytes.{byte_length, byte_prefix_free}
+pub use Rattle.commonware_base.specs.Bytes.{byte, byte_fault}
+pub use Rattle.commonware_base.specs.ByteLaws.{byte_canonical, byte_laws}
+pub use Rattle.commonware_base.specs.ByteLaws.{byte_length, byte_prefix_free}
 pub use Rattle.commonware_base.specs.Fault.{EndOfBuffer, Fault, Invalid, InvalidLength}
 pub use Rattle.commonware_base.specs.Fault.{InvalidVarint}
 pub use Rattle.commonware_base.specs.FrontLaws.{list_fault_settled, list_memory_free_settled}
@@ -14,18 +15,19 @@ pub use Rattle.commonware_base.specs.Lists.{IsWritableList, list_enc}
 pub use Rattle.commonware_base.specs.Lists.{ListFault, bad_item, bad_length, bad_spelling}
 pub use Rattle.commonware_base.specs.Lists.{ListCut, at_item, at_length, at_spelling, list_cut}
 pub use Rattle.commonware_base.specs.Lists.{IsListMemoryFree, empty, first, outside, spelling}
-pub use Rattle.commonware_base.specs.MadeVec.{vec_of}
+pub use Rattle.commonware_base.specs.VecLaws.{vec_of}
 pub use Rattle.commonware_base.specs.Numbers.{NumberFault, misspelled, out_of_range}
-pub use Rattle.commonware_base.specs.Numbers.{number_canonical, number_laws, number_prefix_free}
-pub use Rattle.commonware_base.specs.Numbers.{varint_laws}
+pub use Rattle.commonware_base.specs.NumberLaws.{number_canonical, number_laws, number_prefix_free}
+pub use Rattle.commonware_base.specs.NumberLaws.{varint_laws}
 pub use Rattle.commonware_base.specs.Range.{Bounds, IsAbove, IsBelow, Within, as_numbers}
 pub use Rattle.commonware_base.specs.Range.{bound_as_number, exactly, numbers_of}
-pub use Rattle.commonware_base.specs.Refusal.{Refuses, refuses_from}
+pub use Rattle.commonware_base.specs.Refusal.{Refuses}
+pub use Rattle.commonware_base.specs.RefusalLaws.{refuses_from}
 pub use Rattle.commonware_base.specs.Sequence.{IsAllowedSequence, IsWritableSequence, sequence_enc}
 pub use Rattle.commonware_base.specs.Sequence.{SequenceFault, bad_first, bad_second}
 pub use Rattle.commonware_base.specs.Sequence.{SequenceCut, at_first, at_second, sequence_cut}
-pub use Rattle.commonware_base.specs.Sequence.{sequence_bytes, sequence_canonical, sequence_laws}
-pub use Rattle.commonware_base.specs.Sequence.{sequence_prefix_free}
+pub use Rattle.commonware_base.specs.SequenceLaws.{sequence_bytes, sequence_canonical, sequence_laws}
+pub use Rattle.commonware_base.specs.SequenceLaws.{sequence_prefix_free}
 pub use Rattle.commonware_base.specs.Source.{Consumes, bytes_of, position_of, rest_of}
 pub use Rattle.commonware_base.specs.Text.{AcceptedOrFaulty, Accepts, AreBytes, CanonicalLaws}
 pub use Rattle.commonware_base.specs.Text.{IsByte, IsPrefixFree, ReadLaws}
@@ -35,6 +37,7 @@ pub use Rattle.commonware_base.specs.Varint.{AreContinued, IsContinued, IsMisspe
 pub use Rattle.commonware_base.specs.Varint.{IsVarint, groups, groups_sum, varint, varint_fault}
 pub use Rattle.commonware_base.specs.Varint.{varint_size}
 pub use Rattle.commonware_base.specs.VarintLaws.{varint-length, varint_bytes}
-pub use Rattle.commonware_base.specs.Words.{IsWord, word_bytes, word_canonical, word_fault}
-pub use Rattle.commonware_base.specs.Words.{word_laws, word_length, word_prefix_free, word_text}
+pub use Rattle.commonware_base.specs.Words.{IsWord, word_bytes, word_fault}
+pub use Rattle.commonware_base.specs.WordLaws.{word_canonical}
+pub use Rattle.commonware_base.specs.WordLaws.{word_laws, word_length, word_prefix_free, word_text}
 pub use Rattle.commonware_base.specs.declared.codec.source.Source.{Source}

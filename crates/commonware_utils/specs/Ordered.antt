@@ -11,17 +11,18 @@ pub use Rattle.commonware_map.specs.Lends.{LendsValueAt, LendsValueOf, LendsValu
 pub use Rattle.commonware_map.specs.Lends.{map_row, set_value_at, set_values}
 pub use Rattle.commonware_map.specs.Maps.{AreAllowedValues, IsAllowedMap, IsWritableMap, MapFault}
 pub use Rattle.commonware_map.specs.Maps.{columns, map_enc}
-pub use Rattle.commonware_map.specs.Pairs.{are_equal_pairs, both_equal, is_equal_pair, pair_text}
-pub use Rattle.commonware_map.specs.Pairs.{pairs_respect_eq}
+pub use Rattle.commonware_map.specs.Pairs.{are_equal_pairs, is_equal_pair, on_both, on_keys}
+pub use Rattle.commonware_map.specs.Pairs.{pair_text}
+pub use Rattle.commonware_map.specs.PairLaws.{both_equal}
+pub use Rattle.commonware_map.specs.PairLaws.{pairs_respect_eq}
 pub use Rattle.commonware_pairs.specs.PairsMut.{CanStep, LendsInOrder, LendsInReverse}
 pub use Rattle.commonware_pairs.specs.PairsMut.{pairs_mut_left, pairs_mut_name, pairs_mut_steps}
 pub use Rattle.commonware_pairs.specs.PairsMut.{pairs_mut_steps_back}
-pub use Rattle.commonware_map.specs.SetValues.{keys_of-set_values, values_of-set_values}
-pub use Rattle.commonware_ordered.specs.SetFronts.{set_fault_settled}
+pub use Rattle.commonware_ordered.specs.SetFrontLaws.{set_fault_settled}
 pub use Rattle.commonware_ordered.specs.Sets.{BeginsUnsorted, IsWritableSet, unsorted_fault}
 pub use Rattle.commonware_ordered.specs.Sets.{SetFault, bad_list, bad_order}
 pub use Rattle.commonware_ordered.specs.Sets.{SetCut, at_list, at_order, set_cut}
-pub use Rattle.commonware_ordered.specs.Strict.{IsPlaceOf, IsStrict}
+pub use Rattle.commonware_ordered.specs.Strict.{HasEqualAt, IsPlaceOf, IsStrict}
 pub use Rattle.commonware_map.specs.ValueMaps.{CalledAtPair, CalledAtRefs, IfClosure, IsFirstError}
 pub use Rattle.commonware_map.specs.ValueMaps.{TakesPair, TakesRefs}
 pub use Rattle.commonware_ordered.specs.Whole.{HasEqualItems, IsRefusedFor, IsSetOfAll}

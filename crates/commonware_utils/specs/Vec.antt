@@ -1,4 +1,4 @@
--- The words of `vec`: lists with an item, their faults and cuts, rings, loans and closures.
+-- The words of `vec`: lists with an item, their faults and cuts, queues, loans and closures.
 pub use Rattle.commonware_vec.specs.Closures.{CalledWith, CalledWithNothing, TakesNothing}
 pub use Rattle.commonware_vec.specs.Closures.{TakesWith}
 pub use Rattle.commonware_vec.specs.Lends.{LendsItemAt, LendsItems, LendsItemsTo}
@@ -6,6 +6,7 @@ pub use Rattle.commonware_vec.specs.Mutate.{LeavesSome, ReturnsAtItems, TakesIte
 pub use Rattle.commonware_vec.specs.NonEmpty.{BeginsEmpty, IsWritableNonEmpty, empty_fault}
 pub use Rattle.commonware_vec.specs.NonEmpty.{NonEmptyFault, bad_list, no_items}
 pub use Rattle.commonware_vec.specs.NonEmpty.{NonEmptyCut, at_end, at_list, non_empty_cut}
-pub use Rattle.commonware_vec.specs.Refusals.{IsAll, IsRefusedFor, IsRefusedForDrawn}
+pub use Rattle.commonware_vec.specs.Refusals.{EmptyOrMemory, IsAll, IsRefusedForDrawn}
 pub use Rattle.commonware_vec.specs.Refusals.{IsWholeOfClones}
-pub use Rattle.commonware_vec.specs.Rings.{Ring, capacities_alike}
+pub use Rattle.commonware_vec.specs.Queues.{Queue}
+pub use Rattle.commonware_vec.specs.QueueLaws.{capacities_alike}

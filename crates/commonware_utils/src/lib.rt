@@ -1,4 +1,5 @@
-//! Ordered collections and quorums for consensus: one order of participants, one byte form of each collection.
+//! Ordered collections and quorums for consensus: one order of participants, one byte form of each
+//! collection.
 //!
 //! The crate gives its lower crates again, so that a user names it alone.
 #![tactic(auto)]

@@ -3,15 +3,19 @@ use Rattle.std.specs.Prelude.{◌≡◌, ◌≤◌, List, length}
 use Rattle.std.specs.Fn.{Once}
 use Rattle.std.specs.Borrow.{MutBor}
 
-module _ {T V F R : Type 0} (items_of : V → List T) (calls : Once F (MutBor V × Unit {0}) (R × (MutBor V × Unit {0}))) (f : F) (items : List T) where
+module _ {T V F R : Type 0} (items_of : V → List T) (calls : Once F (MutBor V × Unit {0}) (R × (MutBor V × Unit {0})))
+    (f : F) (items : List T) where
   -- f may be called at a `&mut` to what holds these items, of which there is one at least
   abbrev pub TakesItems : Type 0
   TakesItems = (lent : MutBor V) → items_of lent.now ≡ items → 1 ≤ length (items_of lent.now) → calls.pre f (lent, tt)
 
   -- whatever such a call answers, it leaves an item
   abbrev pub LeavesSome : Type 0
-  LeavesSome = (lent : MutBor V) (answer : R) (left : MutBor V) → items_of lent.now ≡ items → 1 ≤ length (items_of lent.now) → calls.post f (lent, tt) (answer, (left, tt)) → 1 ≤ length (items_of left.now)
+  LeavesSome = (lent : MutBor V) (answer : R) (left : MutBor V) → items_of lent.now ≡ items
+      → 1 ≤ length (items_of lent.now) → calls.post f (lent, tt) (answer, (left, tt)) → 1 ≤ length (items_of left.now)
 
   -- such a call answered this and left these items
   abbrev pub ReturnsAtItems : R → List T → Type 0
-  ReturnsAtItems answer after = (lent : MutBor V) × (left : MutBor V) × (items_of lent.now ≡ items) × calls.post f (lent, tt) (answer, (left, tt)) × (after ≡ items_of left.now)
+  ReturnsAtItems answer after =
+      (lent : MutBor V) × (left : MutBor V) × (items_of lent.now ≡ items) × calls.post f (lent, tt) (answer, (left, tt))
+      × (after ≡ items_of left.now)

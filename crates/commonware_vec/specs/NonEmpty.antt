@@ -19,10 +19,14 @@ pub record BeginsEmpty (range : Bounds ℕ) (text : List ℕ) : Type 0 where
 abbrev pub empty_fault : Fault
 empty_fault = Invalid (codes "NonEmptyVec") (codes "cannot decode empty vector")
 
--- The first fault of a text that should begin with a list that isn't empty: that of the list; then, where there is none, that the list is empty.
-pub data NonEmptyFault {T : Type 0} (enc : T → List ℕ) (Writable Allowed : T → Type 0) (item_fault : List ℕ → Fault → Type 0) (range : Bounds ℕ) (text : List ℕ) (fault : Fault) : Type 0 where
-  bad_list : ListFault enc Writable Allowed item_fault range text fault → NonEmptyFault enc Writable Allowed item_fault range text fault
-  no_items : fault ≡ empty_fault → BeginsEmpty range text → NonEmptyFault enc Writable Allowed item_fault range text fault
+-- The first fault of a text that should begin with a list that isn't empty: that of the list; then, where there is
+-- none, that the list is empty.
+pub data NonEmptyFault {T : Type 0} (enc : T → List ℕ) (Writable Allowed : T → Type 0)
+    (item_fault : List ℕ → Fault → Type 0) (range : Bounds ℕ) (text : List ℕ) (fault : Fault) : Type 0 where
+  bad_list : ListFault enc Writable Allowed item_fault range text fault
+      → NonEmptyFault enc Writable Allowed item_fault range text fault
+  no_items : fault ≡ empty_fault → BeginsEmpty range text
+      → NonEmptyFault enc Writable Allowed item_fault range text fault
 
 -- The cuts at which a text that should begin with a list that isn't empty can be faulty.
 pub data NonEmptyCut : Type 0 where
@@ -30,6 +34,9 @@ pub data NonEmptyCut : Type 0 where
   at_end : NonEmptyCut
 
 -- the cut of a fault
-abbrev pub non_empty_cut : {T : Type 0} {enc : T → List ℕ} {Writable Allowed : T → Type 0} {item_fault : List ℕ → Fault → Type 0} {range : Bounds ℕ} {text : List ℕ} {fault : Fault} → NonEmptyFault enc Writable Allowed item_fault range text fault → NonEmptyCut
+abbrev pub non_empty_cut :
+    {T : Type 0} {enc : T → List ℕ} {Writable Allowed : T → Type 0} {item_fault : List ℕ → Fault → Type 0}
+    {range : Bounds ℕ} {text : List ℕ} {fault : Fault} → NonEmptyFault enc Writable Allowed item_fault range text fault
+    → NonEmptyCut
 non_empty_cut (bad_list w) = at_list
 non_empty_cut (no_items same w) = at_end

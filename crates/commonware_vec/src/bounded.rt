@@ -7,7 +7,7 @@ ghost use Rattle.std.specs.Hash.{and-Alike, items_Alike, on_Alike};
 ghost use Rattle.std.specs.Int.NonZero.{non_zero_usize_get};
 ghost use Rattle.std.specs.List.{AllZip};
 ghost use Rattle.std.proofs.lemmas.Cmp.{nat_eq_equiv};
-ghost use Rattle.commonware_vec.specs.Rings.{capacities_alike};
+ghost use Rattle.commonware_vec.specs.QueueLaws.{capacities_alike};
 
 use std::alloc::{AllocError, Allocator};
 use std::collections::VecDeque;
@@ -18,7 +18,8 @@ use std::num::NonZeroUsize;
 use std::ops::Deref;
 use std::{fmt, mem};
 
-/// A queue that holds at most `capacity` items. An item that is pushed where it is full takes the place of the oldest.
+/// A queue that holds at most `capacity` items. An item that is pushed where it is full takes the
+/// place of the oldest.
 #[derive(Drop)]
 pub struct Bounded<T, A: Allocator> {
     deque: VecDeque<T, A>,
@@ -28,9 +29,9 @@ pub struct Bounded<T, A: Allocator> {
 impl<T, A: Allocator> Model for Bounded<T, A> {
     ghost use Rattle.std.specs.Prelude.{◌≤◌, length};
     ghost use Rattle.std.specs.Int.NonZero.{non_zero_usize_get};
-    ghost use Rattle.commonware_vec.specs.Rings.{Ring};
+    ghost use Rattle.commonware_vec.specs.Queues.{Queue};
 
-    ghost Value = { Ring T };
+    ghost Value = { Queue T };
 
     ghost view = { λ b. record { items = b.deque.items; capacity = non_zero_usize_get b.capacity } };
 
@@ -57,8 +58,9 @@ impl<T, A: Allocator> Bounded<T, A> {
         self.capacity
     }
 
-    /// Puts an item last. Where the queue is full, the oldest item comes out and is answered, and no memory is taken.
-    /// Where memory is refused, the item comes back, and the queue is as it was.
+    /// Puts an item last. Where the queue is full, the oldest item comes out and is answered, and
+    /// no memory is taken. Where memory is refused, the item comes back, and the queue is as it
+    /// was.
     pub fn push(&mut self, value: T) -> Result<Option<T>, T>
         ensures capacity { self.new.capacity ≡ self.old.capacity }
         ensures room { length self.old.items < self.old.capacity → MatchResult result

@@ -1,4 +1,4 @@
-//! Lists that are never empty, and rings of a fixed capacity.
+//! Lists that are never empty, and queues of a fixed capacity.
 #![tactic(auto)]
 
 mod bounded;

@@ -116,8 +116,8 @@ impl<T, A: Allocator> NonEmptyVec<T, A> {
         }
     }
 
-    /// Puts an item before the one at a position, which is at most the length; there it comes last. Where memory is
-    /// refused, the item comes back, and the list is as it was.
+    /// Puts an item before the one at a position, which is at most the length; there it comes last.
+    /// Where memory is refused, the item comes back, and the list is as it was.
     pub fn insert(&mut self, index: usize, value: T) -> Result<(), T>
         requires { index ≤ length self.old }
         ensures { MatchResult result (λ _. self.new ≡ insert self.old index value) (λ back. (back ≡ value) × (self.new ≡ self.old)) }
@@ -140,7 +140,8 @@ impl<T, A: Allocator> NonEmptyVec<T, A> {
         }
     }
 
-    /// Takes the item at a position out, which is inside, or answers `None` where it is the only one, which stays.
+    /// Takes the item at a position out, which is inside, or answers `None` where it is the only
+    /// one, which stays.
     pub fn remove(&mut self, index: usize) -> Option<T>
         requires { index < length self.old }
         ensures item { MatchOption result ((length self.old ≡ 1) × (self.new ≡ self.old)) (λ item. (1 < length self.old) × (slice_get self.old index ≡ Some item) × (self.new ≡ remove self.old index)) }

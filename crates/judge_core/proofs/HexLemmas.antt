@@ -25,13 +25,6 @@ pub text_is_hex : (word bytes : List ℕ) → (word ≡ 45 ∷ [] → ⊥) → I
 text_is_hex word [] other h = absurd (other h)
 text_is_hex word (b ∷ bytes) other h = h
 
--- and digits are a text, where there are some
-pub hex_is_text : (word bytes : List ℕ) → 1 ≤ length word → IsHex word bytes → IsText word bytes
-hex_is_text [] bytes some h = absurd (omega arith)
-hex_is_text (d ∷ []) bytes some h = absurd h
-hex_is_text (d ∷ e ∷ word) [] some h = absurd h
-hex_is_text (d ∷ e ∷ word) (b ∷ bytes) some h = h
-
 -- the first two of a list, and the rest
 pub two_front : (rest : List ℕ) → 2 ≤ length rest → rest ≡ get_or rest 0 0 ∷ get_or rest 1 0 ∷ take (length rest - 2) (drop 2 rest)
 two_front [] some = absurd (omega arith)

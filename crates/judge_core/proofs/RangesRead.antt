@@ -36,14 +36,6 @@ fails_third count old then last word next some step step' none (a ∷ b ∷ []) 
 fails_third count old then last word next some step step' none (a ∷ b ∷ c ∷ []) more l n h e = let left : last ≡ c ∷ more = cc in let wrong = none c more l.third left h.2 in cc
 fails_third count old then last word next some step step' none (a ∷ b ∷ c ∷ d ∷ ranges) more l n h e = h
 
--- no range
-pub reads_none : (old : List (List ℕ)) (m : Limits) → m.first ≡ full → m.second ≡ full → m.third ≡ full → ReadsRanges 0 old (Some m) old
-reads_none old m p q r = (([], refl, refl, (p, q, r)), given)
-  where
-    given : (ranges more : List (List ℕ)) (limits : Limits) → length ranges ≡ 0 → AreRanges ranges limits → old ≡ ranges ++ more → Some m ≡ Some limits
-    given [] more l n h e = same_parts m l (p ∙ sym h.0) (q ∙ sym h.1) (r ∙ sym h.2)
-    given (a ∷ ranges) more l n h e = absurd (omega arith)
-
 -- a failure
 pub reads_nothing : (count : ℕ) (old new : List (List ℕ)) (result : Option Limits) → result ≡ None → ((ranges more : List (List ℕ)) (limits : Limits) → length ranges ≡ count → AreRanges ranges limits → old ≡ ranges ++ more → ⊥) → ReadsRanges count old result new
 reads_nothing count old new result e fails =

@@ -2,9 +2,12 @@
 use Rattle.std.specs.Prelude.{ℕ, List, [], ◌∷◌, ◌++◌, codes}
 use Rattle.std.specs.List.{flat_map}
 use Rattle.judge_core.specs.declared.form.Form.{Form}
-use Rattle.judge_core.specs.declared.form.Form.TheVariants.{U8, U32, Varint, Usize, Participant, VecU8, VecU32, VecVecU8, VecVecVecU8}
-use Rattle.judge_core.specs.declared.form.Form.TheVariants.{SetU8, SetU32, SetParticipant, SetSetU8, SetNonEmptyU8, MapU8U8, MapU8SetU8}
-use Rattle.judge_core.specs.declared.form.Form.TheVariants.{VecMapU8U8, BiMapU8U8, NonEmptyU8, NonEmptyNonEmptyU8, Certificate}
+use Rattle.judge_core.specs.declared.form.Form.TheVariants.{U8, U32, Varint, Usize, Participant, VecU8, VecU32}
+use Rattle.judge_core.specs.declared.form.Form.TheVariants.{VecVecU8, VecVecVecU8}
+use Rattle.judge_core.specs.declared.form.Form.TheVariants.{SetU8, SetU32, SetParticipant, SetSetU8, SetNonEmptyU8}
+use Rattle.judge_core.specs.declared.form.Form.TheVariants.{MapU8U8, MapU8SetU8}
+use Rattle.judge_core.specs.declared.form.Form.TheVariants.{VecMapU8U8, BiMapU8U8, NonEmptyU8, NonEmptyNonEmptyU8}
+use Rattle.judge_core.specs.declared.form.Form.TheVariants.{Certificate}
 
 -- the name by which a question names a type
 abbrev pub name_of : Form → List ℕ
@@ -58,7 +61,8 @@ lengths_of Certificate = 2
 abbrev pub all_forms : List Form
 all_forms =
     U8 ∷ U32 ∷ Varint ∷ Usize ∷ Participant ∷ VecU8 ∷ VecU32 ∷ VecVecU8 ∷ VecVecVecU8 ∷ SetU8
-    ∷ SetU32 ∷ SetParticipant ∷ SetSetU8 ∷ SetNonEmptyU8 ∷ MapU8U8 ∷ MapU8SetU8 ∷ VecMapU8U8 ∷ BiMapU8U8 ∷ NonEmptyU8 ∷ NonEmptyNonEmptyU8 ∷ Certificate ∷ []
+    ∷ SetU32 ∷ SetParticipant ∷ SetSetU8 ∷ SetNonEmptyU8 ∷ MapU8U8 ∷ MapU8SetU8 ∷ VecMapU8U8 ∷ BiMapU8U8 ∷ NonEmptyU8 ∷
+    NonEmptyNonEmptyU8 ∷ Certificate ∷ []
 
 -- the names of the types, each on a line
 abbrev pub types_text : List ℕ

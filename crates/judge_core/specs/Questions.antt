@@ -19,17 +19,21 @@ AreRanges (a ∷ b ∷ []) l = IsRange a l.first × IsRange b l.second × (l.thi
 AreRanges (a ∷ b ∷ c ∷ []) l = IsRange a l.first × IsRange b l.second × IsRange c l.third
 AreRanges (a ∷ b ∷ c ∷ d ∷ words) l = ⊥
 
--- the words write the ranges of a type: one for each of its lengths, and none with a bound 0 for a list that is never empty
+-- the words write the ranges of a type: one for each of its lengths, and none with a bound 0 for a list that is never
+-- empty
 pub record AreLimits (form : Form) (words : List (List ℕ)) (limits : Limits) : Type 0 where
   pub count : length words ≡ lengths_of form
   pub ranges : AreRanges words limits
   pub fit : IsFit form limits
 
--- The first words write so many ranges, which are the result, and the others are left; where they write any, there is a result.
+-- The first words write so many ranges, which are the result, and the others are left; where they write any, there is a
+-- result.
 abbrev pub ReadsRanges : ℕ → List (List ℕ) → Option Limits → List (List ℕ) → Type 0
 ReadsRanges count old result new =
-    IfSome result (λ limits. (ranges : List (List ℕ)) × (old ≡ ranges ++ new) × (length ranges ≡ count) × AreRanges ranges limits)
-    × ((ranges more : List (List ℕ)) (limits : Limits) → length ranges ≡ count → AreRanges ranges limits → old ≡ ranges ++ more → result ≡ Some limits)
+    IfSome result
+    (λ limits. (ranges : List (List ℕ)) × (old ≡ ranges ++ new) × (length ranges ≡ count) × AreRanges ranges limits)
+    × ((ranges more : List (List ℕ)) (limits : Limits) → length ranges ≡ count → AreRanges ranges limits
+    → old ≡ ranges ++ more → result ≡ Some limits)
 
 -- The line asks what a text is: its words are the name of a type, the ranges of that, and the bytes of the text.
 pub record IsQuestion (line : List ℕ) (form : Form) (limits : Limits) (text : List ℕ) : Type 0 where
@@ -39,7 +43,8 @@ pub record IsQuestion (line : List ℕ) (form : Form) (limits : Limits) (text : 
   pub are_limits : AreLimits form ranges limits
   pub is_text : IsText word text
 
--- What of a line can't be read: its first word is no type's name; or the words after the name don't begin with the ranges of
+-- What of a line can't be read: its first word is no type's name; or the words after the name don't begin with the
+-- ranges of
 -- that type; or what follows these is no single word that writes bytes.
 abbrev pub IsUnreadable : List ℕ → Unreadable → Type 0
 IsUnreadable line Name = (form : Form) (rest : List (List ℕ)) → words_of line ≢ name_of form ∷ rest
@@ -47,5 +52,6 @@ IsUnreadable line Ranges =
     (form : Form) × (rest : List (List ℕ)) × (words_of line ≡ name_of form ∷ rest)
     × ((ranges more : List (List ℕ)) (limits : Limits) → AreLimits form ranges limits → rest ≢ ranges ++ more)
 IsUnreadable line Bytes =
-    (form : Form) × (ranges : List (List ℕ)) × (limits : Limits) × (rest : List (List ℕ)) × (words_of line ≡ name_of form ∷ (ranges ++ rest)) × AreLimits form ranges limits
+    (form : Form) × (ranges : List (List ℕ)) × (limits : Limits) × (rest : List (List ℕ))
+    × (words_of line ≡ name_of form ∷ (ranges ++ rest)) × AreLimits form ranges limits
     × ((word text : List ℕ) → rest ≡ word ∷ [] → ¬ IsText word text)

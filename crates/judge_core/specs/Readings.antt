@@ -4,21 +4,28 @@ use Rattle.std.specs.Ordering.{nat_cmp}
 use Rattle.std.specs.Cmp.Lexicographic.{slice_cmp}
 use Rattle.std.specs.declared.cmp.Ordering.{Ordering}
 use Rattle.commonware_utils.specs.Codec.{Accepts, Bounds, Fault, Refuses, Within}
-use Rattle.commonware_utils.specs.Codec.{byte, byte_fault, IsByte, IsWord, word_bytes, word_fault, varint, varint_fault, NumberFault}
+use Rattle.commonware_utils.specs.Codec.{byte, byte_fault, IsByte, IsWord, word_bytes, word_fault, varint, varint_fault}
+use Rattle.commonware_utils.specs.Codec.{NumberFault}
 use Rattle.commonware_utils.specs.Codec.{list_enc, IsWritableList, IsAllowedList, IsListMemoryFree, ListFault}
-use Rattle.commonware_utils.specs.Ordered.{IsWritableSet, SetFault, map_enc, IsWritableMap, IsAllowedMap, MapFault, IsWritableBiMap, BiMapFault}
+use Rattle.commonware_utils.specs.Ordered.{IsWritableSet, SetFault, map_enc, IsWritableMap, IsAllowedMap, MapFault}
+use Rattle.commonware_utils.specs.Ordered.{IsWritableBiMap, BiMapFault}
 use Rattle.commonware_utils.specs.Vec.{IsWritableNonEmpty, NonEmptyFault}
-use Rattle.committee_certificates.specs.Certificates.{CertificateFault, IsAllowedCertificate, IsWritableCertificate, certificate_enc}
+use Rattle.committee_certificates.specs.Certificates.{CertificateFault, IsAllowedCertificate, IsWritableCertificate}
+use Rattle.committee_certificates.specs.Certificates.{certificate_enc}
 use Rattle.judge_core.specs.declared.form.Form.{Form}
-use Rattle.judge_core.specs.declared.form.Form.TheVariants.{U8, U32, Varint, Usize, Participant, VecU8, VecU32, VecVecU8, VecVecVecU8}
-use Rattle.judge_core.specs.declared.form.Form.TheVariants.{SetU8, SetU32, SetParticipant, SetSetU8, SetNonEmptyU8, MapU8U8, MapU8SetU8}
-use Rattle.judge_core.specs.declared.form.Form.TheVariants.{VecMapU8U8, BiMapU8U8, NonEmptyU8, NonEmptyNonEmptyU8, Certificate}
+use Rattle.judge_core.specs.declared.form.Form.TheVariants.{U8, U32, Varint, Usize, Participant, VecU8, VecU32}
+use Rattle.judge_core.specs.declared.form.Form.TheVariants.{VecVecU8, VecVecVecU8}
+use Rattle.judge_core.specs.declared.form.Form.TheVariants.{SetU8, SetU32, SetParticipant, SetSetU8, SetNonEmptyU8}
+use Rattle.judge_core.specs.declared.form.Form.TheVariants.{MapU8U8, MapU8SetU8}
+use Rattle.judge_core.specs.declared.form.Form.TheVariants.{VecMapU8U8, BiMapU8U8, NonEmptyU8, NonEmptyNonEmptyU8}
+use Rattle.judge_core.specs.declared.form.Form.TheVariants.{Certificate}
 use Rattle.judge_core.specs.declared.limits.Limits.{Limits}
 use Rattle.judge_core.specs.Limits.{HasNoZero}
 use Rattle.judge_core.specs.declared.verdict.Verdict.{Verdict}
 use Rattle.judge_core.specs.declared.verdict.Verdict.TheVariants.{Accepted, Refused}
 
--- What is read: the values and their bytes, which values have a byte form and which the limits allow, the first fault of a
+-- What is read: the values and their bytes, which values have a byte form and which the limits allow, the first fault
+-- of a
 -- text, the texts that are read or refused with no memory, and how many items a value has.
 pub record Reading : Type 1 where
   pub Value : Type 0
@@ -33,7 +40,8 @@ pub record Reading : Type 1 where
 -- error names the first fault of the text, so it is no want of memory
 abbrev pub IsVerdict : Reading → List ℕ → Verdict → Type 0
 IsVerdict r text (Accepted items left) =
-    (value : r.Value) × (rest : List ℕ) × Accepts r.enc r.Writable r.Allowed text value rest × (items ≡ r.items value) × (left ≡ length rest)
+    (value : r.Value) × (rest : List ℕ) × Accepts r.enc r.Writable r.Allowed text value rest × (items ≡ r.items value)
+    × (left ≡ length rest)
 IsVerdict r text (Refused error) = Refuses (r.HasFault text) (Unit {0}) error
 
 -- a right verdict is given, or memory was wanted, which it never is where the reading is memory-free
@@ -43,19 +51,53 @@ IsJudged r text (Err e) = ¬ r.MemoryFree text
 
 -- a byte
 abbrev pub a_byte : Reading
-a_byte = record { Value = ℕ; enc = byte; Writable = IsByte; Allowed = λ _. Unit {0}; HasFault = byte_fault; MemoryFree = λ _. Unit {0}; items = λ _. 1 }
+a_byte = record {
+  Value = ℕ;
+  enc = byte;
+  Writable = IsByte;
+  Allowed = λ _. Unit {0};
+  HasFault = byte_fault;
+  MemoryFree = λ _. Unit {0};
+  items = λ _. 1;
+}
 
 -- a number in four bytes, the highest first
 abbrev pub a_word : Reading
-a_word = record { Value = ℕ; enc = word_bytes; Writable = IsWord; Allowed = λ _. Unit {0}; HasFault = word_fault; MemoryFree = λ _. Unit {0}; items = λ _. 1 }
+a_word = record {
+  Value = ℕ;
+  enc = word_bytes;
+  Writable = IsWord;
+  Allowed = λ _. Unit {0};
+  HasFault = word_fault;
+  MemoryFree = λ _. Unit {0};
+  items = λ _. 1;
+}
 
 -- a number below 2^32 as a varint
 abbrev pub a_varint : Reading
-a_varint = record { Value = ℕ; enc = varint; Writable = IsWord; Allowed = λ _. Unit {0}; HasFault = varint_fault; MemoryFree = λ _. Unit {0}; items = λ _. 1 }
+a_varint =
+    record {
+      Value = ℕ;
+      enc = varint;
+      Writable = IsWord;
+      Allowed = λ _. Unit {0};
+      HasFault = varint_fault;
+      MemoryFree = λ _. Unit {0};
+      items = λ _. 1;
+    }
 
 -- such a number in a range
 abbrev pub a_number : Bounds ℕ → Reading
-a_number range = record { Value = ℕ; enc = varint; Writable = IsWord; Allowed = Within range; HasFault = NumberFault range; MemoryFree = λ _. Unit {0}; items = λ _. 1 }
+a_number range =
+    record {
+      Value = ℕ;
+      enc = varint;
+      Writable = IsWord;
+      Allowed = Within range;
+      HasFault = NumberFault range;
+      MemoryFree = λ _. Unit {0};
+      items = λ _. 1;
+    }
 
 -- a list
 abbrev pub list_of : Bounds ℕ → Reading → Reading
@@ -100,19 +142,24 @@ map_of range key cmp value = record {
   enc = map_enc key.enc value.enc;
   Writable = IsWritableMap key.Writable cmp value.Writable;
   Allowed = IsAllowedMap range key.Allowed value.Allowed;
-  HasFault = MapFault key.enc key.Writable cmp key.Allowed key.HasFault value.enc value.Writable value.Allowed value.HasFault range;
+  HasFault =
+      MapFault key.enc key.Writable cmp key.Allowed key.HasFault value.enc value.Writable value.Allowed value.HasFault
+      range;
   MemoryFree = IsListMemoryFree key.HasFault key.MemoryFree range;
   items = length;
 }
 
 -- a map of which no two values are equal
-abbrev pub bimap_of : Bounds ℕ → (key : Reading) → (key.Value → key.Value → Ordering) → (value : Reading) → (value.Value → value.Value → Bool) → Reading
+abbrev pub bimap_of : Bounds ℕ → (key : Reading) → (key.Value → key.Value → Ordering) → (value : Reading)
+    → (value.Value → value.Value → Bool) → Reading
 bimap_of range key cmp value eq = record {
   Value = List (key.Value × value.Value);
   enc = map_enc key.enc value.enc;
   Writable = IsWritableBiMap key.Writable cmp value.Writable eq;
   Allowed = IsAllowedMap range key.Allowed value.Allowed;
-  HasFault = BiMapFault key.enc key.Writable cmp key.Allowed key.HasFault value.enc value.Writable value.Allowed value.HasFault eq range;
+  HasFault =
+      BiMapFault key.enc key.Writable cmp key.Allowed key.HasFault value.enc value.Writable value.Allowed value.HasFault
+      eq range;
   MemoryFree = IsListMemoryFree key.HasFault key.MemoryFree range;
   items = length;
 }
@@ -129,7 +176,8 @@ a_certificate value signers = record {
   items = λ parts. length parts.1;
 }
 
--- what a text is read as, by the type's name and the ranges of its lengths: numbers are ordered as such, and lists by the
+-- what a text is read as, by the type's name and the ranges of its lengths: numbers are ordered as such, and lists by
+-- the
 -- first item in which they differ
 abbrev pub reading_of : Form → Limits → Reading
 reading_of U8 l = a_byte

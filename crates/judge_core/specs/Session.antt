@@ -9,9 +9,11 @@ use Rattle.judge_core.specs.declared.command.Command.TheVariants.{Judge, Types}
 
 -- the whole text that was given was answered in what was written: and judged tells whether all answers are verdicts
 abbrev pub IsAllAnswered : (List ℕ → Type 0) → (List ℕ → Type 0) → Bool → Type 0
-IsAllAnswered Given Written judged = (text said : List ℕ) × Given text × Written said × AreAnswered (lines text) said judged
+IsAllAnswered Given Written judged =
+    (text said : List ℕ) × Given text × Written said × AreAnswered (lines text) said judged
 
--- Where a run stops early and its writer has not failed: what it wrote are the answers to the whole lines of a beginning of the
+-- Where a run stops early and its writer has not failed: what it wrote are the answers to the whole lines of a
+-- beginning of the
 -- text that the reader gave, and no answer was written to what came after that beginning.
 pub record IsBeginningAnswered (in_old in_new out_old out_new : Option (List ℕ)) : Type 0 where
   pub text : List ℕ

@@ -6,8 +6,8 @@ use commonware_utils::ordered::{Quorum, Set};
 use commonware_utils::{N3f1, Participant};
 use std::alloc::Global;
 
-/// How many members have to sign, or `None` where there are none, or more than fit a `u32`: all but the third part of the
-/// others, rounded down.
+/// How many members have to sign, or `None` where there are none, or more than fit a `u32`: all but
+/// the third part of the others, rounded down.
 pub fn signatures_needed(members: &Set<u32, Global>) -> Option<u32>
     ensures { SomeIff result ((1 ≤ length members.now) × (length members.now < 2 ^ 32)) (length members.now - (length members.now - 1) / 3) }
 {

@@ -1,4 +1,5 @@
-//! The library as a user calls it, who names `commonware_utils` alone: a file a module, and each form of each macro.
+//! The library as a user calls it, who names `commonware_utils` alone: a file a module, and each
+//! form of each macro.
 #![tactic(auto)]
 
 mod committees;

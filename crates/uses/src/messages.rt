@@ -7,7 +7,8 @@ use commonware_utils::codec::{EncodeSize, Error, RangeCfg, Read, Source, Write};
 use commonware_utils::ordered::Set;
 use std::alloc::{AllocError, Global};
 
-/// The members at the front of the bytes, as many as are allowed, and how many bytes they take; or the first fault.
+/// The members at the front of the bytes, as many as are allowed, and how many bytes they take; or
+/// the first fault.
 pub fn read_members(
     alloc: Global,
     bytes: &[u8],

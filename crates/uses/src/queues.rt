@@ -4,7 +4,8 @@ ghost use Rattle.std.specs.Prelude.{◌≡◌, ◌*◌, ◌-◌, ◌<◌, ◌≤
 use commonware_utils::vec::{Bounded, Error, Mutate, NonEmptyVec};
 use std::alloc::Global;
 
-/// Remembers a vote, and answers the one that is forgotten for it, or the vote itself where memory is refused.
+/// Remembers a vote, and answers the one that is forgotten for it, or the vote itself where memory
+/// is refused.
 pub fn remember(votes: &mut Bounded<u32, Global>, vote: u32) -> Result<Option<u32>, u32>
     ensures room { length votes.old.items < votes.old.capacity → MatchResult result
         (λ out. (out ≡ None) × (votes.new.items ≡ votes.old.items ++ vote ∷ []))

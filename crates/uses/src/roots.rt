@@ -7,8 +7,8 @@ use commonware_utils::{MAX_ALLOCATION_BYTES, Participant, Widen, max, union_uniq
 use std::alloc::{AllocError, Global};
 use std::num::NonZeroU32;
 
-/// The text that is signed for a message: the length of the namespace as a varint, the namespace, and the message. `None`
-/// where the namespace is too long.
+/// The text that is signed for a message: the length of the namespace as a varint, the namespace,
+/// and the message. `None` where the namespace is too long.
 pub fn signed_text(
     alloc: Global,
     namespace: &[u8],

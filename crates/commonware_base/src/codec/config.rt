@@ -9,8 +9,8 @@ use std::marker::Model;
 use std::num::NonZeroUsize;
 use std::ops::{Bound, Range, RangeFrom, RangeFull, RangeInclusive, RangeTo, RangeToInclusive};
 
-/// A range of lengths or numbers: a lower bound that is in it, where it has one, and an upper bound.
-/// A range that is empty or reversed holds no number.
+/// A range of lengths or numbers: a lower bound that is in it, where it has one, and an upper
+/// bound. A range that is empty or reversed holds no number.
 #[derive(Clone, Copy, Debug)]
 pub struct RangeCfg<T> {
     lower: Option<T>,

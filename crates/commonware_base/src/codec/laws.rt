@@ -10,7 +10,8 @@ use crate::codec::source::Source;
 use crate::codec::traits::{Canonical, Read, Write};
 use std::alloc::Allocator;
 
-/// Each number below 2^32 has one spelling as a varint, the one that is written, and no other number has it.
+/// Each number below 2^32 has one spelling as a varint, the one that is written, and no other
+/// number has it.
 pub fn varint_law()
     ensures spelled { (n : ℕ) → n < 2 ^ 32 → IsVarint n (varint n) }
     ensures only { (n : ℕ) (bytes : List ℕ) → IsVarint n bytes → bytes ≡ varint n }
@@ -27,8 +28,8 @@ pub fn list_fault_law<T: Read<A>, A: Allocator>(alloc: A, range: RangeCfg<usize>
     let _ = (alloc, range);
 }
 
-/// Writes a value and any bytes after it, and reads it again: an equal value, and how many bytes are left, which are
-/// those after it; or `Memory`.
+/// Writes a value and any bytes after it, and reads it again: an equal value, and how many bytes
+/// are left, which are those after it; or `Memory`.
 ///
 /// The value is writable, and the configuration allows it.
 pub fn round_trip<T: Read<A> + Write<A> + Canonical + Drop, A: Allocator + Copy>(

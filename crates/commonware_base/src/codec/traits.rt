@@ -14,8 +14,8 @@ pub trait EncodeSize {
     /// The bytes of a value.
     ghost enc: { Self → List ℕ };
 
-    /// The values that can be written. For a number it names the range of the type, for a collection its invariant too,
-    /// since a law ranges over every number and list.
+    /// The values that can be written. For a number it names the range of the type, for a
+    /// collection its invariant too, since a law ranges over every number and list.
     ghost writable: { Self → Type 0 };
 
     /// How many bytes the value has. The value is writable, and the number fits a `usize`.
@@ -37,7 +37,8 @@ pub trait EncodeSize {
 
 /// A type whose values can be appended to a list of bytes.
 pub trait Write<A: Allocator>: EncodeSize {
-    /// Appends the bytes of the value, which is writable. Where memory is refused, the sink is as it was.
+    /// Appends the bytes of the value, which is writable. Where memory is refused, the sink is as
+    /// it was.
     fn write(&self, sink: &mut Vec<u8, A>) -> Result<(), AllocError>
         requires { Self.writable self.now }
         ensures ok { OnOk result (sink.new.items ≡ sink.old.items ++ Self.enc self.now) }
@@ -69,19 +70,22 @@ pub trait Read<A: Allocator>: EncodeSize + Sized {
     /// The texts that are read or refused with no memory.
     ghost memory_free: { Self.Cfg → List ℕ → Type 0 };
 
-    /// The value whose bytes come next, or the first fault of the text; `Memory` only where the reading isn't
-    /// memory-free. What follows the value is left. After an error the source stands where it stood.
+    /// The value whose bytes come next, or the first fault of the text; `Memory` only where the
+    /// reading isn't memory-free. What follows the value is left. After an error the source stands
+    /// where it stood.
     fn read_cfg(alloc: A, src: &mut Source<'_>, cfg: &Self::Cfg) -> Result<Self, Error>
         ensures accepted { IfOk result (λ v. Accepts Self.enc Self.writable (allowed cfg.now) (rest_of src.old) v (rest_of src.new)) }
         ensures consumed { IfOk result (λ v. Consumes src.old src.new (Self.enc v)) }
         ensures refused { IfErr result (Refuses (fault cfg.now (rest_of src.old)) (memory_free cfg.now (rest_of src.old))) }
         ensures stays { OnErr result (src.new ≡ src.old) };
 
-    /// A text that is accepted has no fault, each other text has one, and what is allowed goes by the bytes.
+    /// A text that is accepted has no fault, each other text has one, and what is allowed goes by
+    /// the bytes.
     ghost read_laws: { (alloc : A) (c : Self.Cfg) → ReadLaws Self.enc Self.writable (allowed c) (fault c) };
 }
 
-/// A type whose writable values are equal exactly where their bytes are. Equal values are writable together.
+/// A type whose writable values are equal exactly where their bytes are. Equal values are writable
+/// together.
 pub trait Canonical: EncodeSize + Eq {
     ghost canonical: { CanonicalLaws Self.enc Self.writable Self.eq };
 }

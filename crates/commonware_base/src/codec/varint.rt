@@ -1,5 +1,5 @@
-//! Numbers below 2^32 in groups of seven bits: the lowest group first, one group a byte, the top bit set on every
-//! byte but the last, in the fewest bytes.
+//! Numbers below 2^32 in groups of seven bits: the lowest group first, one group a byte, the top
+//! bit set on every byte but the last, in the fewest bytes.
 ghost use Rattle.std.specs.Prelude.{◌≡◌, ℕ, ◌+◌, ◌≤◌, ◌<◌, ◌^◌, ◌==◌, ◌++◌, List, length, take, OnOk, OnErr, IfOk, IfErr, refl};
 ghost use Rattle.commonware_base.specs.Refusal.{Refuses};
 ghost use Rattle.commonware_base.specs.Source.{rest_of, Consumes};
@@ -7,7 +7,7 @@ ghost use Rattle.commonware_base.specs.TextLaws.{prefix_free_on, laws_on, canoni
 ghost use Rattle.commonware_base.specs.Varint.{varint, IsVarint, varint_fault, groups_sum};
 ghost use Rattle.commonware_base.specs.VarintLaws.{varint_bytes, varint-length};
 ghost use Rattle.commonware_base.specs.Words.{IsWord};
-ghost use Rattle.commonware_base.specs.Numbers.{number_prefix_free, varint_laws, number_canonical};
+ghost use Rattle.commonware_base.specs.NumberLaws.{number_prefix_free, varint_laws, number_canonical};
 
 use crate::codec::error::Error;
 use crate::codec::source::Source;

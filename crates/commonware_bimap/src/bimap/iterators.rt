@@ -14,7 +14,8 @@ impl<K: Ord + Drop, V: Eq + Hash + Drop, A: Allocator> IntoIterator for BiMap<K,
 
     ghost into_iter_gives = { λ map pairs. (pairs ≡ map) × (length map < 2 ^ 64) × GivesInOrder (K × V) × GivesInReverse (K × V) };
 
-    /// The pairs in the order of their keys, from both ends, with the exact number left. It takes no memory.
+    /// The pairs in the order of their keys, from both ends, with the exact number left. It takes
+    /// no memory.
     fn into_iter(self) -> MapIntoIter<K, V, A> {
         let BiMap { map } = self;
         map.into_iter()

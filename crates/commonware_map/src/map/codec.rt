@@ -1,4 +1,5 @@
-//! The byte form of a map: the list of its keys, and then the list of its values, each with its count.
+//! The byte form of a map: the list of its keys, and then the list of its values, each with its
+//! count.
 ghost use Rattle.std.specs.Prelude.{◌≡◌, ◌+◌, ◌*◌, ◌<◌, ◌≤◌, ◌^◌, ℕ, List, length};
 ghost use Rattle.std.specs.List.{AllByRecursion};
 ghost use Rattle.std.specs.Map.{keys_of, values_of};
@@ -83,9 +84,9 @@ impl<K: Ord + Canonical, V: Canonical, A: Allocator> Canonical for Map<K, V, A> 
 }
 
 impl<K: Ord + MaxEncodeSize, V, A: Allocator> Map<K, V, A> {
-    /// The number of bytes that a map of at most `len` pairs can have, where each value takes at most `value` bytes:
-    /// the size of `len` as a varint, twice, and `len` times the bound of a key and that of a value. `len` is at most
-    /// 4294967295, and the result fits a `usize`.
+    /// The number of bytes that a map of at most `len` pairs can have, where each value takes at
+    /// most `value` bytes: the size of `len` as a varint, twice, and `len` times the bound of a key
+    /// and that of a value. `len` is at most 4294967295, and the result fits a `usize`.
     pub fn max_encode_size(len: usize, value: usize) -> usize
         requires short { len < 2 ^ 32 }
         requires fits { varint_size len + len * K.MAX_ENCODE_SIZE + (varint_size len + len * value) < 2 ^ 64 }
@@ -96,7 +97,8 @@ impl<K: Ord + MaxEncodeSize, V, A: Allocator> Map<K, V, A> {
     }
 }
 
-/// The cuts at which a text is no map exclude one another: no text has a fault of the keys and one of the values.
+/// The cuts at which a text is no map exclude one another: no text has a fault of the keys and one
+/// of the values.
 pub fn map_fault_law<K: Ord + Canonical + Read<A>, V: Read<A>, A: Allocator>(
     alloc: A,
     range: RangeCfg<usize>,

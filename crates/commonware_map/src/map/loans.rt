@@ -9,8 +9,8 @@ use super::Map;
 use std::alloc::Allocator;
 
 impl<K: Ord, V, A: Allocator> Map<K, V, A> {
-    /// The value of the key that equals the one asked, to be written, or `None` where none does. The keys are halved:
-    /// O(log n) comparisons.
+    /// The value of the key that equals the one asked, to be written, or `None` where none does.
+    /// The keys are halved: O(log n) comparisons.
     pub fn get_value_mut(&mut self, key: &K) -> Option<&mut V>
         ensures* writes_back { sem 𝓛 (LendsValueOf K.row V.row A.row K.cmp K.eq K.partial_cmp A.Allocator self.entry (λ k. K.eq k key.now) result) }
         ensures value { option_copied_mut result ≡ lookup (λ k. K.eq k key.now) self.old }

@@ -60,8 +60,9 @@ impl<T: Ord + Canonical, A: Allocator> Canonical for Set<T, A> {
 }
 
 impl<T: Ord + MaxEncodeSize, A: Allocator> Set<T, A> {
-    /// The number of bytes that a set of at most `len` items can have: the size of `len` as a varint, and `len` times the
-    /// bound of an item. `len` is at most 4294967295, and the result fits a `usize`.
+    /// The number of bytes that a set of at most `len` items can have: the size of `len` as a
+    /// varint, and `len` times the bound of an item. `len` is at most 4294967295, and the result
+    /// fits a `usize`.
     pub fn max_encode_size(len: usize) -> usize
         requires short { len < 2 ^ 32 }
         requires fits { varint_size len + len * T.MAX_ENCODE_SIZE < 2 ^ 64 }
@@ -72,7 +73,8 @@ impl<T: Ord + MaxEncodeSize, A: Allocator> Set<T, A> {
     }
 }
 
-/// The cuts at which a text is no set exclude one another: no text has a fault of the list and one of the order.
+/// The cuts at which a text is no set exclude one another: no text has a fault of the list and one
+/// of the order.
 pub fn set_fault_law<T: Ord + Canonical + Read<A>, A: Allocator>(
     alloc: A,
     range: RangeCfg<usize>,
@@ -87,8 +89,8 @@ pub fn set_fault_law<T: Ord + Canonical + Read<A>, A: Allocator>(
     let _ = (alloc, range);
 }
 
-/// Reads a set under a range for its length and a configuration for its items. The order is looked at once the whole
-/// list is read, so a fault of a later item comes before that of the order.
+/// Reads a set under a range for its length and a configuration for its items. The order is looked
+/// at once the whole list is read, so a fault of a later item comes before that of the order.
 pub fn read_set<T: Ord + Canonical + Read<A> + Drop, A: Allocator + Copy>(
     alloc: A,
     src: &mut Source<'_>,

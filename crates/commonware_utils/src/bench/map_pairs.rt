@@ -9,8 +9,8 @@ pub(super) fn tens(alloc: Global) -> Result<Map<u8, u8, Global>, Fail> {
     Ok(Map::from_parts(keys, vec![in alloc; 10, 20, 30]?).ok_or("uneven")?)
 }
 
-/// Whether so many pairs are told at first, and each step, from the back where that is said, gives the pair beside it and
-/// tells so many that are left.
+/// Whether so many pairs are told at first, and each step, from the back where that is said, gives
+/// the pair beside it and tells so many that are left.
 pub(super) fn lends(
     mut pairs: Pairs<'_, u8, u8>,
     count: usize,

@@ -7,7 +7,8 @@ use crate::{TryCollect, TryFromIterator};
 use std::alloc::{Allocator, Global};
 use std::test::Fail;
 
-/// A list with a repeat, a repeat before more items, equal neighbours alone, one item, and a list without a repeat.
+/// A list with a repeat, a repeat before more items, equal neighbours alone, one item, and a list
+/// without a repeat.
 const LISTS: [(&[u8], Option<&[u8]>); 6] = [
     (&[3, 1, 2, 2], None),
     (&[7, 7, 5, 1, 9, 3], None),
@@ -96,7 +97,8 @@ fn test_set_try_from_duplicate(rt: HostRuntime) -> Result<(), Fail> {
     Ok(())
 }
 
-/// What the builder answers for the items of a list: what `try_from_vec` answers for it, however far it reads them.
+/// What the builder answers for the items of a list: what `try_from_vec` answers for it, however
+/// far it reads them.
 fn try_from_items<T: Ord + Drop, A: Allocator + Copy>(
     alloc: A,
     items: Vec<T, A>,

@@ -41,7 +41,8 @@ impl<T: Drop, A: Allocator> TryFromIterator<T, A> for NonEmptyVec<T, A> {
 
     ghost refuses = { IsRefusedForDrawn };
 
-    /// The list of all the items, or `Empty` where there are none. Memory is wanted only once an item was drawn.
+    /// The list of all the items, or `Empty` where there are none. Memory is wanted only once an
+    /// item was drawn.
     fn try_from_iter<I: IntoIterator<Item = T>>(alloc: A, iter: I) -> Result<Self, Error> {
         let mut items = Vec::new(alloc);
         for item in iter {
@@ -52,7 +53,8 @@ impl<T: Drop, A: Allocator> TryFromIterator<T, A> for NonEmptyVec<T, A> {
 }
 
 impl<T: Clone, A: Allocator> NonEmptyVec<T, A> {
-    /// The list of clones of all the items, or `Empty` where there are none, and then no memory is wanted.
+    /// The list of clones of all the items, or `Empty` where there are none, and then no memory is
+    /// wanted.
     pub fn try_from_slice(alloc: A, items: &[T]) -> Result<Self, Error>
         ensures { IsWholeOfClones T.is_clone items.now result }
     {
@@ -63,15 +65,16 @@ impl<T: Clone, A: Allocator> NonEmptyVec<T, A> {
         }
     }
 
-    /// The list of clones of all the items, or `Empty` where there are none, and then no memory is wanted. The array
-    /// is given up.
+    /// The list of clones of all the items, or `Empty` where there are none, and then no memory is
+    /// wanted. The array is given up.
     pub fn try_from_array<const N: usize>(alloc: A, items: [T; N]) -> Result<Self, Error>
         ensures { IsWholeOfClones T.is_clone items result }
     {
         NonEmptyVec::try_from_slice(alloc, &items)
     }
 
-    /// The list of clones of all the items, or `Empty` where there are none, and then no memory is wanted.
+    /// The list of clones of all the items, or `Empty` where there are none, and then no memory is
+    /// wanted.
     pub fn try_from_array_ref<const N: usize>(alloc: A, items: &[T; N]) -> Result<Self, Error>
         ensures { IsWholeOfClones T.is_clone items.now result }
     {

@@ -13,8 +13,8 @@ use std::alloc::Allocator;
 use std::num::NonZeroUsize;
 
 impl<T, A: Allocator + Copy> NonEmptyVec<T, A> {
-    /// The list of what `f` answers for each item, in order. There is room for all answers before the first call. It is
-    /// refused for want of memory alone, and then nothing was called.
+    /// The list of what `f` answers for each item, in order. There is room for all answers before
+    /// the first call. It is refused for want of memory alone, and then nothing was called.
     pub fn map<U, F: FnMut(&T) -> U>(&self, mut f: F) -> Result<NonEmptyVec<U, A>, Error>
         requires { CallableAlong (CalledAt F.FnMut) (TakesAt F.FnMut) f self.now }
         ensures items { IfOk result (λ v. CallsGiveAll (CalledAt F.FnMut) f self.now v) }
@@ -27,8 +27,9 @@ impl<T, A: Allocator + Copy> NonEmptyVec<T, A> {
         Ok(NonEmptyVec { items: answers })
     }
 
-    /// The list of what `f` answers for each item, in order. There is room for all answers before the first call. It is
-    /// refused for want of memory alone, and then nothing was called, and the items are given up.
+    /// The list of what `f` answers for each item, in order. There is room for all answers before
+    /// the first call. It is refused for want of memory alone, and then nothing was called, and the
+    /// items are given up.
     pub fn map_into<U, F: FnMut(T) -> U>(self, mut f: F) -> Result<NonEmptyVec<U, A>, Error>
     where
         T: Drop,
@@ -46,10 +47,10 @@ impl<T, A: Allocator + Copy> NonEmptyVec<T, A> {
 }
 
 impl<T: Drop, A: Allocator> NonEmptyVec<T, A> {
-    /// Makes the list `len` items long: the first ones stay, and what `f` answers, called once for each place that is
-    /// new, comes after them. Where it gets no longer, nothing is called, and it isn't refused; else there is room for
-    /// all answers before the first call. It is refused for want of memory alone, and then nothing was called, and the
-    /// list is as it was.
+    /// Makes the list `len` items long: the first ones stay, and what `f` answers, called once for
+    /// each place that is new, comes after them. Where it gets no longer, nothing is called, and it
+    /// isn't refused; else there is room for all answers before the first call. It is refused for
+    /// want of memory alone, and then nothing was called, and the list is as it was.
     pub fn resize_with<F: FnMut() -> T>(&mut self, len: NonZeroUsize, f: F) -> Result<(), Error>
         requires { CallableAlong (CalledWithNothing F.FnMut) (TakesNothing F.FnMut) f (replicate (non_zero_usize_get len - length self.old) tt) }
         ensures items { OnOk result ((answers : List T) × (self.new ≡ take (non_zero_usize_get len) self.old ++ answers) × CallsGiveAll (CalledWithNothing F.FnMut) f (replicate (non_zero_usize_get len - length self.old) tt) answers) }

@@ -74,8 +74,8 @@ impl<T: Canonical, A: Allocator> Canonical for NonEmptyVec<T, A> {
     ghost canonical = { non_empty_canonical T.enc T.writable T.prefix_free T.eq T.canonical };
 }
 
-/// The cuts at which a text is no list that has an item exclude one another: no text has a fault of the list and is
-/// empty.
+/// The cuts at which a text is no list that has an item exclude one another: no text has a fault of
+/// the list and is empty.
 pub fn non_empty_fault_law<T: Read<A>, A: Allocator>(
     alloc: A,
     range: RangeCfg<NonZeroUsize>,

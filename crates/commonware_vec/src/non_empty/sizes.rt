@@ -13,7 +13,8 @@ use std::num::NonZeroUsize;
 use std::vec::VecCloneMethods;
 
 impl<T: Drop, A: Allocator> NonEmptyVec<T, A> {
-    /// Puts the items that an iterator gives last. It is refused for want of memory alone, and then the list is as it was.
+    /// Puts the items that an iterator gives last. It is refused for want of memory alone, and then
+    /// the list is as it was.
     pub fn extend<I: IntoIterator<Item = T>>(&mut self, iter: I) -> Result<(), Error>
         requires { IsFiniteIterable I.into_iter_gives I.IntoIter.can_next I.IntoIter.remaining iter }
         ensures ok { OnOk result (TakesAll I.into_iter_gives I.IntoIter.next_gives iter (λ xs. self.new ≡ self.old ++ xs)) }
@@ -31,8 +32,9 @@ impl<T: Drop, A: Allocator> NonEmptyVec<T, A> {
 }
 
 impl<T: Clone, A: Allocator> NonEmptyVec<T, A> {
-    /// Makes the list `len` items long: the first ones stay, and clones of `value` come after them, or `value` itself.
-    /// Where it gets no longer, it isn't refused. It is refused for want of memory alone, and then the list is as it was.
+    /// Makes the list `len` items long: the first ones stay, and clones of `value` come after them,
+    /// or `value` itself. Where it gets no longer, it isn't refused. It is refused for want of
+    /// memory alone, and then the list is as it was.
     pub fn resize(&mut self, len: NonZeroUsize, value: T) -> Result<(), Error>
         ensures items { OnOk result (AppendsClonesOf T.is_clone (take (non_zero_usize_get len) self.old) self.new value) }
         ensures len { OnOk result (length self.new ≡ non_zero_usize_get len) }

@@ -1,5 +1,5 @@
 use Rattle.std.proofs.Common.{arith, refl, ◌≡◌, ◌+◌, ◌++◌, [], ◌∷◌, sym, subst}
-use Rattle.commonware_base.specs.Refusal.{refuses_from}
+use Rattle.commonware_base.specs.RefusalLaws.{refuses_from}
 use Rattle.commonware_base.specs.Source.{rest_of}
 use Rattle.commonware_base.proofs.ReadSteps.{ReadSoFar, read_none, read_more, read_all, read_all_writable, read_all_allowed, read_outside, read_faulty, read_wants}
 use Rattle.commonware_base.proofs.codec.list.read_list.Goals as goal

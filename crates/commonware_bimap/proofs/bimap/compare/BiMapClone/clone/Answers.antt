@@ -1,5 +1,5 @@
-use Rattle.commonware_base.specs.Clones.{equal_from_all_zip}
-use Rattle.commonware_map.specs.Pairs.{both_equal}
+use Rattle.commonware_base.specs.CloneLaws.{equal_from_all_zip}
+use Rattle.commonware_map.specs.PairLaws.{both_equal}
 use Rattle.commonware_bimap.specs.BiMapLaws.{repeated_back}
 use Rattle.commonware_bimap.proofs.bimap.compare.BiMapClone.clone.Goals as goal
 

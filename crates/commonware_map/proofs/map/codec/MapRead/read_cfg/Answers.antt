@@ -1,7 +1,8 @@
 use Rattle.std.proofs.Common.{◌≡◌, ℕ, ap, length, subst, ◌∙◌}
 use Rattle.commonware_base.specs.Lists.{IsAllowedList, IsListMemoryFree, ListFault, list_enc}
 use Rattle.commonware_base.specs.Range.{Bounds, exactly}
-use Rattle.commonware_base.specs.Refusal.{Refuses, refuses_from}
+use Rattle.commonware_base.specs.Refusal.{Refuses}
+use Rattle.commonware_base.specs.RefusalLaws.{refuses_from}
 use Rattle.commonware_base.specs.Sequence.{bad_first, bad_second}
 use Rattle.commonware_base.specs.Source.{rest_of}
 use Rattle.commonware_base.specs.Text.{AreBytes}

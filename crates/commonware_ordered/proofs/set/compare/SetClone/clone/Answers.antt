@@ -1,4 +1,4 @@
-use Rattle.commonware_base.specs.Clones.{equal_from_all_zip}
+use Rattle.commonware_base.specs.CloneLaws.{equal_from_all_zip}
 use Rattle.commonware_ordered.specs.StrictLaws.{strict_same}
 use Rattle.commonware_ordered.proofs.set.compare.SetClone.clone.Goals as goal
 

@@ -4,7 +4,8 @@ use Rattle.std.proofs.lemmas.Bool.{eqb-true}
 use Rattle.std.specs.Prelude.{length}
 use Rattle.commonware_base.specs.Lists.{ListFault, IsListMemoryFree}
 use Rattle.commonware_base.specs.Range.{Within, as_numbers}
-use Rattle.commonware_base.specs.Refusal.{Refuses, refuses_from}
+use Rattle.commonware_base.specs.Refusal.{Refuses}
+use Rattle.commonware_base.specs.RefusalLaws.{refuses_from}
 use Rattle.commonware_base.specs.Source.{rest_of}
 use Rattle.commonware_vec.specs.NonEmpty.{NonEmptyFault, bad_list, no_items}
 use Rattle.commonware_vec.specs.NonEmptyLaws.{begins_empty}

@@ -10,7 +10,8 @@ pub equal_from_same : {X : Type 0} {eq : X → X → Bool} → IsEquivalence eq 
 equal_from_same {X} {eq} e x y same = subst (λ z. eq x z ≡ true) (sym same) (e.refl x)
 
 -- a list of clones equals the list of their sources, where each clone equals its source
-pub equal_from_all_zip : {X : Type 0} {eq : X → X → Bool} (C : X → X → Type 0) → ((x y : X) → C x y → eq x y ≡ true) → (xs ys : List X) → AllZip C xs ys → pointwise eq xs ys ≡ true
+pub equal_from_all_zip : {X : Type 0} {eq : X → X → Bool} (C : X → X → Type 0) → ((x y : X) → C x y → eq x y ≡ true)
+    → (xs ys : List X) → AllZip C xs ys → pointwise eq xs ys ≡ true
 equal_from_all_zip C each [] [] z = refl
 equal_from_all_zip C each [] (y ∷ ys) z = absurd z
 equal_from_all_zip C each (x ∷ xs) [] z = absurd z

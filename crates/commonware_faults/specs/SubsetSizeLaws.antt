@@ -1,12 +1,14 @@
 -- The sizes of sub-sets, and how many places two of them share.
-use Rattle.std.proofs.Common.{◌≡◌, ℕ, zero, suc, ◌+◌, ◌-◌, ◌≤◌, min, max, Bool, true, false, cond, ◌&&◌, leb, ltb, List, [], ◌∷◌, length, map, refl, ap, sym, ◌∙◌, arith}
+use Rattle.std.proofs.Common.{◌≡◌, ℕ, zero, suc, ◌+◌, ◌-◌, ◌≤◌, min, max, Bool, true, false, cond, ◌&&◌, leb, ltb, List}
+use Rattle.std.proofs.Common.{[], ◌∷◌, length, map, refl, ap, sym, ◌∙◌, arith}
 use Rattle.std.specs.List.{range_with_len}
 use Rattle.std.proofs.lemmas.List.FromFn.{length-map-range_with_len}
 use Rattle.std.proofs.lemmas.Bool.Decides.{nat_tests}
 use Rattle.commonware_faults.specs.Subsets.{size, shared, passing, is_between, places}
 
 -- two sub-sets of n positions share at least what their sizes have above n
-pub size-le-shared : (first second : List Bool) → length first ≡ length second → size first + size second ≤ length first + shared first second
+pub size-le-shared : (first second : List Bool) → length first ≡ length second
+    → size first + size second ≤ length first + shared first second
 size-le-shared [] [] h = omega arith
 size-le-shared [] (y ∷ ys) h = absurd (omega arith)
 size-le-shared (x ∷ xs) [] h = absurd (omega arith)
@@ -31,28 +33,34 @@ shared-cons false false xs ys = omega arith
 pub shared-map : (p q : ℕ → Bool) (ks : List ℕ) → shared (map p ks) (map q ks) ≡ size (map (λ k. p k && q k) ks)
 shared-map p q [] = refl
 shared-map p q (k ∷ ks) =
-    shared-cons (p k) (q k) (map p ks) (map q ks) ∙ ap (λ n. cond (p k && q k) 1 0 + n) (shared-map p q ks) ∙ sym (size-cons (p k && q k) (map (λ j. p j && q j) ks))
+    shared-cons (p k) (q k) (map p ks) (map q ks) ∙ ap (λ n. cond (p k && q k) 1 0 + n) (shared-map p q ks)
+    ∙ sym (size-cons (p k && q k) (map (λ j. p j && q j) ks))
 
 -- equal tests give sub-sets of one size
 pub size-agree : (p q : ℕ → Bool) → ((k : ℕ) → p k ≡ q k) → (ks : List ℕ) → size (map p ks) ≡ size (map q ks)
 size-agree p q same [] = refl
 size-agree p q same (k ∷ ks) =
     let rest = size-agree p q same ks in
-    size-cons (p k) (map p ks) ∙ ap (λ b. cond b 1 0 + size (map p ks)) (same k) ∙ ap (λ n. cond (q k) 1 0 + n) rest ∙ sym (size-cons (q k) (map q ks))
+    size-cons (p k) (map p ks) ∙ ap (λ b. cond b 1 0 + size (map p ks)) (same k) ∙ ap (λ n. cond (q k) 1 0 + n) rest
+    ∙ sym (size-cons (q k) (map q ks))
 
 -- there are as many truth values as positions
 pub length-passing : (test : ℕ → Bool) (n : ℕ) → length (passing test n) ≡ n
 length-passing test n = length-map-range_with_len test 0 n
 
 -- one position more of a range
-one_more : (start end low n : ℕ) → cond (leb start low && ltb low end) 1 0 + (min end (low + 1 + n) - max start (low + 1)) ≡ min end (low + suc n) - max start low
+one_more :
+    (start end low n : ℕ) → cond (leb start low && ltb low end) 1 0 + (min end (low + 1 + n) - max start (low + 1))
+    ≡ min end (low + suc n) - max start low
 one_more start end low n = grind (arith, nat_tests)
 
 -- how many of n positions from `low` on lie in a range
-size-between : (start end low n : ℕ) → size (map (is_between start end) (range_with_len low n)) ≡ min end (low + n) - max start low
+size-between :
+    (start end low n : ℕ) → size (map (is_between start end) (range_with_len low n)) ≡ min end (low + n) - max start low
 size-between start end low zero = omega arith
 size-between start end low (suc n) =
-    size-cons (is_between start end low) _ ∙ ap (λ k. cond (is_between start end low) 1 0 + k) (size-between start end (low + 1) n) ∙ one_more start end low n
+    size-cons (is_between start end low) _ ∙ ap (λ k. cond (is_between start end low) 1 0 + k)
+    (size-between start end (low + 1) n) ∙ one_more start end low n
 
 -- how many of n positions lie in a range
 pub size-places : (n start end : ℕ) → size (places n start end) ≡ min end n - start
@@ -65,4 +73,5 @@ both_ranges a b c d k = grind (arith, nat_tests)
 -- how many of n positions lie in both of two ranges
 pub shared-places : (n a b c d : ℕ) → shared (places n a b) (places n c d) ≡ min (min b d) n - max a c
 shared-places n a b c d =
-    shared-map (is_between a b) (is_between c d) (range_with_len 0 n) ∙ size-agree _ _ (both_ranges a b c d) (range_with_len 0 n) ∙ size-places n (max a c) (min b d)
+    shared-map (is_between a b) (is_between c d) (range_with_len 0 n)
+    ∙ size-agree _ _ (both_ranges a b c d) (range_with_len 0 n) ∙ size-places n (max a c) (min b d)
