@@ -78,15 +78,19 @@ fn halved<T: Ord>(items: &[T], item: &T) -> Option<usize>
 /// The most bytes of an item whose comparison costs less than a wrong guess.
 const NARROW: usize = 8;
 
-/// The same place. Narrow items are asked three at a time; of wide ones a comparison is dear, so
-/// for them the list is halved.
+/// The most items of a list in which halving asks so few that guessing them costs less.
+const FEW: usize = 16;
+
+/// The same place. Of many narrow items three are asked at a time. Few are halved, and so are wide
+/// ones, of which a comparison is dear.
 pub(crate) fn place_of<T: Ord>(items: &[T], item: &T) -> Option<usize>
     requires { IsStrict T.cmp items.now }
     ensures { IsPlaceOf T.eq items.now item.now result }
 {
-    if items.len() * size_of::<T>() <= items.len().saturating_mul(NARROW) {
-        quartered(items, item)
-    } else {
+    let is_wide = items.len().min(1) * size_of::<T>() > NARROW;
+    if is_wide || items.len() <= FEW {
         halved(items, item)
+    } else {
+        quartered(items, item)
     }
 }

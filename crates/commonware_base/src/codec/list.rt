@@ -101,29 +101,54 @@ impl<T: Write<A>, A: Allocator> Write<A> for Vec<T, A> {
 /// The most items of a list for which room is made with the first, whatever the text states.
 const MOST_ROOM: usize = 1024;
 
-/// Makes room for another item, or where there is none yet, for so many.
+/// What a text tells of the room for its items: how many it states, and in how many bytes.
+#[derive(Clone, Copy)]
+struct Stated {
+    count: usize,
+    bytes: usize,
+}
+
+/// For how many more items room is made, where so many have it and so many bytes are left: for no
+/// more than are stated, and for no more than the bytes hold, if each takes as many as those that
+/// are read. The first room is for no more than there are bytes, nor than [`MOST_ROOM`].
+fn more_room(held: usize, stated: Stated, left: usize) -> usize {
+    let others = stated.count.saturating_sub(held);
+    if held == 0 {
+        return others.min(stated.bytes).min(MOST_ROOM);
+    }
+    let taken = stated.bytes.saturating_sub(left);
+    let each = (taken / held.saturating_add(1)).max(1);
+    others.min((left / each).saturating_add(1))
+}
+
+/// Makes room for another item at least.
 #[cold]
 #[inline(never)]
-fn make_room<T, A: Allocator>(items: &mut Vec<T, A>, first: usize) -> Result<(), AllocError>
+fn make_room<T, A: Allocator>(
+    items: &mut Vec<T, A>,
+    stated: Stated,
+    left: usize,
+) -> Result<(), AllocError>
     ensures items { items.new.items ≡ items.old.items }
     ensures room { OnOk result (vec_len items.new < vec_capacity items.new) }
 {
-    let more = if items.is_empty() { first.max(1) } else { 1 };
-    items.reserve(more)
+    let more = more_room(items.len(), stated, left);
+    items.reserve(more.max(1))
 }
 
-/// Puts an item last. With the first one, room is made for so many.
+/// Puts an item last, after which so many bytes are left.
 #[inline(always)]
 fn put<T: Drop, A: Allocator>(
     items: &mut Vec<T, A>,
     value: T,
-    first: usize,
+    stated: Stated,
+    left: usize,
 ) -> Result<(), AllocError>
     ensures { items.new.items
         ≡ (if is_ok result then items.old.items ++ value ∷ [] else items.old.items) }
 {
     if items.len() == items.capacity() {
-        make_room(items, first)?;
+        make_room(items, stated, left)?;
     }
     items.push_reserved(value);
     Ok(())
@@ -133,8 +158,10 @@ fn put<T: Drop, A: Allocator>(
 ///
 /// It answers the first fault: the length's, then a length out of the range, then that of the
 /// first item that has one. Once the first item is read, it makes room for as many items as the
-/// text states, but for no more than there are bytes after the length, nor than 1024; then for
-/// further ones as they are read. After an error the source stands where it stood.
+/// text states, but for no more than there are bytes after the length, nor than 1024. Where that
+/// is full, it makes room for as many others as are stated, but for no more than the bytes that
+/// are left hold, if each takes as many as those before it. After an error the source stands where
+/// it stood.
 pub fn read_list<T: Read<A> + Drop, A: Allocator + Copy>(
     alloc: A,
     src: &mut Source<'_>,
@@ -155,12 +182,13 @@ pub fn read_list<T: Read<A> + Drop, A: Allocator + Copy>(
     if !range.contains(&count) {
         return Err(Error::InvalidLength(count));
     }
-    let room = count.min(here.remaining()).min(MOST_ROOM);
+    let bytes = here.remaining();
+    let stated = Stated { count, bytes };
     let mut items = Vec::new(alloc);
     for _ in 0..count {
         match T::read_cfg(alloc, &mut here, item) {
             Ok(value) => {
-                if put(&mut items, value, room).is_err() {
+                if put(&mut items, value, stated, here.remaining()).is_err() {
                     return Err(Error::Memory);
                 }
             }

@@ -1,9 +1,10 @@
 //! Texts read with a heap that refuses each request for more than so many bytes.
 //!
 //! With its first item a reader of lists makes room for as many items as the text states, as there
-//! are bytes after the length, and as 1,024 allow, whichever are the fewest. A reader that made
-//! room for a stated length, or for all the bytes there are, would be refused memory for it here:
-//! it would answer `Memory`, or read on and have been refused.
+//! are bytes after the length, and as 1,024 allow, whichever are the fewest; once these are read,
+//! for as many more as the bytes hold that are left. A reader that made room for a stated length,
+//! or for all the bytes there are, would be refused memory for it here: it would answer `Memory`,
+//! or read on and have been refused.
 use super::walk::Heap;
 use crate::Refusing;
 use commonware_utils::codec::{Error, RangeCfg, Read, Source};
@@ -16,7 +17,7 @@ use std::test::Fail;
 /// More than a reader of few items needs at once.
 const MOST_BYTES: usize = 512;
 
-/// How many items room is made for with the first, at most.
+/// For how many items room is made with the first, at most.
 const MOST_ROOM: usize = 1024;
 
 /// How many bytes a number of the type `usize` takes in memory.
@@ -135,34 +136,55 @@ fn short_lists_are_accepted(rt: HostRuntime) {
     }
 }
 
-/// The length, the number 7, and so many bytes `ff`, which begin no number.
-fn one_number(alloc: Global, length: &[u8], faulty: usize) -> Result<Vec<u8>, AllocError> {
+/// The length, so many times a number, and so many bytes `ff`, which begin no number.
+fn numbers(
+    alloc: Global,
+    length: &[u8],
+    number: &[u8],
+    times: usize,
+    faulty: usize,
+) -> Result<Vec<u8>, AllocError> {
     let mut bytes = length.to_vec(alloc)?;
-    bytes.extend_from_slice(b"\x07")?;
+    for _ in 0..times {
+        bytes.extend_from_slice(number)?;
+    }
     for _ in 0..faulty {
         bytes.extend_from_slice(b"\xff")?;
     }
     Ok(bytes)
 }
 
-/// Room is made for a number a byte, and for no more than 1,024.
+/// Numbers of which so many are read before a fault, in so many bytes that begin none, and for how
+/// many the greatest request is: for a number a byte, and for no more than 1,024, until these are
+/// read; then for as many more as the bytes hold, if each takes as many as those that are read.
+const ROOMS: [(&[u8], usize, usize, usize); 7] = [
+    (b"\x07", 1, 7, 8),
+    (b"\x07", 1, 99, 100),
+    (b"\x07", 1, 1023, MOST_ROOM),
+    (b"\x07", 1, 5000, MOST_ROOM),
+    (b"\x07", MOST_ROOM, 9000, MOST_ROOM),
+    (b"\x07", MOST_ROOM + 1, 9000, MOST_ROOM + 1 + 9000),
+    (b"\x87\x01", MOST_ROOM + 1, 9000, MOST_ROOM + 1 + 4500),
+];
+
+/// Room goes by the bytes that are there, whatever length is stated.
 #[test]
 fn room_goes_by_the_bytes_that_are_there(rt: HostRuntime) -> Result<(), Fail> {
     for form in [Form::Numbers, Form::NumberSet, Form::SomeNumbers] {
         for stated in STATED {
-            for (faulty, room) in [(7, 8), (99, 100), (1023, MOST_ROOM), (5000, MOST_ROOM)] {
-                let bytes = one_number(rt.alloc(), stated, faulty)?;
+            for (number, times, faulty, room) in ROOMS {
+                let bytes = numbers(rt.alloc(), stated, number, times, faulty)?;
                 let heap = Refusing::above(rt.alloc(), room * NUMBER);
                 let outcome = form.read(&heap, &bytes);
                 assert!(rt;
                     outcome == (Some(Error::InvalidVarint), 0) && !heap.has_refused(),
-                    "{form:?} {stated:?} {faulty}"
+                    "{form:?} {stated:?} {times} {faulty}"
                 );
                 let less = Refusing::above(rt.alloc(), room * NUMBER - 1);
                 let outcome = form.read(&less, &bytes);
                 assert!(rt;
                     outcome == (Some(Error::Memory), 0) && less.has_refused(),
-                    "{form:?} {stated:?} {faulty}"
+                    "{form:?} {stated:?} {times} {faulty}"
                 );
             }
         }
