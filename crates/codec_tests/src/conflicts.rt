@@ -1,0 +1,152 @@
+//! The members that signed both of two certificates, with each request for memory refused in turn.
+use committee_certificates::{Certificate, ConflictError, conflict};
+use commonware_utils::Participant;
+use commonware_utils::faults::{Faults, N3f1, N5f1};
+use commonware_utils::ordered::Set;
+use std::alloc::{AllocError, Allocator};
+use test_equipment::walk::{Heap, Outcome, Refusable, full, refused, requests};
+
+/// A fault model.
+#[derive(Clone, Copy, Debug)]
+enum Model {
+    N3f1,
+    N5f1,
+}
+
+/// A committee and two certificates for different values.
+#[derive(Clone, Copy, Debug)]
+struct Row {
+    /// How many members the committee has.
+    members: u32,
+    model: Model,
+    /// The signers of one certificate.
+    first: &'static [u32],
+    /// The signers of the other.
+    second: &'static [u32],
+    /// Those of both, or the error.
+    answer: Result<&'static [u32], ConflictError>,
+}
+
+const ROWS: [Row; 8] = [
+    Row {
+        members: 4,
+        model: Model::N3f1,
+        first: &[0, 1, 2],
+        second: &[1, 2, 3],
+        answer: Ok(&[1, 2]),
+    },
+    Row {
+        members: 4,
+        model: Model::N5f1,
+        first: &[0, 1, 2],
+        second: &[1, 2, 3],
+        answer: Err(ConflictError::TooFew),
+    },
+    Row {
+        members: 6,
+        model: Model::N5f1,
+        first: &[0, 1, 2, 3, 4],
+        second: &[1, 2, 3, 4, 5],
+        answer: Ok(&[1, 2, 3, 4]),
+    },
+    Row {
+        members: 4,
+        model: Model::N3f1,
+        first: &[0, 1],
+        second: &[0, 1, 4],
+        answer: Err(ConflictError::Outside),
+    },
+    Row {
+        members: 4,
+        model: Model::N3f1,
+        first: &[0, 1, 2],
+        second: &[4294967295],
+        answer: Err(ConflictError::Outside),
+    },
+    Row {
+        members: 4,
+        model: Model::N3f1,
+        first: &[0, 1, 2],
+        second: &[2, 3],
+        answer: Err(ConflictError::TooFew),
+    },
+    Row {
+        members: 1,
+        model: Model::N3f1,
+        first: &[0],
+        second: &[0],
+        answer: Ok(&[0]),
+    },
+    Row {
+        members: 4,
+        model: Model::N3f1,
+        first: &[],
+        second: &[],
+        answer: Err(ConflictError::TooFew),
+    },
+];
+
+/// A certificate of a value of one byte.
+fn certificate<A: Allocator + Copy>(
+    alloc: A,
+    value: u8,
+    signers: &[u32],
+) -> Result<Certificate<A>, AllocError> {
+    let signers = signers.iter().map(|signer| Participant::new(*signer));
+    Ok(Certificate {
+        value: Vec::from_slice(alloc, &[value])?,
+        signers: Set::from_iter_dedup(alloc, signers)?,
+    })
+}
+
+/// The members that signed both. `None` where the values are the same, or the committee has no
+/// members or too many.
+fn conflict_of<M: Faults, A: Allocator + Copy>(
+    alloc: A,
+    committee: &Set<u32, A>,
+    first: &Certificate<A>,
+    second: &Certificate<A>,
+) -> Option<Result<Set<Participant, A>, ConflictError>> {
+    let members = committee.len();
+    if first.value == second.value || members == 0 || members > u32::MAX as usize {
+        return None;
+    }
+    Some(conflict::<M, _, _>(alloc, committee, first, second))
+}
+
+impl Refusable for Row {
+    fn outcome(&self, heap: Heap<'_>, granted: u64) -> Outcome {
+        let (Ok(first), Ok(second)) = (
+            certificate(heap, 0xaa, self.first),
+            certificate(heap, 0xbb, self.second),
+        ) else {
+            return Outcome::Wrong;
+        };
+        let Ok(committee) = Set::from_iter_dedup(heap, 0..self.members) else {
+            return Outcome::Wrong;
+        };
+        heap.restart(granted);
+        let both = match self.model {
+            Model::N3f1 => conflict_of::<N3f1, _>(heap, &committee, &first, &second),
+            Model::N5f1 => conflict_of::<N5f1, _>(heap, &committee, &first, &second),
+        };
+        match (both, self.answer) {
+            (Some(Ok(both)), Ok(wanted)) => {
+                let indices = both.iter().map(|signer| signer.get());
+                full(indices.eq(wanted.iter().copied()))
+            }
+            (Some(Err(ConflictError::Memory)), Ok(_)) => refused(true),
+            (Some(Err(error)), Err(wanted)) => full(error == wanted),
+            _ => Outcome::Wrong,
+        }
+    }
+}
+
+/// An answer takes one request, and a refusal that isn't for memory takes none.
+#[test]
+fn signers_of_both_are_named(rt: HostRuntime) {
+    for row in ROWS {
+        let asked = row.answer.is_ok() as u64;
+        assert!(rt; requests(rt.alloc(), &row) == Some(asked), "{row:?}");
+    }
+}

@@ -1,0 +1,298 @@
+//! Values of each byte form written, read, cloned and written to be read again, with each request
+//! for memory refused in turn: what was lent is as it was.
+ghost use Rattle.std.specs.Prelude.{IfOk};
+
+use committee_certificates::Certificate;
+use commonware_utils::Participant;
+use commonware_utils::codec::{
+    Canonical, Error, RangeCfg, Read, Source, UInt, Write, read_list, round_trip,
+};
+use commonware_utils::ordered::{BiMap, Map, Set};
+use commonware_utils::vec::NonEmptyVec;
+use std::alloc::Allocator;
+use std::num::NonZeroUsize;
+use std::test::Fail;
+use test_equipment::Refusing;
+use test_equipment::walk::{Heap, Outcome, Refusable, asks_for, full, refused, requests};
+
+/// What is done with a value.
+#[derive(Clone, Copy, Debug)]
+enum Act {
+    Write,
+    Read,
+    Clone,
+    RoundTrip,
+}
+
+/// A type of values, and one of them.
+#[derive(Clone, Copy, Debug)]
+enum Form {
+    Byte,
+    Word,
+    Varint,
+    Size,
+    Participant,
+    /// A list of three lists.
+    List,
+    /// A set of three sets.
+    Set,
+    /// Three sets by their keys.
+    Map,
+    /// Three numbers by their keys.
+    BiMap,
+    /// Three sets by their keys, and the keys by the sets.
+    BiMapOfSets,
+    /// A list of three items, which is never empty.
+    NonEmpty,
+    /// A list of three lists, of which none is ever empty.
+    NonEmptyNest,
+    /// A value of one byte and three signers.
+    Certificate,
+}
+
+/// Each form, and at least how many requests it takes to write it, to read it, to clone it, and to
+/// write it and read it again. Where that is 0, it takes none.
+const FORMS: [(Form, [u64; 4]); 13] = [
+    (Form::Byte, [1, 0, 0, 1]),
+    (Form::Word, [1, 0, 0, 1]),
+    (Form::Varint, [1, 0, 0, 1]),
+    (Form::Size, [1, 0, 0, 1]),
+    (Form::Participant, [1, 0, 0, 1]),
+    (Form::List, [1, 3, 3, 4]),
+    (Form::Set, [1, 3, 2, 4]),
+    (Form::Map, [1, 4, 3, 5]),
+    (Form::BiMap, [1, 2, 2, 3]),
+    (Form::BiMapOfSets, [1, 4, 3, 5]),
+    (Form::NonEmpty, [1, 1, 1, 2]),
+    (Form::NonEmptyNest, [1, 3, 3, 4]),
+    (Form::Certificate, [1, 2, 2, 3]),
+];
+
+const ACTS: [Act; 4] = [Act::Write, Act::Read, Act::Clone, Act::RoundTrip];
+
+/// The bytes of {{}, {1, 2}, {7}}.
+const SETS: &[u8; 7] = b"\x03\x00\x02\x01\x02\x01\x07";
+
+/// The bytes of {1: {}, 2: {5}, 3: {7, 9}}.
+const SETS_BY_KEYS: &[u8; 11] = b"\x03\x01\x02\x03\x03\x00\x01\x05\x02\x07\x09";
+
+/// An act on a value of a form.
+#[derive(Drop)]
+struct Call {
+    form: Form,
+    act: Act,
+}
+
+impl Refusable for Call {
+    fn outcome(&self, heap: Heap<'_>, granted: u64) -> Outcome {
+        let any = RangeCfg::from(..);
+        let some: RangeCfg<NonZeroUsize> = RangeCfg::from(..);
+        let trial = Trial {
+            act: self.act,
+            heap,
+            granted,
+        };
+        match self.form {
+            Form::Byte => trial.on::<u8>(b"\x07", &()),
+            Form::Word => trial.on::<u32>(b"\x00\x00\x01\x2c", &()),
+            Form::Varint => trial.on::<UInt>(b"\xac\x02", &()),
+            Form::Size => trial.on::<usize>(b"\xac\x02", &any),
+            Form::Participant => trial.on::<Participant>(b"\xac\x02", &()),
+            Form::List => trial.on::<Vec<Vec<u8, _>, _>>(SETS, &(any, (any, ()))),
+            Form::Set => trial.on::<Set<Set<u8, _>, _>>(SETS, &(any, (any, ()))),
+            Form::Map => trial.on::<Map<u8, Set<u8, _>, _>>(SETS_BY_KEYS, &(any, (), (any, ()))),
+            Form::BiMap => trial.on::<BiMap<u8, u8, _>>(
+                b"\x03\x01\x02\x03\x03\x1e\x14\x0a",
+                &(any, (), ()),
+            ),
+            Form::BiMapOfSets => trial.on::<BiMap<u8, Set<u8, _>, _>>(
+                SETS_BY_KEYS,
+                &(any, (), (any, ())),
+            ),
+            Form::NonEmpty => trial.on::<NonEmptyVec<u8, _>>(b"\x03\x01\x02\x03", &(some, ())),
+            Form::NonEmptyNest => trial.on::<NonEmptyVec<NonEmptyVec<u8, _>, _>>(
+                b"\x03\x01\x01\x02\x01\x02\x01\x03",
+                &(some, (some, ())),
+            ),
+            Form::Certificate => {
+                trial.on::<Certificate<_>>(b"\x01\xaa\x03\x00\x01\x02", &(any, any))
+            }
+        }
+    }
+}
+
+/// An act, and the request to refuse.
+#[derive(Drop)]
+struct Trial<'a> {
+    act: Act,
+    heap: Heap<'a>,
+    granted: u64,
+}
+
+/// The value that the bytes begin with.
+fn read<T: Read<A>, A: Allocator>(alloc: A, bytes: &[u8], cfg: &T::Cfg) -> Result<T, Error>
+    ensures writable { IfOk result T.writable }
+    ensures allowed { IfOk result (T.allowed cfg.now) }
+{
+    T::read_cfg(alloc, &mut Source::new(bytes), cfg)
+}
+
+impl<'a> Trial<'a> {
+    /// What the act on the value comes to that the bytes stand for. The value has to stay as it is.
+    fn on<T: Read<Heap<'a>> + Write<Heap<'a>> + Canonical + Clone + Drop>(
+        &self,
+        bytes: &[u8],
+        cfg: &T::Cfg,
+    ) -> Outcome {
+        let same: Result<T, Error> = read(self.heap, bytes, cfg);
+        let value: Result<T, Error> = read(self.heap, bytes, cfg);
+        let (Ok(same), Ok(value)) = (same, value) else {
+            return Outcome::Wrong;
+        };
+        let outcome = match self.act {
+            Act::Write => self.write(&value, bytes),
+            Act::Read => self.read(&same, bytes, cfg),
+            Act::Clone => self.clone_of(&value),
+            Act::RoundTrip => self.round_trip(&value, cfg),
+        };
+        if value == same {
+            outcome
+        } else {
+            Outcome::Wrong
+        }
+    }
+
+    /// The value written into a sink, which a refusal leaves as it was. Its size takes no memory.
+    fn write<T: Write<Heap<'a>>>(&self, value: &T, bytes: &[u8]) -> Outcome {
+        let Ok(mut sink) = vec![in self.heap; 0xaau8, 0xbb, 0xcc] else {
+            return Outcome::Wrong;
+        };
+        if !value.is_writable() {
+            return Outcome::Wrong;
+        }
+        self.heap.restart(self.granted);
+        match value.write(&mut sink) {
+            Ok(()) => {
+                let written = sink.strip_prefix(b"\xaa\xbb\xcc") == Some(bytes);
+                full(written && value.encode_size() == bytes.len())
+            }
+            Err(_) => refused(sink.as_slice() == b"\xaa\xbb\xcc".as_slice()),
+        }
+    }
+
+    /// The value read from a source, which a refusal leaves as it was.
+    fn read<T: Read<Heap<'a>> + Eq + Drop>(
+        &self,
+        value: &T,
+        bytes: &[u8],
+        cfg: &T::Cfg,
+    ) -> Outcome {
+        let mut src = Source::new(bytes);
+        self.heap.restart(self.granted);
+        match T::read_cfg(self.heap, &mut src, cfg) {
+            Ok(again) => full(again == *value && src.remaining() == 0),
+            Err(error) => refused(error == Error::Memory && src.position() == 0),
+        }
+    }
+
+    /// A clone of the value.
+    fn clone_of<T: Clone + Eq + Drop>(&self, value: &T) -> Outcome {
+        self.heap.restart(self.granted);
+        match value.clone() {
+            Ok(copy) => full(copy == *value),
+            Err(_) => refused(true),
+        }
+    }
+
+    /// The value written with two bytes after it, and read again.
+    fn round_trip<T: Read<Heap<'a>> + Write<Heap<'a>> + Canonical + Drop>(
+        &self,
+        value: &T,
+        cfg: &T::Cfg,
+    ) -> Outcome
+        requires writable { T.writable value.now }
+        requires allowed { T.allowed cfg.now value.now }
+    {
+        self.heap.restart(self.granted);
+        match round_trip(self.heap, value, b"\xff\xff", cfg) {
+            Ok((again, left)) => full(again == *value && left == 2),
+            Err(error) => refused(error == Error::Memory),
+        }
+    }
+}
+
+/// A list of three lists, read by the function for lists.
+struct ListRead;
+
+impl Refusable for ListRead {
+    fn outcome(&self, heap: Heap<'_>, granted: u64) -> Outcome {
+        let any = RangeCfg::from(..);
+        let mut src = Source::new(SETS);
+        heap.restart(granted);
+        let read: Result<Vec<Vec<u8, _>, _>, Error> = read_list(heap, &mut src, any, &(any, ()));
+        match read {
+            Ok(items) => full(items.len() == 3 && src.remaining() == 0),
+            Err(error) => refused(error == Error::Memory && src.position() == 0),
+        }
+    }
+}
+
+/// A list of as many bytes as room is made for at once, read from its text.
+#[derive(Drop)]
+struct LongRead<'a>(&'a [u8]);
+
+impl<'b> Refusable for LongRead<'b> {
+    fn outcome(&self, heap: Heap<'_>, granted: u64) -> Outcome {
+        let mut src = Source::new(self.0);
+        heap.restart(granted);
+        let read: Result<Vec<u8, _>, Error> = read_list(heap, &mut src, RangeCfg::exact(1024), &());
+        match read {
+            Ok(items) => full(items.len() == 1024 && src.remaining() == 0),
+            Err(error) => refused(error == Error::Memory && src.position() == 0),
+        }
+    }
+}
+
+/// A list of 1,024 items of one byte takes one request.
+#[test]
+fn a_list_takes_one_request(rt: HostRuntime) -> Result<(), Fail> {
+    let mut bytes = b"\x80\x08".to_vec(rt.alloc())?;
+    for _ in 0..1024 {
+        bytes.push(0x55u8)?;
+    }
+    assert!(rt; requests(rt.alloc(), &LongRead(&bytes)) == Some(1));
+    Ok(())
+}
+
+#[test]
+fn each_request_is_refused_in_turn(rt: HostRuntime) {
+    for (form, least) in FORMS {
+        for (act, least) in ACTS.into_iter().zip(least) {
+            let right = asks_for(rt.alloc(), &Call { form, act }, least);
+            assert!(rt; right, "{form:?} {act:?}");
+        }
+    }
+    assert!(rt; asks_for(rt.alloc(), &ListRead, 3));
+}
+
+/// A varint is written into a sink with room for it, for a part of it and for none.
+#[test]
+fn a_refused_varint_leaves_the_sink(rt: HostRuntime) -> Result<(), Fail> {
+    let heap = Refusing::after(rt.alloc(), u64::MAX);
+    let mut refusals = 0u32;
+    for length in 0..64usize {
+        heap.restart(u64::MAX);
+        let mut sink = Vec::new(&heap);
+        for _ in 0..length {
+            sink.push(0xaau8)?;
+        }
+        heap.restart(0);
+        let written = UInt(300).write(&mut sink);
+        let refused = heap.has_refused();
+        let added = if refused { 0 } else { 2 };
+        assert!(rt; written.is_err() == refused && sink.len() == length + added);
+        refusals = refusals.saturating_add(refused as u32);
+    }
+    assert!(rt; refusals > 2, "{refusals}");
+    Ok(())
+}

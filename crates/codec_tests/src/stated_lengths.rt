@@ -1,0 +1,193 @@
+//! Texts read with a heap that refuses each request for more than so many bytes.
+//!
+//! With its first item a reader of lists makes room for as many items as the text states, as there
+//! are bytes after the length, and as 1,024 allow, whichever are the fewest; once these are read,
+//! for as many more as the bytes hold that are left. A reader that made room for a stated length,
+//! or for all the bytes there are, would be refused memory for it here: it would answer `Memory`,
+//! or read on and have been refused.
+use commonware_utils::codec::{Error, RangeCfg, Read, Source};
+use commonware_utils::ordered::{BiMap, Map, Set};
+use commonware_utils::vec::NonEmptyVec;
+use std::alloc::{AllocError, Allocator, Global};
+use std::num::NonZeroUsize;
+use std::test::Fail;
+use test_equipment::Refusing;
+use test_equipment::walk::Heap;
+
+/// More than a reader of few items needs at once.
+const MOST_BYTES: usize = 512;
+
+/// For how many items room is made with the first, at most.
+const MOST_ROOM: usize = 1024;
+
+/// How many bytes a number of the type `usize` takes in memory.
+const NUMBER: usize = 8;
+
+/// What a text is read as.
+#[derive(Clone, Copy, Debug)]
+enum Form {
+    List,
+    Set,
+    Map,
+    BiMap,
+    NonEmpty,
+    /// A list of lists.
+    Nest,
+    /// A list of lists, of which none is ever empty.
+    NonEmptyNest,
+    /// Lists by their keys.
+    Lists,
+    /// A list of numbers.
+    Numbers,
+    /// A set of numbers.
+    NumberSet,
+    /// A list of numbers, which is never empty.
+    SomeNumbers,
+}
+
+/// What is said of a reading: the error, if there is one, and how many bytes were read.
+fn outcome<T: Read<A> + Drop, A: Allocator>(
+    alloc: A,
+    bytes: &[u8],
+    cfg: &T::Cfg,
+) -> (Option<Error>, usize) {
+    let mut src = Source::new(bytes);
+    let read: Result<T, Error> = T::read_cfg(alloc, &mut src, cfg);
+    (read.err(), src.position())
+}
+
+impl Form {
+    /// What reading the form from the bytes comes to.
+    fn read(self, heap: Heap<'_>, bytes: &[u8]) -> (Option<Error>, usize) {
+        let any = RangeCfg::from(..);
+        let some: RangeCfg<NonZeroUsize> = RangeCfg::from(..);
+        match self {
+            Form::List => outcome::<Vec<u8, _>, _>(heap, bytes, &(any, ())),
+            Form::Set => outcome::<Set<u8, _>, _>(heap, bytes, &(any, ())),
+            Form::Map => outcome::<Map<u8, u8, _>, _>(heap, bytes, &(any, (), ())),
+            Form::BiMap => outcome::<BiMap<u8, u8, _>, _>(heap, bytes, &(any, (), ())),
+            Form::NonEmpty => outcome::<NonEmptyVec<u8, _>, _>(heap, bytes, &(some, ())),
+            Form::Nest => outcome::<Vec<Vec<u8, _>, _>, _>(heap, bytes, &(any, (any, ()))),
+            Form::NonEmptyNest => {
+                outcome::<NonEmptyVec<NonEmptyVec<u8, _>, _>, _>(heap, bytes, &(some, (some, ())))
+            }
+            Form::Lists => outcome::<Map<u8, Vec<u8, _>, _>, _>(heap, bytes, &(any, (), (any, ()))),
+            Form::Numbers => outcome::<Vec<usize, _>, _>(heap, bytes, &(any, any)),
+            Form::NumberSet => outcome::<Set<usize, _>, _>(heap, bytes, &(any, any)),
+            Form::SomeNumbers => outcome::<NonEmptyVec<usize, _>, _>(heap, bytes, &(some, any)),
+        }
+    }
+}
+
+/// The bytes of the lengths 100000 and 4294967295.
+const STATED: [&[u8]; 2] = [b"\xa0\x8d\x06", b"\xff\xff\xff\xff\x0f"];
+
+/// A form, and what stands before and after the stated length: good items, and too few.
+const SHORT: [(Form, &[u8], &[u8]); 10] = [
+    (Form::List, b"", b"\x01\x02\x03\x04\x05"),
+    (Form::Set, b"", b"\x01\x02\x03\x04\x05"),
+    (Form::Map, b"", b"\x01\x02\x03\x04\x05"),
+    (Form::BiMap, b"", b"\x01\x02\x03\x04\x05"),
+    (Form::NonEmpty, b"", b"\x01\x02\x03\x04\x05"),
+    (Form::Nest, b"", b"\x01\x07\x02\x05\x06"),
+    (Form::Nest, b"\x02\x01\x07", b"\x05\x06"),
+    (Form::NonEmptyNest, b"", b"\x01\x07\x02\x05\x06"),
+    (Form::NonEmptyNest, b"\x02\x01\x07", b"\x05\x06"),
+    (Form::Lists, b"\x01\x09\x01", b"\x05\x06"),
+];
+
+#[test]
+fn a_stated_length_alone_makes_no_room(rt: HostRuntime) -> Result<(), Fail> {
+    for (form, before, after) in SHORT {
+        for stated in STATED {
+            let heap = Refusing::above(rt.alloc(), MOST_BYTES);
+            let mut bytes = before.to_vec(rt.alloc())?;
+            bytes.extend_from_slice(stated)?;
+            bytes.extend_from_slice(after)?;
+            let outcome = form.read(&heap, &bytes);
+            assert!(rt;
+                outcome == (Some(Error::EndOfBuffer), 0) && !heap.has_refused(),
+                "{form:?} {bytes:?}"
+            );
+        }
+    }
+    Ok(())
+}
+
+/// With as little memory at once, what is not short is accepted.
+#[test]
+fn short_lists_are_accepted(rt: HostRuntime) {
+    for (form, bytes) in [
+        (Form::List, b"\x05\x01\x02\x03\x02\x01".as_slice()),
+        (Form::Set, b"\x05\x01\x02\x03\x04\x05"),
+        (Form::Map, b"\x02\x01\x02\x02\x07\x07"),
+        (Form::BiMap, b"\x02\x01\x02\x02\x08\x07"),
+        (Form::NonEmpty, b"\x01\x00"),
+        (Form::Nest, b"\x03\x01\x07\x00\x02\x05\x06"),
+        (Form::NonEmptyNest, b"\x02\x01\x07\x02\x05\x06"),
+        (Form::Lists, b"\x01\x09\x01\x02\x05\x06"),
+    ] {
+        let heap = Refusing::above(rt.alloc(), MOST_BYTES);
+        let outcome = form.read(&heap, bytes);
+        assert!(rt;
+            outcome == (None, bytes.len()) && !heap.has_refused(),
+            "{form:?} {bytes:?}"
+        );
+    }
+}
+
+/// The length, so many times a number, and so many bytes `ff`, which begin no number.
+fn numbers(
+    alloc: Global,
+    length: &[u8],
+    number: &[u8],
+    times: usize,
+    faulty: usize,
+) -> Result<Vec<u8>, AllocError> {
+    let mut bytes = length.to_vec(alloc)?;
+    for _ in 0..times {
+        bytes.extend_from_slice(number)?;
+    }
+    for _ in 0..faulty {
+        bytes.extend_from_slice(b"\xff")?;
+    }
+    Ok(bytes)
+}
+
+/// Numbers of which so many are read before a fault, in so many bytes that begin none, and for how
+/// many the greatest request is: for a number a byte, and for no more than 1,024, until these are
+/// read; then for as many more as the bytes hold, if each takes as many as those that are read.
+const ROOMS: [(&[u8], usize, usize, usize); 7] = [
+    (b"\x07", 1, 7, 8),
+    (b"\x07", 1, 99, 100),
+    (b"\x07", 1, 1023, MOST_ROOM),
+    (b"\x07", 1, 5000, MOST_ROOM),
+    (b"\x07", MOST_ROOM, 9000, MOST_ROOM),
+    (b"\x07", MOST_ROOM + 1, 9000, MOST_ROOM + 1 + 9000),
+    (b"\x87\x01", MOST_ROOM + 1, 9000, MOST_ROOM + 1 + 4500),
+];
+
+/// Room goes by the bytes that are there, whatever length is stated.
+#[test]
+fn room_goes_by_the_bytes_that_are_there(rt: HostRuntime) -> Result<(), Fail> {
+    for form in [Form::Numbers, Form::NumberSet, Form::SomeNumbers] {
+        for stated in STATED {
+            for (number, times, faulty, room) in ROOMS {
+                let bytes = numbers(rt.alloc(), stated, number, times, faulty)?;
+                let heap = Refusing::above(rt.alloc(), room * NUMBER);
+                let outcome = form.read(&heap, &bytes);
+                assert!(rt;
+                    outcome == (Some(Error::InvalidVarint), 0) && !heap.has_refused(),
+                    "{form:?} {stated:?} {times} {faulty}"
+                );
+                let less = Refusing::above(rt.alloc(), room * NUMBER - 1);
+                let outcome = form.read(&less, &bytes);
+                assert!(rt;
+                    outcome == (Some(Error::Memory), 0) && less.has_refused(),
+                    "{form:?} {stated:?} {times} {faulty}"
+                );
+            }
+        }
+    }
+    Ok(())
+}

@@ -1,0 +1,161 @@
+//! The builders of bimaps and their pairs with each request for memory refused in turn, and the
+//! calls that take none.
+use commonware_utils::ordered::{BiMap, Error, Map};
+use commonware_utils::{TryCollect, TryFromIterator};
+use std::test::Fail;
+use test_equipment::Refusing;
+use test_equipment::walk::{Heap, Outcome, Refusable, asks_for, full, refused};
+
+/// A builder of bimaps.
+#[derive(Clone, Copy, Debug)]
+enum Builder {
+    Iterator,
+    Collect,
+    List,
+    Map,
+    Slice,
+    Array,
+    ArrayRef,
+}
+
+const BUILDERS: [Builder; 7] = [
+    Builder::Iterator,
+    Builder::Collect,
+    Builder::List,
+    Builder::Map,
+    Builder::Slice,
+    Builder::Array,
+    Builder::ArrayRef,
+];
+
+/// Pairs, and the values by the order of the keys, or the repeat.
+const PAIRS: [([(u8, u8); 4], Result<&[u8], Error>); 3] = [
+    ([(5, 1), (1, 3), (3, 4), (9, 2)], Ok(&[3, 4, 1, 2])),
+    ([(5, 1), (1, 3), (3, 4), (9, 1)], Err(Error::DuplicateValue)),
+    ([(5, 1), (1, 3), (5, 4), (9, 1)], Err(Error::DuplicateKey)),
+];
+
+/// What the builder answers for the pairs.
+fn build<'a>(
+    builder: Builder,
+    heap: Heap<'a>,
+    pairs: &[(u8, u8); 4],
+) -> Result<BiMap<u8, u8, Heap<'a>>, Error> {
+    match builder {
+        Builder::Iterator => BiMap::try_from_iter(heap, *pairs),
+        Builder::Collect => TryCollect::try_collect(pairs.iter().copied(), heap),
+        Builder::List => BiMap::try_from_vec(Vec::from_slice(heap, pairs)?),
+        Builder::Map => BiMap::try_from_map(Map::try_from_slice(heap, pairs)?),
+        Builder::Slice => BiMap::try_from_slice(heap, pairs),
+        Builder::Array => BiMap::try_from_array(heap, *pairs),
+        Builder::ArrayRef => BiMap::try_from_array_ref(heap, pairs),
+    }
+}
+
+/// A builder at some pairs, and what it has to answer.
+#[derive(Drop)]
+struct Building {
+    builder: Builder,
+    pairs: [(u8, u8); 4],
+    answer: Result<&'static [u8], Error>,
+}
+
+impl Refusable for Building {
+    fn outcome(&self, heap: Heap<'_>, granted: u64) -> Outcome {
+        heap.restart(granted);
+        match build(self.builder, heap, &self.pairs) {
+            Ok(bimap) => full(matches!(&self.answer, Ok(values) if bimap.values() == *values)),
+            Err(Error::Memory) => refused(true),
+            Err(error) => full(matches!(&self.answer, Err(wanted) if error == *wanted)),
+        }
+    }
+}
+
+/// {1: 30, 2: 20, 3: 10}
+fn three(heap: Heap<'_>) -> Result<BiMap<u8, u8, Heap<'_>>, Error> {
+    BiMap::try_from_iter(heap, [(3u8, 10u8), (1, 30), (2, 20)])
+}
+
+/// The pairs of a bimap, moved out of it.
+struct IntoPairs;
+
+impl Refusable for IntoPairs {
+    fn outcome(&self, heap: Heap<'_>, granted: u64) -> Outcome {
+        let Ok(bimap) = three(heap) else {
+            return Outcome::Wrong;
+        };
+        heap.restart(granted);
+        match bimap.into_pairs() {
+            Ok(pairs) => full(pairs.as_slice() == [(1, 30), (2, 20), (3, 10)].as_slice()),
+            Err(_) => refused(true),
+        }
+    }
+}
+
+/// A map made a bimap, for which its values are looked up in a hash set.
+struct FromMap;
+
+impl Refusable for FromMap {
+    fn outcome(&self, heap: Heap<'_>, granted: u64) -> Outcome {
+        let Ok(map) = Map::try_from_iter(heap, [(1u8, 10u8), (2, 20), (3, 30)]) else {
+            return Outcome::Wrong;
+        };
+        heap.restart(granted);
+        match BiMap::try_from_map(map) {
+            Ok(bimap) => full(bimap.values() == [10, 20, 30].as_slice()),
+            Err(error) => refused(error == Error::Memory),
+        }
+    }
+}
+
+#[test]
+fn each_request_is_refused_in_turn(rt: HostRuntime) {
+    for builder in BUILDERS {
+        for (pairs, answer) in PAIRS {
+            let call = Building {
+                builder,
+                pairs,
+                answer,
+            };
+            assert!(rt; asks_for(rt.alloc(), &call, 1), "{builder:?} {pairs:?}");
+        }
+    }
+    assert!(rt; asks_for(rt.alloc(), &IntoPairs, 1));
+    assert!(rt; asks_for(rt.alloc(), &FromMap, 1));
+}
+
+/// The map is there; the set in which its values are looked up is refused.
+#[test]
+fn a_map_is_no_bimap_without_memory(rt: HostRuntime) -> Result<(), Fail> {
+    let heap = Refusing::all_after(rt.alloc(), u64::MAX);
+    let map = Map::try_from_iter(&heap, [(1u8, 10u8), (2, 20)])?;
+    heap.restart(0);
+    assert!(rt; BiMap::try_from_map(map).err() == Some(Error::Memory) && heap.has_refused());
+    Ok(())
+}
+
+/// A map without pairs is taken without memory too.
+#[test]
+fn bimaps_are_looked_up_without_memory(rt: HostRuntime) -> Result<(), Fail> {
+    let heap = Refusing::all_after(rt.alloc(), u64::MAX);
+    let (bimap, other) = (three(&heap)?, three(&heap)?);
+    heap.restart(0);
+    assert!(rt;
+        bimap.get_key(&10) == Some(&3)
+            && bimap.get_value(&3) == Some(&10)
+            && bimap.position(&3) == Some(2)
+            && bimap.value(0) == Some(&30)
+            && bimap == other
+            && bimap.iter_pairs().next_back() == Some((&3, &10))
+    );
+    let none: BiMap<u8, u8, Heap<'_>> = BiMap::empty(&heap);
+    let from_none = BiMap::try_from_map(Map::empty(&heap))?;
+    assert!(rt;
+        bimap.into_keys().as_slice() == [1, 2, 3].as_slice()
+            && other.into_iter().next() == Some((1, 30))
+            && none.is_empty()
+            && from_none == none
+            && !heap.has_refused()
+    );
+    Ok(())
+}

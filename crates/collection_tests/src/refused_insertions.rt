@@ -1,0 +1,113 @@
+//! The builders of sets and maps at many items in many orders, with each request for memory
+//! refused in turn, and lists that are sets already.
+use crate::refused_maps::{self, BUILDERS as MAP_BUILDERS};
+use crate::refused_sets::{self, BUILDERS as SET_BUILDERS};
+use commonware_utils::ordered::{Error, Set};
+use std::test::Fail;
+use test_equipment::Refusing;
+use test_equipment::walk::{Heap, Outcome, Refusable, asks_for, full, refused};
+
+/// An order of the numbers below 40.
+#[derive(Clone, Copy, Debug)]
+enum Order {
+    Rising,
+    Falling,
+    /// The numbers from 20 on, and then the others.
+    Broken,
+    /// The multiples of 27, which has no divisor in common with 40.
+    Mixed,
+}
+
+const ORDERS: [Order; 4] = [Order::Rising, Order::Falling, Order::Broken, Order::Mixed];
+
+impl Order {
+    /// The number at a position.
+    fn at(self, position: u32) -> u32 {
+        match self {
+            Order::Rising => position,
+            Order::Falling => 39u32.saturating_sub(position),
+            Order::Broken => position.wrapping_add(20) % 40,
+            Order::Mixed => position.wrapping_mul(27) % 40,
+        }
+    }
+
+    /// The numbers, each with its position.
+    fn pairs(self) -> [(u32, u8); 40] {
+        let mut pairs = [(0, 0); 40];
+        for (pair, position) in pairs.iter_mut().zip(0..40u8) {
+            *pair = (self.at(u32::from(position)), position);
+        }
+        pairs
+    }
+}
+
+/// A builder of sets at the numbers in an order.
+#[derive(Drop)]
+struct SetOf(refused_sets::Builder, Order);
+
+impl Refusable for SetOf {
+    fn outcome(&self, heap: Heap<'_>, granted: u64) -> Outcome {
+        let items = self.1.pairs().map(|pair| pair.0);
+        heap.restart(granted);
+        match refused_sets::build(self.0, heap, &items) {
+            Ok(set) => full(set.iter().copied().eq(0..40)),
+            Err(error) => refused(error == Error::Memory),
+        }
+    }
+}
+
+/// A builder of maps at the numbers in an order, and their positions.
+#[derive(Drop)]
+struct MapOf(refused_maps::Builder, Order);
+
+impl Refusable for MapOf {
+    fn outcome(&self, heap: Heap<'_>, granted: u64) -> Outcome {
+        let pairs = self.1.pairs();
+        heap.restart(granted);
+        match refused_maps::build(self.0, heap, &pairs) {
+            Ok(map) => {
+                let keys = map
+                    .values()
+                    .iter()
+                    .map(|place| self.1.at(u32::from(*place)));
+                full(map.iter().copied().eq(0..40) && keys.eq(0..40))
+            }
+            Err(error) => refused(error == Error::Memory),
+        }
+    }
+}
+
+#[test]
+fn each_request_of_a_set_is_refused_in_turn(rt: HostRuntime) {
+    for order in ORDERS {
+        for builder in SET_BUILDERS {
+            let call = SetOf(builder, order);
+            assert!(rt; asks_for(rt.alloc(), &call, 1), "{builder:?} {order:?}");
+        }
+    }
+}
+
+#[test]
+fn each_request_of_a_map_is_refused_in_turn(rt: HostRuntime) {
+    for order in ORDERS {
+        for builder in MAP_BUILDERS {
+            let call = MapOf(builder, order);
+            assert!(rt; asks_for(rt.alloc(), &call, 1), "{builder:?} {order:?}");
+        }
+    }
+}
+
+#[test]
+fn a_list_that_is_a_set_is_taken_without_memory(rt: HostRuntime) -> Result<(), Fail> {
+    for count in [0, 1, 2, 40] {
+        let heap = Refusing::all_after(rt.alloc(), u64::MAX);
+        let items: Vec<u32, Heap<'_>> = (0..count).collect(&heap)?;
+        heap.restart(0);
+        let set = Set::try_from_vec(items)?;
+        assert!(rt;
+            set.iter().copied().eq(0..count) && !heap.has_refused(),
+            "{count}"
+        );
+    }
+    Ok(())
+}

@@ -1,0 +1,173 @@
+//! The builders of maps and their pairs with each request for memory refused in turn, and the
+//! calls that take none.
+use commonware_utils::codec::EncodeSize;
+use commonware_utils::ordered::{Error, Map, Set};
+use commonware_utils::{TryCollect, TryFromIterator};
+use std::test::Fail;
+use test_equipment::Refusing;
+use test_equipment::walk::{Heap, Outcome, Refusable, asks_for, full, refused};
+
+/// A way to make a map of pairs.
+#[derive(Clone, Copy, Debug)]
+pub(super) enum Builder {
+    Dedup,
+    Iterator,
+    Collect,
+    List,
+    Slice,
+    Array,
+    ArrayRef,
+}
+
+/// Each of them.
+pub(super) const BUILDERS: [Builder; 7] = [
+    Builder::Dedup,
+    Builder::Iterator,
+    Builder::Collect,
+    Builder::List,
+    Builder::Slice,
+    Builder::Array,
+    Builder::ArrayRef,
+];
+
+/// Pairs of different keys.
+const PAIRS: [(u32, u8); 4] = [(5, 50), (1, 10), (9, 90), (3, 30)];
+
+/// Pairs of which two have the key 5.
+const REPEAT: [(u32, u8); 4] = [(5, 50), (1, 10), (5, 90), (3, 30)];
+
+/// What the builder answers for the pairs.
+pub(super) fn build<'a, const N: usize>(
+    builder: Builder,
+    heap: Heap<'a>,
+    pairs: &[(u32, u8); N],
+) -> Result<Map<u32, u8, Heap<'a>>, Error> {
+    match builder {
+        Builder::Dedup => Ok(Map::from_iter_dedup(heap, pairs.iter().copied())?),
+        Builder::Iterator => Map::try_from_iter(heap, pairs.iter().copied()),
+        Builder::Collect => TryCollect::try_collect(pairs.iter().copied(), heap),
+        Builder::List => Map::try_from_vec(Vec::from_slice(heap, pairs)?),
+        Builder::Slice => Map::try_from_slice(heap, pairs),
+        Builder::Array => Map::try_from_array(heap, *pairs),
+        Builder::ArrayRef => Map::try_from_array_ref(heap, pairs),
+    }
+}
+
+/// A builder at some pairs, and the keys and values of the map that it has to answer.
+#[derive(Drop)]
+struct Building {
+    builder: Builder,
+    pairs: [(u32, u8); 4],
+    answer: Result<(&'static [u32], &'static [u8]), Error>,
+}
+
+impl Refusable for Building {
+    fn outcome(&self, heap: Heap<'_>, granted: u64) -> Outcome {
+        heap.restart(granted);
+        match build(self.builder, heap, &self.pairs) {
+            Ok(map) => match &self.answer {
+                Ok((keys, values)) => {
+                    full(map.keys().as_slice() == *keys && map.values() == *values)
+                }
+                Err(_) => Outcome::Wrong,
+            },
+            Err(Error::Memory) => refused(true),
+            Err(error) => full(matches!(&self.answer, Err(wanted) if error == *wanted)),
+        }
+    }
+
+    fn may_do_without(&self) -> bool {
+        matches!(self.builder, Builder::Dedup)
+    }
+}
+
+/// The pairs of a map, moved out of it.
+struct IntoPairs;
+
+impl Refusable for IntoPairs {
+    fn outcome(&self, heap: Heap<'_>, granted: u64) -> Outcome {
+        let Ok(map) = Map::try_from_slice(heap, &PAIRS) else {
+            return Outcome::Wrong;
+        };
+        heap.restart(granted);
+        match map.into_pairs() {
+            Ok(pairs) => full(pairs.as_slice() == [(1, 10), (3, 30), (5, 50), (9, 90)].as_slice()),
+            Err(_) => refused(true),
+        }
+    }
+}
+
+#[test]
+fn each_request_is_refused_in_turn(rt: HostRuntime) {
+    for builder in BUILDERS {
+        let keeps_first = matches!(builder, Builder::Dedup);
+        let first: (&[u32], &[u8]) = (&[1, 3, 5], &[10, 30, 50]);
+        for (pairs, answer, least) in [
+            (
+                PAIRS,
+                Ok(([1u32, 3, 5, 9].as_slice(), [10u8, 30, 50, 90].as_slice())),
+                3,
+            ),
+            (
+                REPEAT,
+                if keeps_first {
+                    Ok(first)
+                } else {
+                    Err(Error::DuplicateKey)
+                },
+                1,
+            ),
+        ] {
+            let call = Building {
+                builder,
+                pairs,
+                answer,
+            };
+            assert!(rt; asks_for(rt.alloc(), &call, least), "{builder:?} {pairs:?}");
+        }
+    }
+    assert!(rt; asks_for(rt.alloc(), &IntoPairs, 1));
+}
+
+#[test]
+fn maps_are_looked_up_and_given_up_without_memory(rt: HostRuntime) -> Result<(), Fail> {
+    let heap = Refusing::all_after(rt.alloc(), u64::MAX);
+    let mut map = Map::try_from_slice(&heap, &PAIRS)?;
+    let keys = Set::from_iter_dedup(&heap, [1u32, 3, 5])?;
+    let values = vec![in &heap; 10u8, 31, 50]?;
+    heap.restart(0);
+    assert!(rt;
+        map.len() == 4
+            && !map.is_empty()
+            && map.is_writable()
+            && (map.get(2), map.value(3), map.position(&3)) == (Some(&5), Some(&90), Some(1))
+            && map.keys().as_slice() == [1, 3, 5, 9].as_slice()
+            && map.iter().next() == Some(&1)
+            && map.iter_pairs().next_back() == Some((&9, &90))
+    );
+    for value in map.values_mut() {
+        *value /= 2;
+    }
+    if let Some(value) = map.get_value_mut(&3) {
+        *value = 31;
+    }
+    for (_, value) in map.iter_pairs_mut() {
+        *value = value.saturating_mul(2);
+    }
+    map.truncate(3);
+    let parts = Map::from_parts(keys, values).ok_or("uneven")?;
+    assert!(rt;
+        map.values() == [10, 62, 50].as_slice()
+            && map.get_value(&3) == Some(&62)
+            && parts != map
+            && parts.into_iter().next_back() == Some((5, 50))
+    );
+    let none: Map<u32, u8, Heap<'_>> = Map::empty(&heap);
+    assert!(rt;
+        map.into_keys().as_slice() == [1, 3, 5].as_slice()
+            && none.is_empty()
+            && Map::<u32, u8, Heap<'_>>::max_encode_size(128, 1) == 644
+            && !heap.has_refused()
+    );
+    Ok(())
+}

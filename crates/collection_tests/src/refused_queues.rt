@@ -1,0 +1,80 @@
+//! Bounded queues with each of their requests for memory refused in turn, and their calls that
+//! take none.
+use commonware_utils::NZUsize;
+use commonware_utils::vec::Bounded;
+use std::collections::VecDeque;
+use test_equipment::Refusing;
+use test_equipment::walk::{Heap, Outcome, Refusable, asks_for, full, refused};
+
+/// Five items pushed into a queue for five. An item that comes back is pushed again.
+struct Pushes;
+
+impl Refusable for Pushes {
+    fn outcome(&self, heap: Heap<'_>, granted: u64) -> Outcome {
+        let mut queue = Bounded::new(heap, NZUsize!(5));
+        let mut came_back = false;
+        heap.restart(granted);
+        for item in 1u8..=5 {
+            let before = queue.len();
+            let mut answer = queue.push(item);
+            if answer == Err(item) && queue.len() == before {
+                came_back = true;
+                heap.relent();
+                answer = queue.push(item);
+            }
+            if answer != Ok(None) {
+                return Outcome::Wrong;
+            }
+        }
+        let right = queue.iter().eq([1, 2, 3, 4, 5].iter());
+        if came_back {
+            refused(right)
+        } else {
+            full(right)
+        }
+    }
+}
+
+/// A clone of 2, 3, 4 in a queue for three.
+struct Clones;
+
+impl Refusable for Clones {
+    fn outcome(&self, heap: Heap<'_>, granted: u64) -> Outcome {
+        let mut queue = Bounded::new(heap, NZUsize!(3));
+        for item in 1u8..=4 {
+            let _ = queue.push(item);
+        }
+        heap.restart(granted);
+        let clone: Result<_, _> = queue.clone();
+        let unchanged = queue.iter().eq([2, 3, 4].iter());
+        match clone {
+            Ok(clone) => full(unchanged && clone == queue),
+            Err(_) => refused(unchanged),
+        }
+    }
+}
+
+#[test]
+fn each_request_is_refused_in_turn(rt: HostRuntime) {
+    assert!(rt; asks_for(rt.alloc(), &Pushes, 1) && asks_for(rt.alloc(), &Clones, 1));
+}
+
+#[test]
+fn a_full_queue_takes_no_memory(rt: HostRuntime) {
+    let heap = Refusing::all_after(rt.alloc(), u64::MAX);
+    let mut queue = Bounded::new(&heap, NZUsize!(3));
+    for item in 1u8..=3 {
+        let _ = queue.push(item);
+    }
+    heap.restart(0);
+    assert!(rt;
+        queue.push(4) == Ok(Some(1))
+            && queue.push(5) == Ok(Some(2))
+            && queue.pop_front() == Some(3)
+            && queue.capacity().get() == 3
+    );
+    let empty: Bounded<u8, Heap<'_>> = Bounded::new(&heap, NZUsize!(9));
+    assert!(rt; empty != queue && empty.into_inner().is_empty());
+    let items: VecDeque<u8, Heap<'_>> = queue.into();
+    assert!(rt; items.iter().eq([4, 5].iter()) && !heap.has_refused());
+}

@@ -1,0 +1,130 @@
+//! The builders of sets with each request for memory refused in turn, and the calls on sets that
+//! take none.
+use commonware_utils::codec::EncodeSize;
+use commonware_utils::ordered::{Error, Quorum, Set};
+use commonware_utils::{N3f1, N5f1, Participant, TryCollect, TryFromIterator};
+use std::test::Fail;
+use test_equipment::Refusing;
+use test_equipment::walk::{Heap, Outcome, Refusable, asks_for, full, refused};
+
+/// A way to make a set of items.
+#[derive(Clone, Copy, Debug)]
+pub(super) enum Builder {
+    Dedup,
+    Iterator,
+    Collect,
+    List,
+    Slice,
+    Array,
+    ArrayRef,
+}
+
+/// Each of them.
+pub(super) const BUILDERS: [Builder; 7] = [
+    Builder::Dedup,
+    Builder::Iterator,
+    Builder::Collect,
+    Builder::List,
+    Builder::Slice,
+    Builder::Array,
+    Builder::ArrayRef,
+];
+
+/// Items, and the set of them if all differ.
+const ITEMS: [([u32; 5], &[u32], bool); 3] = [
+    ([5, 1, 3, 11, 9], &[1, 3, 5, 9, 11], true),
+    ([5, 1, 5, 9, 3], &[1, 3, 5, 9], false),
+    ([5, 1, 3, 1, 9], &[1, 3, 5, 9], false),
+];
+
+/// What the builder answers for the items.
+pub(super) fn build<'a, const N: usize>(
+    builder: Builder,
+    heap: Heap<'a>,
+    items: &[u32; N],
+) -> Result<Set<u32, Heap<'a>>, Error> {
+    match builder {
+        Builder::Dedup => Ok(Set::from_iter_dedup(heap, items.iter().copied())?),
+        Builder::Iterator => Set::try_from_iter(heap, items.iter().copied()),
+        Builder::Collect => TryCollect::try_collect(items.iter().copied(), heap),
+        Builder::List => Set::try_from_vec(Vec::from_slice(heap, items)?),
+        Builder::Slice => Set::try_from_slice(heap, items),
+        Builder::Array => Set::try_from_array(heap, *items),
+        Builder::ArrayRef => Set::try_from_array_ref(heap, items),
+    }
+}
+
+/// A builder at some items, and what it has to answer.
+#[derive(Drop)]
+struct Building {
+    builder: Builder,
+    items: [u32; 5],
+    answer: Result<&'static [u32], Error>,
+}
+
+impl Refusable for Building {
+    fn outcome(&self, heap: Heap<'_>, granted: u64) -> Outcome {
+        heap.restart(granted);
+        match build(self.builder, heap, &self.items) {
+            Ok(set) => full(matches!(&self.answer, Ok(items) if set.as_slice() == *items)),
+            Err(Error::Memory) => refused(true),
+            Err(error) => full(matches!(&self.answer, Err(wanted) if error == *wanted)),
+        }
+    }
+
+    fn may_do_without(&self) -> bool {
+        matches!(self.builder, Builder::Dedup)
+    }
+}
+
+#[test]
+fn each_request_is_refused_in_turn(rt: HostRuntime) {
+    for builder in BUILDERS {
+        for (items, set, differ) in ITEMS {
+            let keeps_first = matches!(builder, Builder::Dedup);
+            let call = Building {
+                builder,
+                items,
+                answer: if differ || keeps_first {
+                    Ok(set)
+                } else {
+                    Err(Error::DuplicateKey)
+                },
+            };
+            let least = if keeps_first { 2 } else { 1 };
+            assert!(rt; asks_for(rt.alloc(), &call, least), "{builder:?} {items:?}");
+        }
+    }
+}
+
+#[test]
+fn sets_are_read_and_given_up_without_memory(rt: HostRuntime) -> Result<(), Fail> {
+    let heap = Refusing::all_after(rt.alloc(), u64::MAX);
+    let set = Set::from_iter_dedup(&heap, [5u32, 1, 3])?;
+    let other = Set::from_iter_dedup(&heap, [5u32, 1])?;
+    heap.restart(0);
+    assert!(rt;
+        set.position(&5) == Some(2)
+            && set.len() == 3
+            && set[0] == 1
+            && set.slice(1..3) == [3, 5].as_slice()
+            && set.get(1) == Some(&3)
+            && set.iter().next_back() == Some(&5)
+    );
+    assert!(rt; set < other && set != other && set.is_writable());
+    assert!(rt;
+        set.key(Participant::new(1)) == Some(&3)
+            && set.index(&5) == Some(Participant::new(2))
+            && (set.quorum::<N3f1>(), set.max_faults::<N5f1>()) == (3, 0)
+    );
+    let items: Vec<u32, Heap<'_>> = set.into();
+    let none: Set<u32, Heap<'_>> = Set::empty(&heap);
+    assert!(rt;
+        items.as_slice() == [1, 3, 5].as_slice()
+            && other.into_iter().next_back() == Some(5)
+            && none.is_empty()
+            && Set::<u32, Heap<'_>>::max_encode_size(128) == 514
+            && !heap.has_refused()
+    );
+    Ok(())
+}

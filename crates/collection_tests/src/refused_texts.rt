@@ -1,0 +1,84 @@
+//! Sets, maps and bimaps shown as a text on a heap, with each request refused in turn.
+use commonware_utils::TryFromIterator;
+use commonware_utils::ordered::{BiMap, Error, Map, Set};
+use std::fmt::{Debug, Display};
+use test_equipment::walk::{Heap, Outcome, Refusable, asks_for, full, refused};
+
+/// What is shown.
+#[derive(Clone, Copy, Debug)]
+enum Collection {
+    Set,
+    Map,
+    BiMap,
+}
+
+/// A collection of three entries, whether it is shown to one who looks for faults, and its text.
+#[derive(Clone, Copy, Debug)]
+struct Shown(Collection, bool, &'static str);
+
+const SHOWN: [Shown; 6] = [
+    Shown(Collection::Set, false, "[1, 200, 300]"),
+    Shown(Collection::Set, true, "Set([1, 200, 300])"),
+    Shown(Collection::Map, false, "[(1, 40), (200, 5), (300, 5)]"),
+    Shown(Collection::Map, true, "Map([(1, 40), (200, 5), (300, 5)])"),
+    Shown(Collection::BiMap, false, "[(1, 40), (200, 5), (300, 60)]"),
+    Shown(
+        Collection::BiMap,
+        true,
+        "BiMap([(1, 40), (200, 5), (300, 60)])",
+    ),
+];
+
+/// The text of a value on the heap. `None` if it was refused for memory.
+fn text_of<'a, T: Display + Debug>(
+    heap: Heap<'a>,
+    value: &T,
+    debug: bool,
+) -> Option<String<Heap<'a>>> {
+    if debug {
+        format!(in heap; "{value:?}").ok()
+    } else {
+        format!(in heap; "{value}").ok()
+    }
+}
+
+impl Shown {
+    /// The text of the collection, for which so many requests are granted before one is refused.
+    fn text<'a>(&self, heap: Heap<'a>, granted: u64) -> Result<Option<String<Heap<'a>>>, Error> {
+        let Shown(collection, debug, _) = *self;
+        match collection {
+            Collection::Set => {
+                let set = Set::from_iter_dedup(heap, [300u16, 1, 200])?;
+                heap.restart(granted);
+                Ok(text_of(heap, &set, debug))
+            }
+            Collection::Map => {
+                let map = Map::try_from_iter(heap, [(300u16, 5u16), (1, 40), (200, 5)])?;
+                heap.restart(granted);
+                Ok(text_of(heap, &map, debug))
+            }
+            Collection::BiMap => {
+                let bimap = BiMap::try_from_iter(heap, [(300u16, 60u16), (1, 40), (200, 5)])?;
+                heap.restart(granted);
+                Ok(text_of(heap, &bimap, debug))
+            }
+        }
+    }
+}
+
+impl Refusable for Shown {
+    fn outcome(&self, heap: Heap<'_>, granted: u64) -> Outcome {
+        match self.text(heap, granted) {
+            Ok(Some(text)) => full(text.as_str() == self.2),
+            Ok(None) => refused(true),
+            Err(_) => Outcome::Wrong,
+        }
+    }
+}
+
+#[test]
+fn each_request_is_refused_in_turn(rt: HostRuntime) {
+    for shown in SHOWN {
+        assert!(rt; asks_for(rt.alloc(), &shown, 1), "{shown:?}");
+    }
+}

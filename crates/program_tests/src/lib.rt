@@ -1,0 +1,33 @@
+//! Tests of the program over scripted devices, and with each request for memory refused in turn.
+#![tactic(auto)]
+
+#[cfg(test)]
+mod bounds;
+#[cfg(test)]
+mod committee_sizes;
+#[cfg(test)]
+mod committees;
+#[cfg(test)]
+mod counting;
+#[cfg(test)]
+mod devices;
+#[cfg(test)]
+mod every_bound;
+#[cfg(test)]
+mod failing_devices;
+#[cfg(test)]
+mod long_inputs;
+#[cfg(test)]
+mod refused_programs;
+#[cfg(test)]
+mod runs;
+#[cfg(test)]
+mod session_trial;
+#[cfg(test)]
+mod sessions;
+#[cfg(test)]
+mod standard_error;
+#[cfg(test)]
+mod starts;
+#[cfg(test)]
+mod watched;

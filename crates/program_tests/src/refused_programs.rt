@@ -1,0 +1,186 @@
+//! Runs and sessions with each request for memory refused in turn, whatever they come to: nothing
+//! is written, and the devices are whole.
+use crate::bounds::{MOST, TEN};
+use crate::committees::{ONE_AND_A_BYTE, ONE_CUT_SHORT, TWO, TWO_EQUAL, TWO_REPORT};
+use crate::devices::{Input, TAKEN};
+use crate::runs::beginning;
+use crate::session_trial::{READ, words_of};
+use committee_core::{Command, RunError, Watched, parse_args, run, session};
+use commonware_base::codec::Error;
+use std::alloc::Global;
+use std::io::ErrorKind;
+use test_equipment::walk::{Heap, Outcome, Refusable, asks_for, full, refused};
+
+/// What a program is asked and given, and what it comes to.
+#[derive(Drop)]
+struct Asked {
+    words: &'static [&'static str],
+    /// The bytes that it is given. With none, its reader fails at each call.
+    bytes: Option<&'static [u8]>,
+    outcome: Result<&'static str, RunError>,
+    /// The status of a session, and its line on standard error.
+    status: u8,
+    line: &'static str,
+    /// How many requests it makes at least, or 0 where it makes none.
+    least: u64,
+}
+
+impl Asked {
+    /// A program that writes this report.
+    fn report(
+        words: &'static [&'static str],
+        bytes: Option<&'static [u8]>,
+        report: &'static str,
+    ) -> Asked {
+        Asked {
+            words,
+            bytes,
+            outcome: Ok(report),
+            status: 0,
+            line: "",
+            least: 3,
+        }
+    }
+
+    /// A program that refuses these bytes, after so many requests at least.
+    fn refusal(bytes: &'static [u8], error: RunError, line: &'static str, least: u64) -> Asked {
+        Asked {
+            words: READ,
+            bytes: Some(bytes),
+            outcome: Err(error),
+            status: 1,
+            line,
+            least,
+        }
+    }
+
+    /// What it is given.
+    fn input(&self) -> Input<'static> {
+        match self.bytes {
+            Some(bytes) => Input::of(bytes),
+            None => Input::failing(b"", ErrorKind::BrokenPipe),
+        }
+    }
+
+    /// What it writes where it isn't refused.
+    fn written(&self) -> &'static str {
+        self.outcome.as_ref().map_or("", |report| *report)
+    }
+}
+
+/// Programs, each to be done by `run` and by `session`.
+fn programs() -> [Asked; 9] {
+    let refused = RunError::Refused;
+    let unsorted = Error::Invalid("Set", "items must be sorted and unique");
+    [
+        Asked::report(READ, Some(TWO), TWO_REPORT),
+        Asked::report(&["bounds", "10"], None, TEN),
+        Asked::report(&["bounds", "4294967295"], None, MOST),
+        Asked::refusal(
+            b"\x00",
+            refused(Error::InvalidLength(0)),
+            "refused: length 0\n",
+            0,
+        ),
+        Asked::refusal(
+            b"\x81\x00",
+            refused(Error::InvalidVarint),
+            "refused: invalid varint\n",
+            0,
+        ),
+        Asked::refusal(
+            ONE_CUT_SHORT,
+            refused(Error::EndOfBuffer),
+            "refused: end of input\n",
+            0,
+        ),
+        Asked::refusal(
+            beginning(TWO, 64),
+            refused(Error::EndOfBuffer),
+            "refused: end of input\n",
+            1,
+        ),
+        Asked::refusal(
+            TWO_EQUAL,
+            refused(unsorted),
+            "refused: Set: items must be sorted and unique\n",
+            1,
+        ),
+        Asked::refusal(
+            ONE_AND_A_BYTE,
+            RunError::LeftOver(1),
+            "refused: 1 bytes left over\n",
+            1,
+        ),
+    ]
+}
+
+/// A run. Its writer keeps what it takes in memory of its own.
+#[derive(Drop)]
+struct Run<'a>(Global, &'a Asked);
+
+impl<'b> Refusable for Run<'b> {
+    fn outcome(&self, heap: Heap<'_>, granted: u64) -> Outcome {
+        let Run(alloc, asked) = self;
+        let command = words_of(heap, asked.words)
+            .ok()
+            .and_then(|words| parse_args(&words));
+        let Some(command) = command else {
+            return Outcome::Wrong;
+        };
+        let mut input = asked.input().reader();
+        let mut output = Watched::new(TAKEN.writer(*alloc));
+        heap.restart(granted);
+        let outcome = run(heap, command, &mut input, &mut output);
+        let read = command == Command::Read || input.inner().calls == 0;
+        let whole = read && !input.failed() && !output.failed();
+        let taken = output.inner().taken.as_slice();
+        if outcome == Err(RunError::Memory) {
+            let device = output.inner();
+            return refused(whole && (device.calls, device.flushes) == (0, 0));
+        }
+        let right = match (&outcome, &asked.outcome) {
+            (Ok(()), Ok(_)) => true,
+            (Err(error), Err(wanted)) => *error == *wanted,
+            _ => false,
+        };
+        full(whole && right && taken == asked.written().as_bytes())
+    }
+}
+
+/// A session. Its writers keep what they take in memory of their own.
+#[derive(Drop)]
+struct Session<'a>(Global, &'a Asked);
+
+impl<'b> Refusable for Session<'b> {
+    fn outcome(&self, heap: Heap<'_>, granted: u64) -> Outcome {
+        let Session(alloc, asked) = self;
+        let Ok(words) = words_of(heap, asked.words) else {
+            return Outcome::Wrong;
+        };
+        let mut input = asked.input().reader();
+        let mut output = Watched::new(TAKEN.writer(*alloc));
+        let mut errors = TAKEN.writer(*alloc);
+        heap.restart(granted);
+        let status = session(heap, &words, &mut input, &mut output, &mut errors);
+        let device = output.inner();
+        let (taken, said) = (device.taken.as_slice(), errors.taken.as_slice());
+        if status == 3 {
+            let silent = (device.calls, device.flushes) == (0, 0);
+            return refused(silent && said == b"failed: out of memory\n".as_slice());
+        }
+        let right = status == asked.status && said == asked.line.as_bytes();
+        full(right && taken == asked.written().as_bytes())
+    }
+}
+
+#[test]
+fn nothing_is_written_without_memory(rt: HostRuntime) {
+    let alloc = rt.alloc();
+    for asked in &programs() {
+        let run = asks_for(alloc, &Run(alloc, asked), asked.least);
+        assert!(rt; run, "run {:?} {:?}", asked.words, asked.bytes);
+        let session = asks_for(alloc, &Session(alloc, asked), asked.least);
+        assert!(rt; session, "session {:?} {:?}", asked.words, asked.bytes);
+    }
+}

@@ -1,0 +1,305 @@
+//! A run over devices that fail, and over devices that give or take a byte a call.
+use crate::bounds::{MOST, ONE, TEN};
+use crate::committees::{TWO, TWO_REPORT};
+use crate::devices::{Input, Output, TAKEN, WHOLE};
+use crate::session_trial::{READ, arguments_of, words_of};
+use committee_core::{Command, RunError, Watched, run, session, start};
+use std::alloc::{AllocError, Global};
+use std::io::ErrorKind;
+use std::num::NonZeroU32;
+use std::test::Fail;
+use test_equipment::{Refusing, ScriptedReader, ScriptedWriter, WriteFault};
+
+/// How a run ends that has memory, and bytes that are a committee.
+#[derive(Clone, Copy, Debug, PartialEq, Eq)]
+pub enum End {
+    Done,
+    ReadFailed,
+    WriteFailed,
+}
+
+impl End {
+    /// What the run answers.
+    fn answer(self) -> Result<(), RunError> {
+        match self {
+            End::Done => Ok(()),
+            End::ReadFailed => Err(RunError::ReadFailed),
+            End::WriteFailed => Err(RunError::WriteFailed),
+        }
+    }
+
+    /// The exit status, and the line on standard error.
+    fn status(self) -> (u8, &'static str) {
+        match self {
+            End::Done => (0, ""),
+            End::ReadFailed => (3, "failed: read\n"),
+            End::WriteFailed => (3, "failed: write\n"),
+        }
+    }
+}
+
+/// A run, and what it has to come to.
+#[derive(Clone, Copy)]
+pub struct Run<'a> {
+    pub command: Command,
+    /// The words that ask for the command.
+    pub words: &'a [&'a str],
+    pub input: Input<'a>,
+    pub output: Output,
+    pub end: End,
+    /// How often the reader and the writer are called, and how often the writer is flushed.
+    pub reads: u32,
+    pub writes: u32,
+    pub flushes: u32,
+    /// What is written.
+    pub written: &'a [u8],
+}
+
+/// What is called with the devices.
+#[derive(Clone, Copy, Debug, PartialEq, Eq)]
+enum Call {
+    /// `run`, with the command.
+    Run,
+    /// `session`, with the words.
+    Session,
+    /// `start`, with the words after the program's name.
+    Start,
+}
+
+/// Whether the devices are left as they have to be.
+fn are_right(
+    input: &Watched<ScriptedReader<'_>>,
+    output: &Watched<ScriptedWriter<Global>>,
+    wanted: &Run<'_>,
+) -> bool {
+    let device = output.inner();
+    let all_read = wanted.command == Command::Read && wanted.end != End::ReadFailed;
+    input.failed() == (wanted.end == End::ReadFailed)
+        && output.failed() == (wanted.end == End::WriteFailed)
+        && input.ended() == all_read
+        && input.inner().calls == wanted.reads
+        && (device.calls, device.flushes) == (wanted.writes, wanted.flushes)
+        && device.taken.as_slice() == wanted.written
+}
+
+/// Whether the call comes to what it has to.
+fn is_right_by(alloc: Global, call: Call, wanted: &Run<'_>) -> Result<bool, AllocError> {
+    let heap = Refusing::after(alloc, u64::MAX);
+    let words = words_of(&heap, wanted.words)?;
+    let texts = arguments_of(&heap, wanted.words)?;
+    let mut input = wanted.input.reader();
+    let mut output = Watched::new(wanted.output.writer(alloc));
+    let mut errors = TAKEN.writer(alloc);
+    let (status, line) = wanted.end.status();
+    let (answered, said) = match call {
+        Call::Run => {
+            let answer = run(&heap, wanted.command, &mut input, &mut output);
+            (answer == wanted.end.answer(), "")
+        }
+        Call::Session => {
+            let answer = session(&heap, &words, &mut input, &mut output, &mut errors);
+            (answer == status, line)
+        }
+        Call::Start => {
+            let arguments = Ok(texts.into_iter());
+            let answer = start(&heap, arguments, &mut input, &mut output, &mut errors);
+            (answer == status, line)
+        }
+    };
+    let told = errors.taken.as_slice() == said.as_bytes();
+    Ok(answered && told && are_right(&input, &output, wanted))
+}
+
+/// Whether the run comes to what it has to by itself, in a session, and from the program's
+/// arguments.
+pub fn is_right(alloc: Global, wanted: &Run<'_>) -> Result<bool, AllocError> {
+    for call in [Call::Run, Call::Session, Call::Start] {
+        if !is_right_by(alloc, call, wanted)? {
+            return Ok(false);
+        }
+    }
+    Ok(true)
+}
+
+/// A run that reads these bytes at once, and writes this report at once.
+pub fn read_run<'a>(bytes: &'a [u8], report: &'a str) -> Run<'a> {
+    Run {
+        command: Command::Read,
+        words: READ,
+        input: Input::of(bytes),
+        output: TAKEN,
+        end: End::Done,
+        reads: 2,
+        writes: 1,
+        flushes: 1,
+        written: report.as_bytes(),
+    }
+}
+
+/// The run where the reader fails after so many calls, and nothing is written.
+pub fn with_failed_read<'a>(whole: Run<'a>, input: Input<'a>, reads: u32) -> Run<'a> {
+    Run {
+        input,
+        end: End::ReadFailed,
+        reads,
+        writes: 0,
+        flushes: 0,
+        written: b"",
+        ..whole
+    }
+}
+
+/// The run where the writer fails at the last of so many calls, and has taken so many bytes.
+pub fn with_failed_write(whole: Run<'_>, output: Output, writes: u32, taken: usize) -> Run<'_> {
+    Run {
+        output,
+        end: End::WriteFailed,
+        writes,
+        flushes: 0,
+        written: beginning(whole.written, taken),
+        ..whole
+    }
+}
+
+/// The run where the writer takes all, and its flush fails.
+pub fn with_failed_flush(whole: Run<'_>, kind: ErrorKind) -> Run<'_> {
+    let output = Output {
+        flush_failure: Some(kind),
+        ..whole.output
+    };
+    Run {
+        output,
+        end: End::WriteFailed,
+        ..whole
+    }
+}
+
+/// The first so many bytes, or all if there are no more.
+pub fn beginning(bytes: &[u8], length: usize) -> &[u8] {
+    &bytes[..length.min(bytes.len())]
+}
+
+/// The run on the committee of two, with a report of 201 bytes.
+fn whole_run() -> Run<'static> {
+    read_run(TWO, TWO_REPORT)
+}
+
+/// How many bytes a reader gives before it fails, how many of them a call, and how often it is
+/// called.
+const FAILED_READS: [(usize, usize, u32); 6] = [
+    (0, 1, 1),
+    (0, WHOLE, 1),
+    (2, 1, 3),
+    (2, WHOLE, 2),
+    (65, 1, 66),
+    (65, WHOLE, 2),
+];
+
+/// Nothing is tried again, and nothing written.
+#[test]
+fn a_failed_read_is_no_end(rt: HostRuntime) -> Result<(), Fail> {
+    for kind in [ErrorKind::BrokenPipe, ErrorKind::Interrupted] {
+        for (given, step, reads) in FAILED_READS {
+            let input = Input {
+                step,
+                ..Input::failing(beginning(TWO, given), kind)
+            };
+            let wanted = with_failed_read(whole_run(), input, reads);
+            assert!(rt; is_right(rt.alloc(), &wanted)?, "{given} {step} {kind:?}");
+        }
+    }
+    Ok(())
+}
+
+#[test]
+fn pieces_make_no_difference(rt: HostRuntime) -> Result<(), Fail> {
+    for (given, taken, reads, writes) in [
+        (WHOLE, WHOLE, 2, 1),
+        (1, WHOLE, 66, 1),
+        (WHOLE, 1, 2, 201),
+        (1, 1, 66, 201),
+        (2, 3, 34, 67),
+    ] {
+        let mut wanted = Run {
+            reads,
+            writes,
+            ..whole_run()
+        };
+        wanted.input.step = given;
+        wanted.output.step = taken;
+        assert!(rt; is_right(rt.alloc(), &wanted)?, "{given} {taken}");
+    }
+    Ok(())
+}
+
+/// How many bytes a writer takes a call, the call that goes wrong and how, and how many bytes it
+/// has taken then.
+const FAILED_WRITES: [(usize, u32, WriteFault, usize); 8] = [
+    (WHOLE, 0, WriteFault::Fails(ErrorKind::BrokenPipe), 0),
+    (WHOLE, 0, WriteFault::Breaks(ErrorKind::Interrupted), 0),
+    (WHOLE, 0, WriteFault::TakesNothing, 0),
+    (1, 1, WriteFault::TakesNothing, 1),
+    (1, 2, WriteFault::Fails(ErrorKind::BrokenPipe), 2),
+    (1, 2, WriteFault::Fails(ErrorKind::Interrupted), 2),
+    (1, 2, WriteFault::Breaks(ErrorKind::BrokenPipe), 2),
+    (30, 2, WriteFault::TakesNothing, 60),
+];
+
+/// Nothing is tried again.
+#[test]
+fn a_writer_fails_at_any_call(rt: HostRuntime) -> Result<(), Fail> {
+    for (step, at, fault, taken) in FAILED_WRITES {
+        let output = Output::failing(step, at, fault);
+        let wanted = with_failed_write(whole_run(), output, at.saturating_add(1), taken);
+        assert!(rt; is_right(rt.alloc(), &wanted)?, "{step} {at} {fault:?}");
+    }
+    Ok(())
+}
+
+/// A run that asks for the bounds for `n` members. The reader, which fails at each call, isn't
+/// called.
+fn bounds_run<'a>(n: NonZeroU32, words: &'a [&'a str], report: &'a str) -> Run<'a> {
+    Run {
+        command: Command::Bounds(n),
+        words,
+        input: Input::failing(b"", ErrorKind::BrokenPipe),
+        reads: 0,
+        ..read_run(b"", report)
+    }
+}
+
+#[test]
+fn bounds_are_reported_without_a_read(rt: HostRuntime) -> Result<(), Fail> {
+    let ten = NonZeroU32::new(10).ok_or("zero")?;
+    for wanted in [
+        bounds_run(NonZeroU32::MIN, &["bounds", "1"], ONE),
+        bounds_run(ten, &["bounds", "10"], TEN),
+        bounds_run(NonZeroU32::MAX, &["bounds", "4294967295"], MOST),
+    ] {
+        assert!(rt; is_right(rt.alloc(), &wanted)?, "{:?}", wanted.command);
+    }
+    Ok(())
+}
+
+/// The whole report has been taken by then.
+#[test]
+fn a_failed_flush_is_told(rt: HostRuntime) -> Result<(), Fail> {
+    for whole in [
+        whole_run(),
+        bounds_run(NonZeroU32::MIN, &["bounds", "1"], ONE),
+    ] {
+        for kind in [
+            ErrorKind::Other,
+            ErrorKind::BrokenPipe,
+            ErrorKind::Interrupted,
+        ] {
+            let wanted = with_failed_flush(whole, kind);
+            assert!(rt;
+                is_right(rt.alloc(), &wanted)?,
+                "{:?} {kind:?}",
+                whole.command
+            );
+        }
+    }
+    Ok(())
+}

@@ -1,0 +1,98 @@
+//! A session over scripted devices, and whether it comes to what it has to.
+use crate::committees::{TWO, TWO_REPORT};
+use crate::devices::{Input, Output, TAKEN};
+use committee_core::{Watched, session};
+use std::alloc::{AllocError, Global};
+use test_equipment::Refusing;
+use test_equipment::walk::Heap;
+
+/// A session, and what it has to come to.
+#[derive(Clone, Copy)]
+pub struct Session<'a> {
+    pub words: &'a [&'a str],
+    pub input: Input<'a>,
+    pub output: Output,
+    pub errors: Output,
+    /// How many requests for memory are granted before one is refused.
+    pub granted: u64,
+    pub status: u8,
+    /// What is written, where that is one text.
+    pub written: Option<&'a str>,
+    /// What is said on standard error.
+    pub said: &'a str,
+}
+
+/// The words that ask for the report on a committee.
+pub const READ: &[&str] = &["read"];
+
+/// A session that reads bytes and writes a report.
+pub fn read_session<'a>(bytes: &'a [u8], report: &'a str) -> Session<'a> {
+    let input = Input::of(bytes);
+    Session {
+        words: READ,
+        input,
+        output: TAKEN,
+        errors: TAKEN,
+        granted: u64::MAX,
+        status: 0,
+        written: Some(report),
+        said: "",
+    }
+}
+
+/// The session that reports on the committee of two.
+pub fn two_session() -> Session<'static> {
+    read_session(TWO, TWO_REPORT)
+}
+
+/// The words, as the program gets them.
+pub fn words_of<'a>(
+    heap: Heap<'a>,
+    words: &[&str],
+) -> Result<Vec<String<Heap<'a>>, Heap<'a>>, AllocError> {
+    let mut strings = Vec::new(heap);
+    for word in words {
+        strings.push(String::from_str(heap, word)?)?;
+    }
+    Ok(strings)
+}
+
+/// The program's name and then the words, as the program gets them.
+pub fn arguments_of<'a>(
+    heap: Heap<'a>,
+    words: &[&str],
+) -> Result<Vec<String<Heap<'a>>, Heap<'a>>, AllocError> {
+    let mut strings = words_of(heap, &["committee"])?;
+    for word in words {
+        strings.push(String::from_str(heap, word)?)?;
+    }
+    Ok(strings)
+}
+
+/// Whether the session comes to what it has to. Nothing is read but for the word `read`, the
+/// writer isn't called where nothing is to be written, and standard error isn't called again
+/// where it failed.
+pub fn is_right(alloc: Global, wanted: &Session<'_>) -> Result<bool, AllocError> {
+    let heap = Refusing::after(alloc, u64::MAX);
+    let words = words_of(&heap, wanted.words)?;
+    let mut input = wanted.input.reader();
+    let mut output = Watched::new(wanted.output.writer(alloc));
+    let mut errors = wanted.errors.writer(alloc);
+    heap.restart(wanted.granted);
+    let status = session(&heap, &words, &mut input, &mut output, &mut errors);
+    let device = output.inner();
+    let taken = device.taken.as_slice();
+    let reads = wanted.words == READ || input.inner().calls == 0;
+    let told = output.failed() == wanted.written.is_none();
+    let silent = wanted.written != Some("") || (device.calls, device.flushes) == (0, 0);
+    let tried = wanted.errors.fault.is_none() || errors.calls == (status > 0) as u32;
+    Ok(
+        status == wanted.status
+            && reads
+            && told
+            && silent
+            && tried
+            && !matches!(wanted.written, Some(text) if text.as_bytes() != taken)
+            && errors.taken.as_slice() == wanted.said.as_bytes(),
+    )
+}

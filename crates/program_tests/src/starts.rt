@@ -1,0 +1,100 @@
+//! The program from its arguments: the words that are asked for are those after its name.
+use crate::bounds::SIX;
+use crate::committees::{TWO, TWO_REPORT};
+use crate::devices::{Input, TAKEN};
+use crate::session_trial::words_of;
+use committee_core::{Watched, start};
+use std::alloc::{AllocError, Global};
+use std::io;
+use std::io::ErrorKind;
+use std::test::Fail;
+use test_equipment::Refusing;
+use test_equipment::walk::{Heap, Outcome, Refusable, asks_for, full, refused};
+
+/// What is said to other words.
+const USAGE: &str = "usage: committee read, or committee bounds <n>\n";
+
+/// The arguments of a program that reads the committee of two, or none that can be taken; and
+/// what it has to come to: its status, what is written, what is said.
+type Row = (
+    Option<&'static [&'static str]>,
+    u8,
+    &'static str,
+    &'static str,
+);
+
+/// Whether a program comes to what it has to.
+fn is_right(heap: Heap<'_>, alloc: Global, row: &Row) -> Result<bool, AllocError> {
+    let (texts, wanted, written, said) = *row;
+    let arguments = match texts {
+        Some(texts) => Ok(words_of(heap, texts)?.into_iter()),
+        None => Err(io::Error::from(ErrorKind::InvalidData)),
+    };
+    let mut input = Input::of(TWO).reader();
+    let mut output = Watched::new(TAKEN.writer(alloc));
+    let mut errors = TAKEN.writer(alloc);
+    let status = start(heap, arguments, &mut input, &mut output, &mut errors);
+    let taken = output.inner().taken.as_slice();
+    Ok(
+        status == wanted
+            && taken == written.as_bytes()
+            && errors.taken.as_slice() == said.as_bytes(),
+    )
+}
+
+#[test]
+fn the_words_follow_the_programs_name(rt: HostRuntime) -> Result<(), Fail> {
+    let rows: [Row; 9] = [
+        (Some(&["committee", "read"]), 0, TWO_REPORT, ""),
+        (Some(&["", "bounds", "6"]), 0, SIX, ""),
+        (Some(&["read", "bounds", "0000000006"]), 0, SIX, ""),
+        (Some(&[]), 2, "", USAGE),
+        (Some(&["read"]), 2, "", USAGE),
+        (Some(&["committee", "committee", "read"]), 2, "", USAGE),
+        (Some(&["committee", "read", "read"]), 2, "", USAGE),
+        (Some(&["committee", "bounds", "6", "6"]), 2, "", USAGE),
+        (None, 3, "", "failed: out of memory\n"),
+    ];
+    let heap = Refusing::after(rt.alloc(), u64::MAX);
+    for row in &rows {
+        assert!(rt; is_right(&heap, rt.alloc(), row)?, "{row:?}");
+    }
+    Ok(())
+}
+
+/// The program on the committee of two. Its devices keep what they take in memory of their own.
+#[derive(Drop)]
+struct TwoStart {
+    alloc: Global,
+}
+
+impl Refusable for TwoStart {
+    fn outcome(&self, heap: Heap<'_>, granted: u64) -> Outcome {
+        let Ok(texts) = words_of(heap, &["committee", "read"]) else {
+            return Outcome::Wrong;
+        };
+        let mut input = Input::of(TWO).reader();
+        let mut output = Watched::new(TAKEN.writer(self.alloc));
+        let mut errors = TAKEN.writer(self.alloc);
+        heap.restart(granted);
+        let arguments = Ok(texts.into_iter());
+        let status = start(heap, arguments, &mut input, &mut output, &mut errors);
+        let device = output.inner();
+        let (taken, said) = (device.taken.as_slice(), errors.taken.as_slice());
+        match status {
+            0 => full(taken == TWO_REPORT.as_bytes() && said.is_empty()),
+            3 => refused(device.calls == 0 && said == b"failed: out of memory\n".as_slice()),
+            _ => Outcome::Wrong,
+        }
+    }
+
+    fn may_do_without(&self) -> bool {
+        true
+    }
+}
+
+#[test]
+fn each_refused_request_of_a_start_gives_status_3(rt: HostRuntime) {
+    let alloc = rt.alloc();
+    assert!(rt; asks_for(alloc, &TwoStart { alloc }, 4));
+}

@@ -1,0 +1,102 @@
+//! Each request for memory of a call refused in turn, alone and with all that come after it,
+//! counting upwards until a run meets no refusal.
+ghost use Rattle.std.specs.Prelude.{◌≡◌, if◌then◌else◌};
+ghost use Rattle.test_equipment.specs.declared.walk.Outcome.TheVariants.{Full, Refused, Wrong};
+
+use crate::Refusing;
+use std::alloc::Global;
+
+/// More requests than any call makes that tests walk over.
+const ENOUGH: u64 = 1000;
+
+/// An allocator that refuses requests.
+pub type Heap<'a> = &'a Refusing<Global>;
+
+/// What a run of a call came to.
+#[derive(Clone, Copy, Debug, PartialEq, Eq)]
+pub enum Outcome {
+    /// The full result.
+    Full,
+    /// A refusal for memory, after which all is as it has to be.
+    Refused,
+    /// Neither.
+    Wrong,
+}
+
+/// A full result, if it is the right one.
+pub fn full(right: bool) -> Outcome
+    ensures { result ≡ (if right then Full else Wrong) }
+{
+    if right { Outcome::Full } else { Outcome::Wrong }
+}
+
+/// A refusal for memory, if all is as it has to be after it.
+pub fn refused(right: bool) -> Outcome
+    ensures { result ≡ (if right then Refused else Wrong) }
+{
+    if right {
+        Outcome::Refused
+    } else {
+        Outcome::Wrong
+    }
+}
+
+/// A call that takes memory.
+pub trait Refusable {
+    /// What the call comes to where its request after so many granted ones is refused. The heap
+    /// refuses none before.
+    fn outcome(&self, heap: Heap<'_>, granted: u64) -> Outcome;
+
+    /// Whether the call may give the full result though a request was refused, as one for more
+    /// room than it needs.
+    fn may_do_without(&self) -> bool {
+        false
+    }
+}
+
+/// What a walk refuses at each of its steps.
+#[derive(Clone, Copy)]
+enum Refusal {
+    /// One request alone.
+    One,
+    /// A request and all that come after it.
+    AllLater,
+}
+
+/// How many requests the call makes where none is refused, and then it gives the full result.
+/// `None` where that isn't so, or where a run with one of them refused comes to anything else
+/// than it may.
+fn walk<C: Refusable>(alloc: Global, call: &C, refusal: Refusal) -> Option<u64> {
+    for granted in 0..ENOUGH {
+        let heap = match refusal {
+            Refusal::One => Refusing::after(alloc, u64::MAX),
+            Refusal::AllLater => Refusing::all_after(alloc, u64::MAX),
+        };
+        let outcome = call.outcome(&heap, granted);
+        let is_full = outcome == Outcome::Full;
+        if !heap.has_refused() {
+            return is_full.then_some(granted);
+        }
+        if outcome != Outcome::Refused && !(is_full && call.may_do_without()) {
+            return None;
+        }
+    }
+    None
+}
+
+/// How many requests the call makes, as the walks over them find it that refuse each alone and
+/// with all that come after it. `None` where one of them comes to anything else than it may.
+pub fn requests<C: Refusable>(alloc: Global, call: &C) -> Option<u64> {
+    let asked = walk(alloc, call, Refusal::One)?;
+    let again = walk(alloc, call, Refusal::AllLater)?;
+    (asked == again).then_some(asked)
+}
+
+/// Whether the call makes at least so many requests, or none where that is 0, and comes to what it
+/// may where each is refused in turn.
+pub fn asks_for<C: Refusable>(alloc: Global, call: &C, least: u64) -> bool {
+    match requests(alloc, call) {
+        Some(asked) => asked >= least && (least > 0 || asked == 0),
+        None => false,
+    }
+}
