@@ -6,6 +6,7 @@ pub mod CloneLaws
 pub mod Fault
 pub mod FrontLaws
 pub mod Fronts
+pub mod Given
 pub mod ListLaws
 pub mod Lists
 pub mod NumberLaws

@@ -66,17 +66,21 @@ impl EqClone for char {
 }
 
 impl EqClone for &str {
-    ghost clones_are_equal = { λ x y same. equal_from_same nat_list_eq_equiv x.now y.now (ap (λ s. s.now) same) };
+    ghost clones_are_equal = { λ x y same.
+        equal_from_same nat_list_eq_equiv x.now y.now (ap (λ s. s.now) same) };
 }
 
 impl<A: Allocator + Clone> EqClone for String<A> {
-    ghost clones_are_equal = { λ x y. equal_from_same nat_list_eq_equiv (string_bytes x) (string_bytes y) };
+    ghost clones_are_equal = { λ x y.
+        equal_from_same nat_list_eq_equiv (string_bytes x) (string_bytes y) };
 }
 
 impl<T: EqClone, A: Allocator + Clone> EqClone for Vec<T, A> {
-    ghost clones_are_equal = { λ x y copied. equal_from_all_zip T.is_clone T.clones_are_equal x.items y.items copied.0 };
+    ghost clones_are_equal = { λ x y copied.
+        equal_from_all_zip T.is_clone T.clones_are_equal x.items y.items copied.0 };
 }
 
 impl EqClone for UInt {
-    ghost clones_are_equal = { λ x y same. equal_from_same nat_eq_equiv x.0 y.0 (ap (λ v. v.0) same) };
+    ghost clones_are_equal = { λ x y same.
+        equal_from_same nat_eq_equiv x.0 y.0 (ap (λ v. v.0) same) };
 }

@@ -26,7 +26,9 @@ pub fn union_unique<A: Allocator>(
 ) -> Result<Vec<u8, A>, AllocError>
     requires { length namespace.now < 2 ^ 32 }
     ensures text { IfOk result (λ v. v.items ≡ union_text namespace.now msg.now) }
-    ensures unique { (n m : List ℕ) → length n < 2 ^ 32 → union_text n m ≡ union_text namespace.now msg.now → (n ≡ namespace.now) × (m ≡ msg.now) }
+    ensures unique { (n m : List ℕ) → length n < 2 ^ 32
+        → union_text n m ≡ union_text namespace.now msg.now
+        → (n ≡ namespace.now) × (m ≡ msg.now) }
 {
     let length = UInt(namespace.len() as u32);
     let mut union = Vec::with_capacity(alloc, length.encode_size() + namespace.len() + msg.len())?;

@@ -1,5 +1,5 @@
 -- What a whole number of any type is as a number of participants.
-use Rattle.std.specs.Prelude.{ℕ, ◌+◌, ◌*◌, ◌^◌, ◌<◌, ◌≤◌, ℤ, pos, negsuc}
+use Rattle.std.specs.Prelude.{ℕ, ◌+◌, ◌-◌, ◌*◌, ◌/◌, ◌^◌, ◌<◌, ◌≤◌, ℤ, pos, negsuc}
 
 -- the number is from 0 to u32::MAX
 abbrev pub IsU32 : ℤ → Type 0
@@ -15,6 +15,14 @@ IsCommitteeSize (negsuc n) = ⊥
 abbrev pub amount : ℤ → ℕ
 amount (pos n) = n
 amount (negsuc n) = 0
+
+-- how many of n may be faulty in the model `N3f1`
+abbrev pub n3f1_faults : ℕ → ℕ
+n3f1_faults n = (n - 1) / 3
+
+-- how many of n may be faulty in the model `N5f1`
+abbrev pub n5f1_faults : ℕ → ℕ
+n5f1_faults n = (n - 1) / 5
 
 -- f is the greatest number for which k times f and one more is up to n
 pub record GreatestFit (k n f : ℕ) : Type 0 where

@@ -6,7 +6,7 @@
 //! share?
 ghost use Rattle.std.specs.Prelude.{◌≡◌, ℕ, ◌+◌, ◌-◌, ◌*◌, ◌/◌, ◌^◌, ◌<◌, ◌≤◌};
 ghost use Rattle.std.proofs.Common.{arith};
-ghost use Rattle.commonware_faults.specs.Counts.{IsCommitteeSize, GreatestFit, amount};
+ghost use Rattle.commonware_faults.specs.Counts.{IsCommitteeSize, GreatestFit, amount, n3f1_faults, n5f1_faults};
 ghost use Rattle.commonware_faults.specs.Subsets.{Greatest3, Greatest5, LeastM, MeetsOutside, OverlapAtLeast};
 
 use crate::count::Count;
@@ -42,7 +42,7 @@ pub trait Faults {
 pub struct N3f1;
 
 impl Faults for N3f1 {
-    ghost faults = { λ n. (n - 1) / 3 };
+    ghost faults = { n3f1_faults };
 
     ghost at_most = { λ n h k. Prim.omega arith };
 
@@ -64,8 +64,9 @@ impl Faults for N3f1 {
     /// many. `n` is from 1 to `u32::MAX`.
     fn quorum<N: Count>(n: N) -> u32
         requires { IsCommitteeSize (N.number n) }
-        ensures value { result + (amount (N.number n) - 1) / 3 ≡ amount (N.number n) }
-        ensures meets { MeetsOutside (amount (N.number n)) result ((amount (N.number n) - 1) / 3) }
+        ensures value { result + n3f1_faults (amount (N.number n)) ≡ amount (N.number n) }
+        ensures meets { let total = amount (N.number n) in
+            MeetsOutside total result (n3f1_faults total) }
     {
         let total = n.to_u32().unwrap();
         total - N3f1::max_faults(total)
@@ -79,7 +80,7 @@ impl Faults for N3f1 {
 pub struct N5f1;
 
 impl Faults for N5f1 {
-    ghost faults = { λ n. (n - 1) / 5 };
+    ghost faults = { n5f1_faults };
 
     ghost at_most = { λ n h k. Prim.omega arith };
 
@@ -101,8 +102,9 @@ impl Faults for N5f1 {
     /// many. `n` is from 1 to `u32::MAX`.
     fn quorum<N: Count>(n: N) -> u32
         requires { IsCommitteeSize (N.number n) }
-        ensures value { result + (amount (N.number n) - 1) / 5 ≡ amount (N.number n) }
-        ensures meets { MeetsOutside (amount (N.number n)) result ((amount (N.number n) - 1) / 5) }
+        ensures value { result + n5f1_faults (amount (N.number n)) ≡ amount (N.number n) }
+        ensures meets { let total = amount (N.number n) in
+            MeetsOutside total result (n5f1_faults total) }
     {
         let total = n.to_u32().unwrap();
         total - N5f1::max_faults(total)
@@ -113,7 +115,7 @@ impl N5f1 {
     /// The larger quorum of `n` participants, which is `quorum(n)`. `n` is from 1 to `u32::MAX`.
     pub fn l_quorum<N: Count>(n: N) -> u32
         requires { IsCommitteeSize (N.number n) }
-        ensures { result + ⟦<N5f1 as Faults>⟧.faults (amount (N.number n)) ≡ amount (N.number n) }
+        ensures { result + n5f1_faults (amount (N.number n)) ≡ amount (N.number n) }
     {
         Self::quorum(n)
     }
@@ -122,9 +124,10 @@ impl N5f1 {
     /// share at least f + 1 participants with each larger quorum. `n` is from 1 to `u32::MAX`.
     pub fn m_quorum<N: Count>(n: N) -> u32
         requires { IsCommitteeSize (N.number n) }
-        ensures value { result ≡ 2 * ⟦<N5f1 as Faults>⟧.faults (amount (N.number n)) + 1 }
-        ensures least { LeastM (amount (N.number n)) (⟦<N5f1 as Faults>⟧.faults (amount (N.number n))) result }
-        ensures shares { OverlapAtLeast (amount (N.number n)) (amount (N.number n) - ⟦<N5f1 as Faults>⟧.faults (amount (N.number n))) result (⟦<N5f1 as Faults>⟧.faults (amount (N.number n)) + 1) }
+        ensures value { result ≡ 2 * n5f1_faults (amount (N.number n)) + 1 }
+        ensures least { LeastM (amount (N.number n)) (n5f1_faults (amount (N.number n))) result }
+        ensures shares { let total = amount (N.number n) in
+            OverlapAtLeast total (total - n5f1_faults total) result (n5f1_faults total + 1) }
     {
         2 * Self::max_faults(n) + 1
     }

@@ -114,7 +114,8 @@ impl<T> From<RangeToInclusive<T>> for RangeCfg<T> {
 }
 
 impl<T> From<Range<T>> for RangeCfg<T> {
-    ghost from_gives = { λ range r. r ≡ record { lower = Some range.start; upper = Excluded range.end } };
+    ghost from_gives = { λ range r.
+        r ≡ record { lower = Some range.start; upper = Excluded range.end } };
 
     fn from(range: Range<T>) -> Self {
         RangeCfg {
@@ -125,7 +126,10 @@ impl<T> From<Range<T>> for RangeCfg<T> {
 }
 
 impl<T> From<RangeInclusive<T>> for RangeCfg<T> {
-    ghost from_gives = { λ range r. r ≡ record { lower = Some (range_inclusive_start range); upper = Included (range_inclusive_end range) } };
+    ghost from_gives = { λ range r. r ≡ record {
+      lower = Some (range_inclusive_start range);
+      upper = Included (range_inclusive_end range);
+    } };
 
     fn from(range: RangeInclusive<T>) -> Self {
         let (start, end) = range.into_inner();

@@ -22,7 +22,8 @@ impl<T: EncodeSize, A: Allocator> EncodeSize for Vec<T, A> {
 
     ghost writable = { λ v. IsWritableList T.writable v.items };
 
-    ghost prefix_free = { prefix_free_on (λ v. v.items) (list_enc T.enc) (IsWritableList T.writable) (list_prefix_free T.enc T.writable T.prefix_free) };
+    ghost prefix_free = { prefix_free_on (λ v. v.items) (list_enc T.enc)
+        (IsWritableList T.writable) (list_prefix_free T.enc T.writable T.prefix_free) };
 
     ghost text_of_bytes = { λ v h. list_bytes T.enc T.writable T.text_of_bytes v.items h };
 
@@ -171,7 +172,9 @@ pub fn read_list<T: Read<A> + Drop, A: Allocator + Copy>(
     ensures consumed { IfOk result (λ v. Consumes src.old src.new (list_enc T.enc v.items)) }
     ensures writable { IfOk result (λ v. IsWritableList T.writable v.items) }
     ensures allowed { IfOk result (λ v. IsAllowedList range (T.allowed item.now) v.items) }
-    ensures refused { IfErr result (Refuses (ListFault T.enc T.writable (T.allowed item.now) (T.fault item.now) range (rest_of src.old)) (IsListMemoryFree (T.fault item.now) (T.memory_free item.now) range (rest_of src.old))) }
+    ensures refused { let text = rest_of src.old in IfErr result (Refuses
+        (ListFault T.enc T.writable (T.allowed item.now) (T.fault item.now) range text)
+        (IsListMemoryFree (T.fault item.now) (T.memory_free item.now) range text)) }
     ensures stays { OnErr result (src.new ≡ src.old) }
 {
     let mut here = *src;
@@ -208,7 +211,12 @@ impl<T: Read<A> + Drop, A: Allocator + Copy> Read<A> for Vec<T, A> {
 
     ghost memory_free = { λ c. IsListMemoryFree (T.fault c.1) (T.memory_free c.1) c.0 };
 
-    ghost read_laws = { λ alloc c. laws_on (λ v. v.items) (list_enc T.enc) (IsWritableList T.writable) (IsAllowedList c.0 (T.allowed c.1)) (ListFault T.enc T.writable (T.allowed c.1) (T.fault c.1) c.0) (λ items p _. vec_of alloc items p.short) (list_laws T.enc T.writable T.prefix_free (T.allowed c.1) (T.fault c.1) c.0 (T.read_laws alloc c.1)) };
+    ghost read_laws = { λ alloc c. laws_on (λ v. v.items) (list_enc T.enc)
+        (IsWritableList T.writable) (IsAllowedList c.0 (T.allowed c.1))
+        (ListFault T.enc T.writable (T.allowed c.1) (T.fault c.1) c.0)
+        (λ items p _. vec_of alloc items p.short)
+        (list_laws T.enc T.writable T.prefix_free (T.allowed c.1) (T.fault c.1) c.0
+        (T.read_laws alloc c.1)) };
 
     fn read_cfg(alloc: A, src: &mut Source<'_>, cfg: &Self::Cfg) -> Result<Vec<T, A>, Error> {
         read_list::<T, A>(alloc, src, cfg.0, &cfg.1)
@@ -216,5 +224,6 @@ impl<T: Read<A> + Drop, A: Allocator + Copy> Read<A> for Vec<T, A> {
 }
 
 impl<T: Canonical, A: Allocator> Canonical for Vec<T, A> {
-    ghost canonical = { canonical_on (λ v. v.items) (list_enc T.enc) (IsWritableList T.writable) (pointwise T.eq) (list_canonical T.enc T.writable T.prefix_free T.eq T.canonical) };
+    ghost canonical = { canonical_on (λ v. v.items) (list_enc T.enc) (IsWritableList T.writable)
+        (pointwise T.eq) (list_canonical T.enc T.writable T.prefix_free T.eq T.canonical) };
 }

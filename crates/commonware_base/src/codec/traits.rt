@@ -74,14 +74,17 @@ pub trait Read<A: Allocator>: EncodeSize + Sized {
     /// reading isn't memory-free. What follows the value is left. After an error the source stands
     /// where it stood.
     fn read_cfg(alloc: A, src: &mut Source<'_>, cfg: &Self::Cfg) -> Result<Self, Error>
-        ensures accepted { IfOk result (λ v. Accepts Self.enc Self.writable (allowed cfg.now) (rest_of src.old) v (rest_of src.new)) }
+        ensures accepted { IfOk result (λ v. Accepts Self.enc Self.writable (allowed cfg.now)
+            (rest_of src.old) v (rest_of src.new)) }
         ensures consumed { IfOk result (λ v. Consumes src.old src.new (Self.enc v)) }
-        ensures refused { IfErr result (Refuses (fault cfg.now (rest_of src.old)) (memory_free cfg.now (rest_of src.old))) }
+        ensures refused { IfErr result
+            (Refuses (fault cfg.now (rest_of src.old)) (memory_free cfg.now (rest_of src.old))) }
         ensures stays { OnErr result (src.new ≡ src.old) };
 
     /// A text that is accepted has no fault, each other text has one, and what is allowed goes by
     /// the bytes.
-    ghost read_laws: { (alloc : A) (c : Self.Cfg) → ReadLaws Self.enc Self.writable (allowed c) (fault c) };
+    ghost read_laws: { (alloc : A) (c : Self.Cfg)
+        → ReadLaws Self.enc Self.writable (allowed c) (fault c) };
 }
 
 /// A type whose writable values are equal exactly where their bytes are. Equal values are writable

@@ -68,7 +68,8 @@ impl<A: Allocator> Read<A> for UInt {
 
     ghost memory_free = { λ _ _. Unit {0} };
 
-    ghost read_laws = { λ _ _. laws_on (λ v. v.0) varint IsWord (λ _. Unit {0}) varint_fault (λ n _ _. (record { 0 = n }, refl)) varint_laws };
+    ghost read_laws = { λ _ _. laws_on (λ v. v.0) varint IsWord (λ _. Unit {0}) varint_fault
+        (λ n _ _. (record { 0 = n }, refl)) varint_laws };
 
     fn read_cfg(_alloc: A, src: &mut Source<'_>, _cfg: &()) -> Result<UInt, Error> {
         match read_varint(src) {
@@ -134,7 +135,8 @@ pub(crate) fn read_varint(src: &mut Source<'_>) -> Result<u32, Error>
 /// How many bytes the number at the front takes.
 fn varint_len(bytes: &[u8]) -> Result<usize, Error>
     ensures within { IfOk result (λ count. count ≤ length bytes.now) }
-    ensures found { IfOk result (λ count. IsVarint (groups_sum (take count bytes.now)) (take count bytes.now)) }
+    ensures found { IfOk result (λ count.
+        IsVarint (groups_sum (take count bytes.now)) (take count bytes.now)) }
     ensures refused { IfErr result (Refuses (varint_fault bytes.now) (Unit {0})) }
 {
     for (i, byte) in bytes.iter().enumerate() {
