@@ -1,7 +1,6 @@
 -- The place of an item in a strict list.
 use Rattle.std.proofs.Common.{◌≡◌, ℕ, ◌+◌, ◌<◌, Bool, true, List, length, take, get_or, sym, ◌∙◌, ap, arith, ⊎_elim, inl, inr, subst}
 use Rattle.std.specs.Prelude.{◌↔◌, Err, None, Ok, Option, Result, Some}
-use Rattle.std.specs.List.{slice_get}
 use Rattle.std.specs.List.Sorted.{IsBinarySearchResult, IsSearchInRange, IsSorted}
 use Rattle.std.specs.Cmp.{IsTotalOrder}
 use Rattle.std.specs.Ordering.{is_eq, is_lt, ordering_reverse}
@@ -14,7 +13,7 @@ use Rattle.std.proofs.lemmas.List.{get_or-take, length-take}
 use Rattle.std.proofs.lemmas.List.Sorted.{searchable_from_sorted}
 use Rattle.std.proofs.lemmas.Map.Keys.{Less-from_sorted, sorted_from_all_adjacent}
 use Rattle.std.proofs.lemmas.Option.{get_or_from_slice_get, slice_get-get_or, slice_get_within}
-use Rattle.commonware_ordered.specs.Strict.{IsPlaceOf, IsStrict}
+use Rattle.commonware_ordered.specs.Strict.{HasEqualAt, IsPlaceOf, IsStrict}
 use Rattle.commonware_ordered.specs.StrictLaws.{level}
 
 module _ {X : Type 0} {cmp : X → X → Ordering} (o : IsTotalOrder cmp) where
@@ -46,9 +45,9 @@ module _ {X : Type 0} {cmp : X → X → Ordering} (o : IsTotalOrder cmp) where
     ]
 
     -- the place of x in a strict list is each position that holds an equal item, and no other
-    pub place_only : (xs : List X) (x : X) (r : Option ℕ) → IsStrict cmp xs → IsPlaceOf eq xs x r → (p : ℕ) → (r ≡ Some p) ↔ ((y : X) × (slice_get xs p ≡ Some y) × (eq y x ≡ true))
+    pub place_only : (xs : List X) (x : X) (r : Option ℕ) → IsStrict cmp xs → IsPlaceOf eq xs x r → (p : ℕ) → (r ≡ Some p) ↔ HasEqualAt eq xs x p
     place_only xs x (Some i) s h p = (
-      (λ e. let same : i ≡ p = cc in subst (λ q. (y : X) × (slice_get xs q ≡ Some y) × (eq y x ≡ true)) same (get_or xs i x, slice_get-get_or xs i x h.0, h.1 x)),
+      (λ e. let same : i ≡ p = cc in subst (HasEqualAt eq xs x) same (get_or xs i x, slice_get-get_or xs i x h.0, h.1 x)),
       (λ w. ap Some (one_place xs x i p s h.0 (slice_get_within xs p w.0 w.1) (h.1 x) (subst (λ z. eq z x ≡ true) (sym (get_or_from_slice_get xs p w.0 x w.1)) w.2))),
     )
     place_only xs x None s h p = (

@@ -1,8 +1,8 @@
 //! Sets of participants as committees.
-ghost use Rattle.std.specs.Prelude.{◌≡◌, ◌+◌, ◌≤◌, ◌^◌, ◌↔◌, ℕ, List, Some, length, pos, slice_get, true};
+ghost use Rattle.std.specs.Prelude.{◌≡◌, ◌+◌, ◌≤◌, ◌^◌, ◌↔◌, ℕ, List, Some, length, pos};
 ghost use Rattle.std.specs.Slice.{IsItemAt};
 ghost use Rattle.commonware_faults.specs.Counts.{IsCommitteeSize};
-ghost use Rattle.commonware_ordered.specs.Strict.{IsPlaceOf};
+ghost use Rattle.commonware_ordered.specs.Strict.{HasEqualAt, IsPlaceOf};
 
 use crate::set::Set;
 use commonware_base::Participant;
@@ -38,7 +38,8 @@ pub trait Quorum {
     fn index(&self, key: &Self::Item) -> Option<Participant>
         requires { length (members self.now) ≤ 2 ^ 32 }
         ensures place { IsPlaceOf Self.Item.eq (members self.now) key.now result }
-        ensures only { (p : ℕ) → (result ≡ Some p) ↔ ((x : Self.Item) × (slice_get (members self.now) p ≡ Some x) × (Self.Item.eq x key.now ≡ true)) };
+        ensures only { (p : ℕ)
+            → (result ≡ Some p) ↔ HasEqualAt Self.Item.eq (members self.now) key.now p };
 }
 
 impl<T: Ord, A: Allocator> Quorum for Set<T, A> {

@@ -1,9 +1,9 @@
 //! A list of strictly increasing items.
-ghost use Rattle.std.specs.Prelude.{◌≡◌, ◌↔◌, ◌<◌, ◌≤◌, ◌^◌, ◌==◌, [], IsTrue, Some, length, slice_get, slice_index_or, slice_range, take, true, ℕ};
+ghost use Rattle.std.specs.Prelude.{◌≡◌, ◌↔◌, ◌<◌, ◌≤◌, ◌^◌, ◌==◌, [], IsTrue, Some, length, slice_index_or, slice_range, take, ℕ};
 ghost use Rattle.std.specs.Iterator.Adapters.{IterYieldsInOrder, IterYieldsInReverse};
 ghost use Rattle.std.specs.Slice.{IsItemAt};
 ghost use Rattle.std.specs.Slice.Iter.{iter_rest};
-ghost use Rattle.commonware_ordered.specs.Strict.{IsPlaceOf, IsStrict};
+ghost use Rattle.commonware_ordered.specs.Strict.{HasEqualAt, IsPlaceOf, IsStrict};
 
 mod builders;
 mod codec;
@@ -105,7 +105,7 @@ impl<T: Ord, A: Allocator> Set<T, A> {
     /// O(log n) comparisons.
     pub fn position(&self, item: &T) -> Option<usize>
         ensures place { IsPlaceOf T.eq self.now item.now result }
-        ensures only { (p : ℕ) → (result ≡ Some p) ↔ ((x : T) × (slice_get self.now p ≡ Some x) × (T.eq x item.now ≡ true)) }
+        ensures only { (p : ℕ) → (result ≡ Some p) ↔ HasEqualAt T.eq self.now item.now p }
     {
         place_of(self.as_slice(), item)
     }

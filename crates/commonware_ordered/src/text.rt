@@ -9,7 +9,8 @@ pub(crate) fn write_items<T: fmt::Display, W: fmt::Write>(
     items: &[T],
     f: &mut fmt::Formatter<W>,
 ) -> fmt::Result
-    ensures { DisplaysOnOk W.write_str_gives f.old result (debug_items T.output [] items.now) f.new }
+    ensures { DisplaysOnOk W.write_str_gives f.old result
+        (debug_items T.output [] items.now) f.new }
 {
     let mut lead = "";
     for item in items {

@@ -1,7 +1,7 @@
 //! Sets of many items: of equal ones the first stays, or equal ones are refused.
 ghost use Rattle.std.specs.Prelude.{IfOk};
 ghost use Rattle.std.specs.Iterator.{IsFiniteIterable};
-ghost use Rattle.commonware_base.specs.Taken.{TakesAll};
+ghost use Rattle.commonware_base.specs.Taken.{IsMadeOf};
 ghost use Rattle.commonware_ordered.specs.Dedup.{EqualsSameItems, IsDedup};
 ghost use Rattle.commonware_ordered.specs.Whole.{IsRefusedFor, IsSetOfAll, IsWholeSet, IsWholeSetOfClones};
 
@@ -15,8 +15,10 @@ impl<T: Ord + Drop, A: Allocator + Copy> Set<T, A> {
     /// refused for want of memory alone, and takes memory for the distinct items. It takes O(n log
     /// n) comparisons.
     pub fn from_iter_dedup<I: IntoIterator<Item = T>>(alloc: A, iter: I) -> Result<Self, AllocError>
-        requires { IsFiniteIterable I.into_iter_gives I.IntoIter.can_next I.IntoIter.remaining iter }
-        ensures { IfOk result (λ s. TakesAll I.into_iter_gives I.IntoIter.next_gives iter (λ xs. IsDedup T.eq T.cmp xs s × EqualsSameItems T.eq T.cmp xs s)) }
+        requires { IsFiniteIterable I.into_iter_gives I.IntoIter.can_next
+            I.IntoIter.remaining iter }
+        ensures { IfOk result (IsMadeOf I.into_iter_gives I.IntoIter.next_gives iter
+            (λ xs s. IsDedup T.eq T.cmp xs s × EqualsSameItems T.eq T.cmp xs s)) }
     {
         let rest = iter.into_iter();
         let mut gathered = Gathered::with_room(alloc, rest.size_hint().0)?;

@@ -48,7 +48,8 @@ impl<T: Ord + Canonical + Read<A> + Drop, A: Allocator + Copy> Read<A> for Set<T
 
     ghost memory_free = { λ c. IsListMemoryFree (T.fault c.1) (T.memory_free c.1) c.0 };
 
-    ghost read_laws = { λ alloc c. set_laws T.enc T.writable T.cmp T.prefix_free T.eq T.total T.matches_eq T.canonical (T.allowed c.1) (T.fault c.1) c.0 (T.read_laws alloc c.1) };
+    ghost read_laws = { λ alloc c. set_laws T.enc T.writable T.cmp T.prefix_free T.eq T.total
+        T.matches_eq T.canonical (T.allowed c.1) (T.fault c.1) c.0 (T.read_laws alloc c.1) };
 
     fn read_cfg(alloc: A, src: &mut Source<'_>, cfg: &Self::Cfg) -> Result<Set<T, A>, Error> {
         read_set::<T, A>(alloc, src, cfg.0, &cfg.1)
@@ -56,7 +57,8 @@ impl<T: Ord + Canonical + Read<A> + Drop, A: Allocator + Copy> Read<A> for Set<T
 }
 
 impl<T: Ord + Canonical, A: Allocator> Canonical for Set<T, A> {
-    ghost canonical = { set_canonical T.enc T.writable T.cmp T.prefix_free T.eq T.total T.matches_eq T.canonical };
+    ghost canonical = { set_canonical T.enc T.writable T.cmp T.prefix_free T.eq T.total
+        T.matches_eq T.canonical };
 }
 
 impl<T: Ord + MaxEncodeSize, A: Allocator> Set<T, A> {
@@ -67,7 +69,8 @@ impl<T: Ord + MaxEncodeSize, A: Allocator> Set<T, A> {
         requires short { len < 2 ^ 32 }
         requires fits { varint_size len + len * T.MAX_ENCODE_SIZE < 2 ^ 64 }
         ensures size { result ≡ varint_size len + len * T.MAX_ENCODE_SIZE }
-        ensures enough { (items : List T) → IsWritableSet T.writable T.cmp items → length items ≤ len → length (list_enc T.enc items) ≤ result }
+        ensures enough { (items : List T) → IsWritableSet T.writable T.cmp items
+            → length items ≤ len → length (list_enc T.enc items) ≤ result }
     {
         UInt(len as u32).encode_size() + len * T::MAX_ENCODE_SIZE
     }
@@ -100,7 +103,9 @@ pub fn read_set<T: Ord + Canonical + Read<A> + Drop, A: Allocator + Copy>(
     ensures consumed { IfOk result (λ v. Consumes src.old src.new (list_enc T.enc v)) }
     ensures writable { IfOk result (IsWritableSet T.writable T.cmp) }
     ensures allowed { IfOk result (IsAllowedList range (T.allowed item.now)) }
-    ensures refused { IfErr result (Refuses (SetFault T.enc T.writable T.cmp (T.allowed item.now) (T.fault item.now) range (rest_of src.old)) (IsListMemoryFree (T.fault item.now) (T.memory_free item.now) range (rest_of src.old))) }
+    ensures refused { let text = rest_of src.old in IfErr result (Refuses
+        (SetFault T.enc T.writable T.cmp (T.allowed item.now) (T.fault item.now) range text)
+        (IsListMemoryFree (T.fault item.now) (T.memory_free item.now) range text)) }
     ensures stays { OnErr result (src.new ≡ src.old) }
 {
     let mut here = *src;

@@ -1,9 +1,6 @@
 //! Sets that are walked item by item, and given up for the list of their items.
-ghost use Rattle.std.specs.Prelude.{◌≡◌, ◌<◌, ◌^◌, length};
-ghost use Rattle.std.specs.Iterator.Adapters.{IterYieldsInOrder, IterYieldsInReverse};
-ghost use Rattle.std.specs.Iterator.Runs.{YieldsInOrder, YieldsInReverse};
-ghost use Rattle.std.specs.Slice.Iter.{iter_rest};
-ghost use Rattle.std.specs.Vec.Iter.{into_iter_items, into_iter_len, into_iter_steps, into_iter_steps_back};
+ghost use Rattle.std.specs.Prelude.{◌≡◌};
+ghost use Rattle.commonware_base.specs.Given.{HandsOver, Shows};
 
 use super::Set;
 use std::alloc::Allocator;
@@ -14,8 +11,7 @@ impl<T: Ord + Drop, A: Allocator> IntoIterator for Set<T, A> {
 
     type IntoIter = vec::IntoIter<T, A>;
 
-    ghost into_iter_gives = { λ s it. (into_iter_items it ≡ s) × (into_iter_len it ≡ length s) × (into_iter_len it < 2 ^ 64)
-        × YieldsInOrder (into_iter_steps {X = T} {Z = A}) into_iter_items × YieldsInReverse (into_iter_steps_back {X = T} {Z = A}) into_iter_items };
+    ghost into_iter_gives = { λ s it. HandsOver s it };
 
     /// The items in order, from both ends, with the exact number left.
     fn into_iter(self) -> vec::IntoIter<T, A> {
@@ -29,7 +25,7 @@ impl<'a, T: Ord, A: Allocator> IntoIterator for &'a Set<T, A> {
 
     type IntoIter = slice::Iter<'a, T>;
 
-    ghost into_iter_gives = { λ s it. (iter_rest it ≡ s.now) × (length (iter_rest it) < 2 ^ 64) × IterYieldsInOrder T × IterYieldsInReverse T };
+    ghost into_iter_gives = { λ s it. Shows s.now it };
 
     /// The items in order, from both ends, with the exact number left.
     fn into_iter(self) -> slice::Iter<'a, T> {
