@@ -18,6 +18,7 @@ mod map_builders;
 mod map_pairs;
 mod map_values;
 mod maps;
+mod non_empty_lists;
 mod non_zero;
 mod nothing;
 mod numbers;
@@ -28,8 +29,7 @@ mod set_builders;
 mod set_calls;
 mod sets;
 mod unions;
-mod vec_tests;
-mod vecs;
+mod vec_module_tests;
 
 use crate::codec::{EncodeSize, Error, Read, Source, Write};
 use std::alloc::{AllocError, Allocator};

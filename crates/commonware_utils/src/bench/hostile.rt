@@ -1,7 +1,7 @@
 //! Texts that are refused, a table a reader: mostly of nests, each by its first fault.
+use super::non_empty_lists::EMPTY;
 use super::refuses;
 use super::sets::UNSORTED;
-use super::vecs::EMPTY;
 use crate::Participant;
 use crate::codec::{Error, RangeCfg};
 use crate::ordered::{Map, Set};

@@ -5,8 +5,8 @@ ghost use Rattle.std.proofs.Common.{inl};
 ghost use Rattle.std.proofs.Math.Nat.{le_refl};
 
 use super::bimaps::REPEATED;
+use super::non_empty_lists::EMPTY;
 use super::sets::UNSORTED;
-use super::vecs::EMPTY;
 use super::{comes_back, is_written_as, read, refuses};
 use crate::codec::{
     Canonical, EncodeSize, Error, MaxEncodeSize, RangeCfg, Read, Source, Write, round_trip,

@@ -1,7 +1,7 @@
 //! The tests of the Rust crate's module `vec`, each with the name that it has there.
 ghost use Rattle.std.specs.Prelude.{◌≡◌, ◌≤◌, ◌∷◌, [], IfOk, length};
 
-use super::vecs::EMPTY;
+use super::non_empty_lists::EMPTY;
 use super::{comes_back, is_written_as, refuses};
 use crate::codec::{Error as CodecError, RangeCfg};
 use crate::vec::{Bounded, Error, Mutate, NonEmptyVec};

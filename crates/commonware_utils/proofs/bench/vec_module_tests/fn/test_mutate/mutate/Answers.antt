@@ -1,6 +1,6 @@
 use Rattle.std.proofs.Common.{arith}
 use Rattle.commonware_utils.proofs.Dedup.{dedup_leaves_some}
-use Rattle.commonware_utils.proofs.bench.vec_tests.fn.test_mutate.mutate.Goals as goal
+use Rattle.commonware_utils.proofs.bench.vec_module_tests.fn.test_mutate.mutate.Goals as goal
 
 pub returns : goal.returns
 returns c =
