@@ -33,7 +33,8 @@ impl<T, A: Allocator> Model for Bounded<T, A> {
 
     ghost Value = { Queue T };
 
-    ghost view = { λ b. record { items = b.deque.items; capacity = non_zero_usize_get b.capacity } };
+    ghost view = { λ b.
+        record { items = b.deque.items; capacity = non_zero_usize_get b.capacity } };
 
     ghost invariant = { λ b. length b.deque.items ≤ non_zero_usize_get b.capacity };
 }
@@ -85,7 +86,9 @@ impl<T, A: Allocator> Bounded<T, A> {
     /// Takes the oldest item out, or answers `None` where there is none.
     pub fn pop_front(&mut self) -> Option<T>
         ensures capacity { self.new.capacity ≡ self.old.capacity }
-        ensures items { MatchOption result ((self.old.items ≡ []) × (self.new.items ≡ [])) (λ oldest. self.old.items ≡ oldest ∷ self.new.items) }
+        ensures items { MatchOption result
+            ((self.old.items ≡ []) × (self.new.items ≡ []))
+            (λ oldest. self.old.items ≡ oldest ∷ self.new.items) }
     {
         self.deque.pop_front()
     }
@@ -143,7 +146,8 @@ impl<T: Clone, A: Allocator + Clone> Clone for Bounded<T, A> {
 impl<T: PartialEq, A: Allocator> PartialEq for Bounded<T, A> {
     ghost eq = { λ b c. pointwise T.eq b.items c.items && (b.capacity == c.capacity) };
 
-    ghost laws = { and_per (on_per (λ b. b.items) (lists_per T.laws)) (on_per (λ b. b.capacity) (partial_equiv_from_equiv nat_eq_equiv)) };
+    ghost laws = { and_per (on_per (λ b. b.items) (lists_per T.laws))
+        (on_per (λ b. b.capacity) (partial_equiv_from_equiv nat_eq_equiv)) };
 
     fn eq(&self, other: &Self) -> bool {
         self.deque == other.deque && self.capacity.get() == other.capacity.get()
@@ -151,13 +155,16 @@ impl<T: PartialEq, A: Allocator> PartialEq for Bounded<T, A> {
 }
 
 impl<T: Eq, A: Allocator> Eq for Bounded<T, A> {
-    ghost laws = { and_equiv (on_equiv (λ b. b.items) (lists_equiv T.Eq.laws)) (on_equiv (λ b. b.capacity) nat_eq_equiv) };
+    ghost laws = { and_equiv (on_equiv (λ b. b.items) (lists_equiv T.Eq.laws))
+        (on_equiv (λ b. b.capacity) nat_eq_equiv) };
 }
 
 impl<T: Hash, A: Allocator> Hash for Bounded<T, A> {
     ghost hash_input = { λ b. fed.slice T.hash_input b.items ++ fed.usize b.capacity };
 
-    ghost respects_eq = { (and-Alike (on_Alike (λ b. b.items) (items_Alike (record { fed = T.respects_eq }))) capacities_alike).fed };
+    ghost respects_eq = { (and-Alike
+        (on_Alike (λ b. b.items) (items_Alike (record { fed = T.respects_eq })))
+        capacities_alike).fed };
 
     fn hash<H: Hasher>(&self, state: &mut H) {
         let Bounded { deque, capacity } = self;

@@ -36,7 +36,8 @@ pub trait Mutate: Sized {
     final fn mutate<R, F: FnOnce(&mut Self::Inner) -> R>(&mut self, f: F) -> R
         requires callable { TakesItems items_of F.FnOnce f (items self.old) }
         requires leaves { LeavesSome items_of F.FnOnce f (items self.old) }
-        ensures returned { ReturnsAtItems items_of F.FnOnce f (items self.old) result (items self.new) }
+        ensures returned { ReturnsAtItems items_of F.FnOnce f (items self.old)
+            result (items self.new) }
         ensures some { 1 ≤ length (items self.new) }
     {
         core::mem::replace_with(
@@ -45,7 +46,8 @@ pub trait Mutate: Sized {
             |value, f|
                 requires callable { TakesItems items_of F.FnOnce f (items value) }
                 requires leaves { LeavesSome items_of F.FnOnce f (items value) }
-                ensures returned { ReturnsAtItems items_of F.FnOnce f (items value) result.1 (items result.0) }
+                ensures returned { ReturnsAtItems items_of F.FnOnce f (items value)
+                    result.1 (items result.0) }
                 ensures some { 1 ≤ length (items result.0) }
             {
                 let mut inner = value.open();

@@ -99,7 +99,8 @@ impl<T, A: Allocator> NonEmptyVec<T, A> {
 
     /// The last item, to be written.
     pub fn last_mut(&mut self) -> &mut T
-        ensures* writes_back { sem 𝓛 (LendsItemAt T.row A.row A.Allocator self.entry (length self.old - 1) result) }
+        ensures* writes_back { sem 𝓛
+            (LendsItemAt T.row A.row A.Allocator self.entry (length self.old - 1) result) }
         ensures value { slice_get self.old (length self.old - 1) ≡ Some result.now }
     {
         let last = self.items.len() - 1;
@@ -108,7 +109,9 @@ impl<T, A: Allocator> NonEmptyVec<T, A> {
 
     /// Puts an item last. Where memory is refused, the item comes back, and the list is as it was.
     pub fn push(&mut self, value: T) -> Result<(), T>
-        ensures { MatchResult result (λ _. self.new ≡ self.old ++ value ∷ []) (λ back. (back ≡ value) × (self.new ≡ self.old)) }
+        ensures { MatchResult result
+            (λ _. self.new ≡ self.old ++ value ∷ [])
+            (λ back. (back ≡ value) × (self.new ≡ self.old)) }
     {
         match self.items.push(value) {
             Ok(()) => Ok(()),
@@ -120,7 +123,9 @@ impl<T, A: Allocator> NonEmptyVec<T, A> {
     /// Where memory is refused, the item comes back, and the list is as it was.
     pub fn insert(&mut self, index: usize, value: T) -> Result<(), T>
         requires { index ≤ length self.old }
-        ensures { MatchResult result (λ _. self.new ≡ insert self.old index value) (λ back. (back ≡ value) × (self.new ≡ self.old)) }
+        ensures { MatchResult result
+            (λ _. self.new ≡ insert self.old index value)
+            (λ back. (back ≡ value) × (self.new ≡ self.old)) }
     {
         match self.items.insert(index, value) {
             Ok(()) => Ok(()),
@@ -130,7 +135,9 @@ impl<T, A: Allocator> NonEmptyVec<T, A> {
 
     /// Takes the last item out, or answers `None` where it is the only one, which stays.
     pub fn pop(&mut self) -> Option<T>
-        ensures last { MatchOption result ((length self.old ≡ 1) × (self.new ≡ self.old)) (λ last. (1 < length self.old) × (self.old ≡ self.new ++ last ∷ [])) }
+        ensures last { MatchOption result
+            ((length self.old ≡ 1) × (self.new ≡ self.old))
+            (λ last. (1 < length self.old) × (self.old ≡ self.new ++ last ∷ [])) }
         ensures some { 1 ≤ length self.new }
     {
         if self.is_singleton() {
@@ -144,7 +151,10 @@ impl<T, A: Allocator> NonEmptyVec<T, A> {
     /// one, which stays.
     pub fn remove(&mut self, index: usize) -> Option<T>
         requires { index < length self.old }
-        ensures item { MatchOption result ((length self.old ≡ 1) × (self.new ≡ self.old)) (λ item. (1 < length self.old) × (slice_get self.old index ≡ Some item) × (self.new ≡ remove self.old index)) }
+        ensures item { MatchOption result
+            ((length self.old ≡ 1) × (self.new ≡ self.old))
+            (λ item. (1 < length self.old) × (slice_get self.old index ≡ Some item)
+            × (self.new ≡ remove self.old index)) }
         ensures some { 1 ≤ length self.new }
     {
         if self.items.len() > 1 {

@@ -22,7 +22,9 @@ impl<T: Drop, A: Allocator> NonEmptyVec<T, A> {
 impl<T, A: Allocator> TryFrom<Vec<T, A>> for NonEmptyVec<T, A> {
     type Error = Error;
 
-    ghost try_from_gives = { λ vec result. MatchResult result (λ v. v ≡ vec.items) (λ error. (error ≡ Empty) × (vec.items ≡ [])) };
+    ghost try_from_gives = { λ vec result. MatchResult result
+        (λ v. v ≡ vec.items)
+        (λ error. (error ≡ Empty) × (vec.items ≡ [])) };
 
     /// The list of the items of a vector, or `Empty` where it is empty. It takes no memory.
     fn try_from(vec: Vec<T, A>) -> Result<Self, Error> {

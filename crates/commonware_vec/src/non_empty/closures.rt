@@ -1,10 +1,10 @@
 //! Lists that are never empty, whose items a closure makes.
-ghost use Rattle.std.specs.Prelude.{◌≡◌, ◌+◌, ◌-◌, ◌≤◌, ◌++◌, IfErr, IfOk, IsOk, List, OnOk, length, replicate, take};
+ghost use Rattle.std.specs.Prelude.{◌≡◌, ◌+◌, ◌-◌, ◌≤◌, IfErr, IfOk, IsOk, OnOk, length, take};
 ghost use Rattle.std.specs.Fn.{CalledAt, TakesAt};
 ghost use Rattle.std.specs.Int.NonZero.{non_zero_usize_get};
 ghost use Rattle.std.specs.Vec.{vec_capacity, vec_len};
 ghost use Rattle.commonware_base.specs.Calls.{CallableAlong, CallsGiveAll};
-ghost use Rattle.commonware_vec.specs.Closures.{CalledWith, CalledWithNothing, TakesNothing, TakesWith};
+ghost use Rattle.commonware_vec.specs.Closures.{AppendsAnswers, CallableTimes, CalledWith, TakesWith};
 ghost use Rattle.commonware_vec.specs.declared.error.Error.TheVariants.{Memory};
 
 use super::NonEmptyVec;
@@ -52,8 +52,9 @@ impl<T: Drop, A: Allocator> NonEmptyVec<T, A> {
     /// isn't refused; else there is room for all answers before the first call. It is refused for
     /// want of memory alone, and then nothing was called, and the list is as it was.
     pub fn resize_with<F: FnMut() -> T>(&mut self, len: NonZeroUsize, f: F) -> Result<(), Error>
-        requires { CallableAlong (CalledWithNothing F.FnMut) (TakesNothing F.FnMut) f (replicate (non_zero_usize_get len - length self.old) tt) }
-        ensures items { OnOk result ((answers : List T) × (self.new ≡ take (non_zero_usize_get len) self.old ++ answers) × CallsGiveAll (CalledWithNothing F.FnMut) f (replicate (non_zero_usize_get len - length self.old) tt) answers) }
+        requires { CallableTimes F.FnMut f (non_zero_usize_get len - length self.old) }
+        ensures items { let size = non_zero_usize_get len in OnOk result
+            (AppendsAnswers F.FnMut f (size - length self.old) (take size self.old) self.new) }
         ensures len { OnOk result (length self.new ≡ non_zero_usize_get len) }
         ensures shorter { non_zero_usize_get len ≤ length self.old → IsOk result }
         ensures err { IfErr result (λ error. (error ≡ Memory) × (self.new ≡ self.old)) }
@@ -73,8 +74,8 @@ impl<T: Drop, A: Allocator> NonEmptyVec<T, A> {
 /// Puts what `f` answers last, called so many times. There is room.
 fn push_answers<T, A: Allocator, F: FnMut() -> T>(items: &mut Vec<T, A>, count: usize, mut f: F)
     requires room { vec_len items.old + count ≤ vec_capacity items.old }
-    requires callable { CallableAlong (CalledWithNothing F.FnMut) (TakesNothing F.FnMut) f (replicate count tt) }
-    ensures { (answers : List T) × (items.new.items ≡ items.old.items ++ answers) × CallsGiveAll (CalledWithNothing F.FnMut) f (replicate count tt) answers }
+    requires callable { CallableTimes F.FnMut f count }
+    ensures { AppendsAnswers F.FnMut f count items.old.items items.new.items }
 {
     let mut left = count;
     while left > 0 {

@@ -43,11 +43,14 @@ impl<T: Read<A> + Drop, A: Allocator + Copy> Read<A> for NonEmptyVec<T, A> {
 
     ghost allowed = { λ c. IsAllowedList (as_numbers c.0) (T.allowed c.1) };
 
-    ghost fault = { λ c. NonEmptyFault T.enc T.writable (T.allowed c.1) (T.fault c.1) (as_numbers c.0) };
+    ghost fault = { λ c.
+        NonEmptyFault T.enc T.writable (T.allowed c.1) (T.fault c.1) (as_numbers c.0) };
 
-    ghost memory_free = { λ c. IsListMemoryFree (T.fault c.1) (T.memory_free c.1) (as_numbers c.0) };
+    ghost memory_free = { λ c.
+        IsListMemoryFree (T.fault c.1) (T.memory_free c.1) (as_numbers c.0) };
 
-    ghost read_laws = { λ alloc c. non_empty_laws T.enc T.writable T.prefix_free (T.allowed c.1) (T.fault c.1) (as_numbers c.0) (T.read_laws alloc c.1) };
+    ghost read_laws = { λ alloc c. non_empty_laws T.enc T.writable T.prefix_free (T.allowed c.1)
+        (T.fault c.1) (as_numbers c.0) (T.read_laws alloc c.1) };
 
     /// Reads a list, which must have an item.
     fn read_cfg(
@@ -81,9 +84,9 @@ pub fn non_empty_fault_law<T: Read<A>, A: Allocator>(
     range: RangeCfg<NonZeroUsize>,
     item: &T::Cfg,
 )
-    ensures { (s : List ℕ) (f g : Fault)
-        (v : NonEmptyFault T.enc T.writable (T.allowed item.now) (T.fault item.now) (as_numbers range) s f)
-        (w : NonEmptyFault T.enc T.writable (T.allowed item.now) (T.fault item.now) (as_numbers range) s g)
+    ensures { let numbers = as_numbers range in (s : List ℕ) (f g : Fault)
+        (v : NonEmptyFault T.enc T.writable (T.allowed item.now) (T.fault item.now) numbers s f)
+        (w : NonEmptyFault T.enc T.writable (T.allowed item.now) (T.fault item.now) numbers s g)
         → non_empty_cut v ≡ non_empty_cut w }
 {
     // The contract alone speaks of them.

@@ -16,8 +16,10 @@ impl<T: Drop, A: Allocator> NonEmptyVec<T, A> {
     /// Puts the items that an iterator gives last. It is refused for want of memory alone, and then
     /// the list is as it was.
     pub fn extend<I: IntoIterator<Item = T>>(&mut self, iter: I) -> Result<(), Error>
-        requires { IsFiniteIterable I.into_iter_gives I.IntoIter.can_next I.IntoIter.remaining iter }
-        ensures ok { OnOk result (TakesAll I.into_iter_gives I.IntoIter.next_gives iter (λ xs. self.new ≡ self.old ++ xs)) }
+        requires { IsFiniteIterable I.into_iter_gives I.IntoIter.can_next
+            I.IntoIter.remaining iter }
+        ensures ok { OnOk result (TakesAll I.into_iter_gives I.IntoIter.next_gives iter
+            (λ xs. self.new ≡ self.old ++ xs)) }
         ensures err { IfErr result (λ error. (error ≡ Memory) × (self.new ≡ self.old)) }
     {
         let before = self.items.len();
@@ -36,7 +38,8 @@ impl<T: Clone, A: Allocator> NonEmptyVec<T, A> {
     /// or `value` itself. Where it gets no longer, it isn't refused. It is refused for want of
     /// memory alone, and then the list is as it was.
     pub fn resize(&mut self, len: NonZeroUsize, value: T) -> Result<(), Error>
-        ensures items { OnOk result (AppendsClonesOf T.is_clone (take (non_zero_usize_get len) self.old) self.new value) }
+        ensures items { let size = non_zero_usize_get len in OnOk result
+            (AppendsClonesOf T.is_clone (take size self.old) self.new value) }
         ensures len { OnOk result (length self.new ≡ non_zero_usize_get len) }
         ensures shorter { non_zero_usize_get len ≤ length self.old → IsOk result }
         ensures err { IfErr result (λ error. (error ≡ Memory) × (self.new ≡ self.old)) }
