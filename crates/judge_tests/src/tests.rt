@@ -1,6 +1,6 @@
 //! Sessions of the judge over scripted devices.
 
-use committee_core::Watched;
+use process::Watched;
 use judge_core::session;
 use std::alloc::{AllocError, Global};
 use std::io::ErrorKind;

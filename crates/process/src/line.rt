@@ -1,17 +1,19 @@
 //! A line for whoever looks at standard error.
 
-use crate::transfer::write_bytes;
-use committee_core::Watched;
+use crate::output::write_bytes;
+use crate::watched::Watched;
 use std::fmt::Display;
 use std::io::{Cursor, Write};
 
 /// How many bytes of a line are said at most: over twice as many as any line of a session has.
 const LINE: usize = 128;
 
-/// Says a line, in one write where the writer takes it whole.
+/// Says a line, in one write where the writer takes it whole. A line of more than 128 bytes, its
+/// line feed among them, is cut after these.
 ///
-/// It takes no memory. No call is tried again, and a writer that fails is left.
-pub(crate) fn say<E: Write, D: Display>(errors: &mut E, line: &D) {
+/// It takes no memory. No call is tried again, and a writer that fails is left: that is no error,
+/// since nobody could be told.
+pub fn say<E: Write, D: Display>(errors: &mut E, line: &D) {
     let mut text = Cursor::new([0u8; LINE]);
     let _ = writeln!(text, "{line}");
     let len = (text.position() as usize).min(LINE);

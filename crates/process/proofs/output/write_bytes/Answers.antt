@@ -2,7 +2,7 @@ use Rattle.std.proofs.Common.{◌≡◌, ℕ, ◌-◌, arith, List, ◌++◌, le
 use Rattle.std.proofs.lemmas.List.{take_rest}
 use Rattle.std.proofs.lemmas.Bool.Decides.{nat_tests}
 use Rattle.std.proofs.KnownBytes.{Appends-trans}
-use Rattle.committee_core.proofs.transfer.write_bytes.Goals as goal
+use Rattle.process.proofs.output.write_bytes.Goals as goal
 
 -- n bytes more of the rest are gone
 moves_front : (all gone rest : List ℕ) (n : ℕ) → all ≡ gone ++ rest → all ≡ (gone ++ take n rest) ++ take (length rest - n) (drop n rest)

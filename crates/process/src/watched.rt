@@ -2,7 +2,7 @@
 ghost use Rattle.std.specs.Prelude.{◌≡◌, ◌||◌, length, false, is_err};
 ghost use Rattle.std.specs.Io.{ReadsAtMost, WritesAtMost};
 ghost use Rattle.std.specs.Io.KnownBytes.{Keeps, ReadConsumes, WriteAppends};
-ghost use Rattle.committee_core.specs.Watch.{ended_after, is_failed_write};
+ghost use Rattle.process.specs.Watch.{ended_after, is_failed_write};
 
 use std::io;
 use std::io::{Read, Write};
@@ -21,7 +21,7 @@ pub struct Watched<S> {
 }
 
 impl<S> Model for Watched<S> {
-    ghost use Rattle.committee_core.specs.Watch.{Watch};
+    ghost use Rattle.process.specs.Watch.{Watch};
 
     ghost Value = { Watch S };
 

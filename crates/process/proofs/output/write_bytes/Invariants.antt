@@ -1,6 +1,6 @@
 use Rattle.std.proofs.Common.{◌≡◌, ℕ, List, ◌++◌, length}
 use Rattle.std.specs.Io.KnownBytes.{Appends}
-use Rattle.committee_core.proofs.transfer.write_bytes.Given as goal
+use Rattle.process.proofs.output.write_bytes.Given as goal
 
 -- what is gone of the bytes was appended
 abbrev pub invariant-loop-rest : goal.invariant-loop-rest
