@@ -40,6 +40,7 @@ impl From<codec::Error> for RunError {
 
 impl From<WriteFailed> for RunError {
     ghost use Rattle.std.specs.Prelude.{◌≡◌};
+    ghost use Rattle.committee_core.specs.declared.error.RunError.{RunError};
 
     ghost from_gives = { λ _ error. error ≡ RunError.WriteFailed };
 

@@ -30,6 +30,7 @@ impl From<AllocError> for Failure {
 
 impl From<WriteFailed> for Failure {
     ghost use Rattle.std.specs.Prelude.{◌≡◌};
+    ghost use Rattle.judge_core.specs.declared.error.Failure.{Failure};
 
     ghost from_gives = { λ _ failure. failure ≡ Failure.WriteFailed };
 

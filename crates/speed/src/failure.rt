@@ -58,6 +58,7 @@ impl<T: Drop> From<AllocFailed<T>> for Failure {
 
 impl From<WriteFailed> for Failure {
     ghost use Rattle.std.specs.Prelude.{◌≡◌};
+    ghost use Rattle.speed.specs.declared.failure.Failure.{Failure};
 
     ghost from_gives = { λ _ failure. failure ≡ Failure.Write };
 
