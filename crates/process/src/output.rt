@@ -22,7 +22,7 @@ pub fn write_whole<W: Write>(output: &mut Watched<W>, bytes: &[u8]) -> Result<()
     // Where it gives up.
     ensures failed { OnErr result (output.new.failed ≡ true) }
 {
-    write_bytes(output, bytes)?;
+    output.write_bytes(bytes)?;
     match output.flush() {
         Ok(()) => Ok(()),
         Err(_) => Err(WriteFailed),
@@ -33,18 +33,11 @@ pub fn write_whole<W: Write>(output: &mut Watched<W>, bytes: &[u8]) -> Result<()
 ///
 /// It fails at the first write that fails or takes none. What was written is a beginning of the
 /// bytes.
-pub(crate) fn write_bytes<W: Write>(
-    output: &mut Watched<W>,
-    bytes: &[u8],
-) -> Result<(), WriteFailed>
+pub(crate) fn write_bytes<W: Write>(output: &mut W, bytes: &[u8]) -> Result<(), WriteFailed>
     ensures bytes { OnOk result
-        (Appends (W.contents output.old.inner) (W.contents output.new.inner) bytes.now) }
-    ensures sound { OnOk result (output.new.failed ≡ output.old.failed) }
-
-    // Where it gives up.
-    ensures failed { OnErr result (output.new.failed ≡ true) }
+        (Appends (W.contents output.old) (W.contents output.new) bytes.now) }
     ensures beginning { (front back : List ℕ) × (bytes.now ≡ front ++ back)
-        × Appends (W.contents output.old.inner) (W.contents output.new.inner) front }
+        × Appends (W.contents output.old) (W.contents output.new) front }
 {
     let mut rest = bytes;
     while !rest.is_empty() {

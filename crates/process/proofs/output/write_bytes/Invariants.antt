@@ -5,8 +5,7 @@ use Rattle.process.proofs.output.write_bytes.Given as goal
 -- what is gone of the bytes was appended
 abbrev pub invariant-loop-rest : goal.invariant-loop-rest
 invariant-loop-rest g l =
-    (l.output.failed ≡ l.initial.output.failed)
-    × ((gone : List ℕ) × (l.initial.rest ≡ gone ++ l.rest) × Appends (g.W.Write.contents l.initial.output.inner) (g.W.Write.contents l.output.inner) gone)
+    (gone : List ℕ) × (l.initial.rest ≡ gone ++ l.rest) × Appends (g.W.Write.contents l.initial.output) (g.W.Write.contents l.output) gone
 
 -- how many bytes are left to write
 abbrev pub decreases-loop-rest : goal.decreases-loop-rest
