@@ -21,6 +21,8 @@ pub fn write_whole<W: Write>(output: &mut Watched<W>, bytes: &[u8]) -> Result<()
 
     // Where it gives up.
     ensures failed { OnErr result (output.new.failed ≡ true) }
+    ensures beginning { (front back : List ℕ) × (bytes.now ≡ front ++ back)
+        × Appends (W.contents output.old.inner) (W.contents output.new.inner) front }
 {
     output.write_bytes(bytes)?;
     match output.flush() {

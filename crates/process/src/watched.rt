@@ -1,5 +1,5 @@
 //! Readers and writers that remember whether they have failed or ended.
-ghost use Rattle.std.specs.Prelude.{◌≡◌, ◌||◌, length, true, false, is_err, OnErr, OnOk};
+ghost use Rattle.std.specs.Prelude.{◌≡◌, ◌||◌, ◌++◌, ℕ, List, length, true, false, is_err, OnErr, OnOk};
 ghost use Rattle.std.specs.Io.{ReadsAtMost, WritesAtMost};
 ghost use Rattle.std.specs.Io.KnownBytes.{Appends, Keeps, ReadConsumes, WriteAppends};
 ghost use Rattle.process.specs.Watch.{ended_after, is_failed_write};
@@ -137,6 +137,8 @@ impl<S: Write> Watched<S> {
             (Appends (S.contents self.old.inner) (S.contents self.new.inner) bytes.now) }
         ensures sound { OnOk result (self.new.failed ≡ self.old.failed) }
         ensures failed { OnErr result (self.new.failed ≡ true) }
+        ensures beginning { (front back : List ℕ) × (bytes.now ≡ front ++ back)
+            × Appends (S.contents self.old.inner) (S.contents self.new.inner) front }
     {
         let result = write_bytes(&mut self.inner, bytes);
         if result.is_err() {
