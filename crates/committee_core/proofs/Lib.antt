@@ -3,5 +3,4 @@ pub mod CommitteeFronts
 pub mod Counts
 pub mod Ends
 pub mod Refusals
-pub mod Taken
 pub mod Words

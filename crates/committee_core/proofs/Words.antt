@@ -1,16 +1,10 @@
--- Lists of one word and of two, and the commands that they ask for.
-use Rattle.std.proofs.Common.{◌≡◌, ℕ, ◌<◌, ◌≤◌, List, [], ◌∷◌, length, get_or, map, codes, Some, sym, ap, ◌∙◌, arith}
+-- Lists of two words, and the commands that they ask for.
+use Rattle.std.proofs.Common.{◌≡◌, ℕ, ◌<◌, ◌≤◌, List, [], ◌∷◌, length, get_or, map, codes, Some, ap, arith}
 use Rattle.std.specs.declared.num.NonZeroU32.{NonZeroU32}
 use Rattle.committee_core.specs.Command.{IsCount, IsAskedFor}
 use Rattle.committee_core.specs.declared.command.Command.{Command}
 use Rattle.committee_core.specs.declared.command.Command.TheVariants.{Read, Bounds}
 use Rattle.committee_core.proofs.Counts.{one_count}
-
--- the bytes of a list of one item are a list of one word
-pub one_word : {S : Type 0} (bytes : S → List ℕ) (words : List S) (item : S) (word : List ℕ) → 1 ≤ length words → length words < 2 → item ≡ get_or words 0 item → bytes item ≡ word → map bytes words ≡ word ∷ []
-one_word bytes [] item word some few is e = absurd (omega arith)
-one_word bytes (only ∷ []) item word some few is e = ap (λ t. t ∷ []) (ap bytes (sym is) ∙ e)
-one_word bytes (first ∷ second ∷ rest) item word some few is e = absurd (omega arith)
 
 -- the bytes of a list of two items are a list of two words
 pub two_words : {S : Type 0} (bytes : S → List ℕ) (words : List S) (first second : S) (word count : List ℕ) → 2 ≤ length words → length words < 3 → first ≡ get_or words 0 first → second ≡ get_or words 1 second → bytes first ≡ word → bytes second ≡ count → map bytes words ≡ word ∷ count ∷ []

@@ -1,8 +1,9 @@
 -- What a run makes of the bytes that its reader gave, and the exit status where it writes no report.
 use Rattle.std.specs.Prelude.{◌≡◌, ℕ, ◌^◌, ◌<◌, ◌≤◌, List, [], Option, Some, length, ◌⊎◌}
 use Rattle.std.specs.Int.NonZero.{non_zero_u32_get}
-use Rattle.std.specs.Io.KnownBytes.{Consumes, IsAtEnd}
+use Rattle.std.specs.Io.KnownBytes.{Consumes}
 use Rattle.std.specs.declared.ops.Bound.TheVariants.{Included}
+use Rattle.process.specs.Streams.{Gave}
 use Rattle.commonware_base.specs.Fault.{Fault}
 use Rattle.commonware_base.specs.Lists.{list_enc, IsAllowedList, IsListMemoryFree}
 use Rattle.commonware_base.specs.Range.{Bounds}
@@ -21,11 +22,6 @@ use Rattle.committee_core.specs.declared.command.Command.{Command}
 use Rattle.committee_core.specs.declared.command.Command.TheVariants as commands
 use Rattle.committee_core.specs.declared.error.RunError.{RunError}
 use Rattle.committee_core.specs.declared.error.RunError.TheVariants.{Refused, LeftOver, Memory, ReadFailed, WriteFailed}
-
--- a reader that had old left and has new left gave s, and is at its end
-pub record Gave (old new : Option (List ℕ)) (s : List ℕ) : Type 0 where
-  pub bytes : Consumes old new s
-  pub at_end : IsAtEnd new
 
 -- a committee has 1 to 256 members
 abbrev pub members_range : Bounds ℕ

@@ -1,6 +1,7 @@
 //! Why a run has written no report.
 
 use commonware_base::codec;
+use process::WriteFailed;
 
 /// Why a run has written no report. Its text is the line that a session says.
 #[derive(Debug, PartialEq, Eq, Drop, thiserror::Error)]
@@ -34,5 +35,17 @@ impl From<codec::Error> for RunError {
             codec::Error::Memory => RunError::Memory,
             fault => RunError::Refused(fault),
         }
+    }
+}
+
+impl From<WriteFailed> for RunError {
+    ghost use Rattle.std.specs.Prelude.{◌≡◌};
+    ghost use Rattle.committee_core.specs.declared.error.RunError.{RunError};
+
+    ghost from_gives = { λ _ error. error ≡ RunError.WriteFailed };
+
+    /// The writer failed.
+    fn from(_error: WriteFailed) -> RunError {
+        RunError::WriteFailed
     }
 }

@@ -3,7 +3,8 @@ ghost use Rattle.std.specs.Prelude.{◌≡◌, ◌≢◌, ◌↔◌, ◌^◌, �
 ghost use Rattle.std.specs.Prelude.{Err, IfErr, IfOk, OnErr, OnOk, string_bytes};
 ghost use Rattle.std.specs.Io.KnownBytes.{Appends};
 ghost use Rattle.commonware_base.specs.Fronts.{IsFront};
-ghost use Rattle.committee_core.specs.Run.{Gave, IsCommittee, IsCommitteeMemoryFree, IsRefusal, IsReport, WantsMemory};
+ghost use Rattle.process.specs.Streams.{Gave};
+ghost use Rattle.committee_core.specs.Run.{IsCommittee, IsCommitteeMemoryFree, IsRefusal, IsReport, WantsMemory};
 ghost use Rattle.committee_core.specs.Run.{front_size};
 
 use crate::bounds_report::bounds_report;
@@ -11,11 +12,11 @@ use crate::command::Command;
 use crate::error::RunError;
 use crate::member::Member;
 use crate::report::committee_report;
-use crate::transfer::{read_front, write_whole};
-use crate::watched::Watched;
+use crate::transfer::read_front;
 use commonware_base::codec;
 use commonware_base::codec::{MaxEncodeSize, RangeCfg, Source};
 use commonware_ordered::Set;
+use process::{Watched, write_whole};
 use std::alloc::Allocator;
 use std::io::{Read, Write};
 
@@ -77,7 +78,7 @@ pub fn run<A: Allocator + Copy, R: Read, W: Write>(
             Err(_) => return Err(RunError::Memory),
         },
     };
-    write_whole(output, text.as_bytes())
+    Ok(write_whole(output, text.as_bytes())?)
 }
 
 /// The report on the committee that the reader gives, with nothing after it.

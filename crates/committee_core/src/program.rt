@@ -1,14 +1,14 @@
 //! A whole run of the program: what it says, and its exit status.
 ghost use Rattle.std.specs.Prelude.{◌≡◌, ◌≢◌, ◌↔◌, ◌≤◌, map, string_bytes, true, false};
 ghost use Rattle.std.specs.Io.KnownBytes.{Appends};
+ghost use Rattle.process.specs.Streams.{Gave};
 ghost use Rattle.committee_core.specs.Command.{AskForNone, IsAskedFor};
-ghost use Rattle.committee_core.specs.Run.{Gave, IsDone, IsRefused, status_of};
+ghost use Rattle.committee_core.specs.Run.{IsDone, IsRefused, status_of};
 
 use crate::command::{Command, parse_args};
 use crate::error::RunError;
-use crate::line::say;
 use crate::outcome::run;
-use crate::watched::Watched;
+use process::{Watched, say};
 use std::alloc::Allocator;
 use std::io::{Read, Write};
 

@@ -1,16 +1,15 @@
-//! The bytes of a reader up to its end, of which the first are kept, and all the bytes to a
-//! writer.
+//! The bytes of a reader up to its end, of which the first are kept.
 //!
 //! No call that fails is made again: an interrupted one is a failure like every other.
 ghost use Rattle.std.specs.Prelude.{◌≡◌, ◌≢◌, ◌+◌, ◌^◌, ◌<◌, ◌≤◌, ℕ, List, length, take, true};
 ghost use Rattle.std.specs.Prelude.{Err, IfErr, IfOk, OnOk};
-ghost use Rattle.std.specs.Io.KnownBytes.{Appends, Consumes, IsAtEnd};
+ghost use Rattle.std.specs.Io.KnownBytes.{Consumes, IsAtEnd};
 ghost use Rattle.commonware_base.specs.Fronts.{IsFront};
-ghost use Rattle.committee_core.specs.Run.{Gave};
+ghost use Rattle.process.specs.Streams.{Gave};
 
 use crate::error::RunError;
-use crate::watched::Watched;
-use std::io::{Read, Write};
+use process::Watched;
+use std::io::Read;
 
 /// How many bytes are asked for at once, where they are only counted.
 const CHUNK: usize = 4096;
@@ -116,43 +115,4 @@ fn count_rest<R: Read>(input: &mut Watched<R>, before: usize) -> Result<usize, R
             return Ok(total);
         }
     }
-}
-
-/// Writes all the bytes, and flushes.
-///
-/// The error is `WriteFailed`, at the first write that fails or takes none, or at the flush.
-pub(crate) fn write_whole<W: Write>(output: &mut Watched<W>, bytes: &[u8]) -> Result<(), RunError>
-    ensures bytes { OnOk result
-        (Appends (W.contents output.old.inner) (W.contents output.new.inner) bytes.now) }
-    ensures sound { OnOk result (output.new.failed ≡ output.old.failed) }
-
-    // Where it gives up.
-    ensures failed { IfErr result (λ e. (e ≡ RunError.WriteFailed) × (output.new.failed ≡ true)) }
-{
-    write_bytes(output, bytes)?;
-    match output.flush() {
-        Ok(()) => Ok(()),
-        Err(_) => Err(RunError::WriteFailed),
-    }
-}
-
-/// Writes all the bytes.
-///
-/// The error is `WriteFailed`, at the first write that fails or takes none.
-pub(crate) fn write_bytes<W: Write>(output: &mut Watched<W>, bytes: &[u8]) -> Result<(), RunError>
-    ensures bytes { OnOk result
-        (Appends (W.contents output.old.inner) (W.contents output.new.inner) bytes.now) }
-    ensures sound { OnOk result (output.new.failed ≡ output.old.failed) }
-
-    // Where it gives up.
-    ensures failed { IfErr result (λ e. (e ≡ RunError.WriteFailed) × (output.new.failed ≡ true)) }
-{
-    let mut rest = bytes;
-    while !rest.is_empty() {
-        match output.write(rest) {
-            Ok(n) if n > 0 => rest = &rest[n..],
-            _ => return Err(RunError::WriteFailed),
-        }
-    }
-    Ok(())
 }

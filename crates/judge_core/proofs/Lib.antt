@@ -8,4 +8,3 @@ pub mod RangesRead
 pub mod Seen
 pub mod Splits
 pub mod Stopping
-pub mod Taken

@@ -8,11 +8,6 @@ use Rattle.judge_core.specs.Session.{IsBeginningAnswered}
 use Rattle.judge_core.specs.declared.error.Failure.{Failure}
 use Rattle.judge_core.specs.declared.error.Failure.TheVariants.{Memory, ReadFailed, WriteFailed}
 
--- what holds of an error holds of the error of a result that has that one
-pub err_along : {T E : Type 0} (r : Result T E) (e : E) (P : E → Type 0) → IsErrAnd r (λ x. x ≡ e) → P e → IfErr r P
-err_along (Ok v) e P h p = absurd h
-err_along (Err x) e P h p = subst P (sym h) p
-
 -- a step that fails for memory or as the writer does, and not as the writer does
 pub for_memory : (e : Failure) (B : Type 0) → (e ≢ Memory → e ≡ WriteFailed) → (e ≡ Memory → B) → e ≢ WriteFailed → B
 for_memory Memory B fails memory other = memory refl

@@ -1,10 +1,8 @@
 //! The program from its arguments to its exit status.
-ghost use Rattle.std.specs.Prelude.{◌≡◌, ◌≢◌, ◌==◌, ◌≤◌, true, false, drop, IfErr, IfSome, IsOkAnd};
+ghost use Rattle.std.specs.Prelude.{◌≡◌, ◌≢◌, ◌==◌, ◌≤◌, true, false, IfErr};
 ghost use Rattle.std.specs.Io.KnownBytes.{Appends};
-ghost use Rattle.std.specs.Iterator.{Drains};
-ghost use Rattle.std.specs.Vec.Iter.{into_iter_steps};
-ghost use Rattle.committee_core.specs.Arguments.{HasWords};
-ghost use Rattle.committee_core.specs.Run.{Gave};
+ghost use Rattle.process.specs.Arguments.{HasWords};
+ghost use Rattle.process.specs.Streams.{Gave};
 ghost use Rattle.judge_core.specs.Command.{AskForNone, IsAskedFor};
 ghost use Rattle.judge_core.specs.Session.{IsDone};
 ghost use Rattle.judge_core.specs.declared.command.Command.{Command};
@@ -12,7 +10,7 @@ ghost use Rattle.judge_core.specs.declared.command.Command.{Command};
 use crate::command::Command;
 use crate::error::Failure;
 use crate::program::{fail, session};
-use committee_core::Watched;
+use process::{Watched, after_first, take_arguments};
 use std::alloc::Allocator;
 use std::env::Args;
 use std::io::{Read, Write};
@@ -47,33 +45,9 @@ pub fn start<A: Allocator + Copy, R: Read, W: Write, E: Write>(
     ensures read_failed { input.old.failed ≡ false → input.new.failed ≡ true → result ≡ 3 }
     ensures write_failed { output.old.failed ≡ false → output.new.failed ≡ true → result ≡ 3 }
 {
-    match taken(alloc, arguments) {
+    match take_arguments(alloc, arguments) {
         Some(texts) => session(alloc, after_first(&texts), input, output, errors),
         None => fail(errors, Failure::Memory),
-    }
-}
-
-/// The arguments, or `None` where they can't be taken.
-fn taken<A: Allocator + Copy>(alloc: A, arguments: io::Result<Args<A>>) -> Option<Vec<String<A>, A>>
-    ensures { IfSome result (λ texts.
-        IsOkAnd arguments (λ args. Drains into_iter_steps args texts.items)) }
-{
-    let Ok(arguments) = arguments else {
-        return None;
-    };
-    match arguments.collect(alloc) {
-        Ok(texts) => Some(texts),
-        Err(_) => None,
-    }
-}
-
-/// What follows the first text, if there is one.
-fn after_first<A: Allocator>(texts: &[String<A>]) -> &[String<A>]
-    ensures { result.now ≡ drop 1 texts.now }
-{
-    match texts {
-        [_, words @ ..] => words,
-        [] => texts,
     }
 }
 

@@ -1,5 +1,6 @@
 //! Why a run has not answered all lines.
 
+use process::WriteFailed;
 use std::alloc::AllocError;
 
 /// Why a run has not answered all lines. Its text is the line that a session says.
@@ -24,5 +25,16 @@ impl From<AllocError> for Failure {
 
     fn from(_error: AllocError) -> Failure {
         Failure::Memory
+    }
+}
+
+impl From<WriteFailed> for Failure {
+    ghost use Rattle.std.specs.Prelude.{◌≡◌};
+    ghost use Rattle.judge_core.specs.declared.error.Failure.{Failure};
+
+    ghost from_gives = { λ _ failure. failure ≡ Failure.WriteFailed };
+
+    fn from(_error: WriteFailed) -> Failure {
+        Failure::WriteFailed
     }
 }

@@ -15,7 +15,6 @@ mod form;
 mod hex;
 mod judgement;
 mod limits;
-mod line;
 mod lines;
 mod program;
 mod question;

@@ -1,16 +1,15 @@
 //! A whole run of the program: what it says, and its exit status.
 ghost use Rattle.std.specs.Prelude.{◌≡◌, ◌==◌, ◌↔◌, ◌≤◌, map, string_bytes, true, false, Err, IfOk, IfErr, OnOk, ◌≢◌};
 ghost use Rattle.std.specs.Io.KnownBytes.{Appends};
-ghost use Rattle.committee_core.specs.Run.{Gave};
+ghost use Rattle.process.specs.Streams.{Gave};
 ghost use Rattle.judge_core.specs.Command.{AskForNone, IsAskedFor};
 ghost use Rattle.judge_core.specs.Session.{IsDone, IsStopped};
 ghost use Rattle.judge_core.specs.declared.command.Command.{Command};
 
 use crate::command::{Command, parse_args};
 use crate::error::Failure;
-use crate::line::say;
 use crate::stream::{answer_all, say_types};
-use committee_core::Watched;
+use process::{Watched, say};
 use std::alloc::Allocator;
 use std::io::{Read, Write};
 

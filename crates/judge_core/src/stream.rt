@@ -1,7 +1,7 @@
 //! All lines of a reader, and their answers to a writer.
 ghost use Rattle.std.specs.Prelude.{◌≡◌, ◌≢◌, ◌↔◌, [], ◌∷◌, ℕ, List, string_bytes, Err, IfErr, IfOk, OnOk, true, false};
 ghost use Rattle.std.specs.Io.KnownBytes.{Appends};
-ghost use Rattle.committee_core.specs.Run.{Gave};
+ghost use Rattle.process.specs.Streams.{Gave};
 ghost use Rattle.judge_core.specs.Answered.{AreAnswered, Continues, HasNoFeed};
 ghost use Rattle.judge_core.specs.Forms.{types_text};
 ghost use Rattle.judge_core.specs.Session.{IsAllAnswered, IsBeginningAnswered};
@@ -9,8 +9,8 @@ ghost use Rattle.judge_core.specs.Session.{IsAllAnswered, IsBeginningAnswered};
 use crate::error::Failure;
 use crate::form::FORMS;
 use crate::lines::{answer_line, answer_piece, both};
-use crate::transfer::{read_piece, write_whole};
-use committee_core::Watched;
+use crate::transfer::read_piece;
+use process::{Watched, write_whole};
 use std::alloc::{AllocError, Allocator};
 use std::io::{Read, Write};
 
@@ -116,7 +116,7 @@ pub fn say_types<A: Allocator, W: Write>(alloc: A, output: &mut Watched<W>) -> R
         → ((result ≡ Err Failure.WriteFailed) ↔ (output.new.failed ≡ true)) }
 {
     let text = names(alloc)?;
-    write_whole(output, text.as_bytes())
+    Ok(write_whole(output, text.as_bytes())?)
 }
 
 /// The names of the types, each on a line.

@@ -1,12 +1,12 @@
-//! A piece of a reader's bytes, and all bytes to a writer.
+//! A piece of a reader's bytes.
 //!
 //! No call that fails is made again: an interrupted one is a failure like every other.
 ghost use Rattle.std.specs.Prelude.{◌≡◌, ◌<◌, ◌≤◌, length, take, true, IfErr, IfOk, OnOk};
-ghost use Rattle.std.specs.Io.KnownBytes.{Appends, Consumes, IsAtEnd, Keeps};
+ghost use Rattle.std.specs.Io.KnownBytes.{Consumes, IsAtEnd, Keeps};
 
 use crate::error::Failure;
-use committee_core::Watched;
-use std::io::{Read, Write};
+use process::Watched;
+use std::io::Read;
 
 /// Reads into the room, once, and answers how many bytes there were: none only at the end.
 ///
@@ -29,43 +29,4 @@ pub(crate) fn read_piece<R: Read>(input: &mut Watched<R>, room: &mut [u8]) -> Re
         Ok(n) => Ok(n),
         Err(_) => Err(Failure::ReadFailed),
     }
-}
-
-/// Writes all the bytes, and flushes.
-///
-/// The error is `WriteFailed`, at the first write that fails or takes none, or at the flush.
-pub(crate) fn write_whole<W: Write>(output: &mut Watched<W>, bytes: &[u8]) -> Result<(), Failure>
-    ensures bytes { OnOk result
-        (Appends (W.contents output.old.inner) (W.contents output.new.inner) bytes.now) }
-    ensures sound { OnOk result (output.new.failed ≡ output.old.failed) }
-
-    // Where it gives up.
-    ensures failed { IfErr result (λ e. (e ≡ Failure.WriteFailed) × (output.new.failed ≡ true)) }
-{
-    write_bytes(output, bytes)?;
-    match output.flush() {
-        Ok(()) => Ok(()),
-        Err(_) => Err(Failure::WriteFailed),
-    }
-}
-
-/// Writes all the bytes.
-///
-/// The error is `WriteFailed`, at the first write that fails or takes none.
-pub(crate) fn write_bytes<W: Write>(output: &mut Watched<W>, bytes: &[u8]) -> Result<(), Failure>
-    ensures bytes { OnOk result
-        (Appends (W.contents output.old.inner) (W.contents output.new.inner) bytes.now) }
-    ensures sound { OnOk result (output.new.failed ≡ output.old.failed) }
-
-    // Where it gives up.
-    ensures failed { IfErr result (λ e. (e ≡ Failure.WriteFailed) × (output.new.failed ≡ true)) }
-{
-    let mut rest = bytes;
-    while !rest.is_empty() {
-        match output.write(rest) {
-            Ok(n) if n > 0 => rest = &rest[n..],
-            _ => return Err(Failure::WriteFailed),
-        }
-    }
-    Ok(())
 }

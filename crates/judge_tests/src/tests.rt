@@ -1,7 +1,7 @@
 //! Sessions of the judge over scripted devices.
 
-use committee_core::Watched;
 use judge_core::session;
+use process::Watched;
 use std::alloc::{AllocError, Global};
 use std::io::ErrorKind;
 use std::test::Fail;

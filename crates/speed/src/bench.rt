@@ -3,7 +3,7 @@ ghost use Rattle.std.specs.Prelude.{◌≡◌, ◌*◌, ◌/◌, ◌≤◌};
 ghost use Rattle.std.specs.Duration.{as_nanos};
 
 use crate::failure::Failure;
-use crate::output::write_text;
+use process::{Watched, write_whole};
 use std::alloc::Global;
 use std::io::Write;
 use std::time::{Clock, Duration, Instant};
@@ -13,7 +13,7 @@ use std::time::{Clock, Duration, Instant};
 pub struct Bench<C: Clock, W: Write> {
     alloc: Global,
     clock: C,
-    output: W,
+    output: Watched<W>,
 }
 
 /// What a line is about.
@@ -33,18 +33,18 @@ impl<C: Clock, W: Write> Bench<C, W> {
         Bench {
             alloc,
             clock,
-            output,
+            output: Watched::new(output),
         }
     }
 
     /// The heap.
-    pub fn alloc(&self) -> Global {
+    pub(crate) fn alloc(&self) -> Global {
         self.alloc
     }
 
     /// Makes the call once a round and writes the line. The answer is the check sum, which goes
     /// on from `sum` with what each call answers, modulo 2^64.
-    pub fn line<F: FnMut() -> Result<u64, Failure>>(
+    pub(crate) fn line<F: FnMut() -> Result<u64, Failure>>(
         &mut self,
         work: Work<'_>,
         sum: u64,
@@ -61,13 +61,13 @@ impl<C: Clock, W: Write> Bench<C, W> {
         let cost = hundredths(elapsed, (work.entries as u128 * work.rounds as u128).max(1));
         let (name, entries) = (work.name, work.entries);
         let line = format!(in self.alloc; "{name} {entries} {sum} {cost}\n")?;
-        write_text(&mut self.output, line.as_str())?;
+        write_whole(&mut self.output, line.as_bytes())?;
         Ok(sum)
     }
 }
 
 /// The hundredths of a nanosecond that each of the entries took, rounded down.
-pub fn hundredths(elapsed: Duration, entries: u128) -> u128
+pub(crate) fn hundredths(elapsed: Duration, entries: u128) -> u128
     requires { 1 ≤ entries }
     ensures { result ≡ as_nanos elapsed * 100 / entries }
 {

@@ -9,7 +9,7 @@ use std::io::Write;
 use std::time::Clock;
 
 /// The lines of a list of so many bytes written and read.
-pub fn time_bytes<C: Clock, W: Write>(
+pub(crate) fn time_bytes<C: Clock, W: Write>(
     bench: &mut Bench<C, W>,
     entries: u32,
     rounds: u64,

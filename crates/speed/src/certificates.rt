@@ -11,7 +11,7 @@ use std::io::Write;
 use std::time::Clock;
 
 /// The lines of the committee of the numbers: each member, each index, and two certificates.
-pub fn time_committees<C: Clock, W: Write>(
+pub(crate) fn time_committees<C: Clock, W: Write>(
     bench: &mut Bench<C, W>,
     numbers: &[u32],
     rounds: u64,

@@ -6,7 +6,7 @@ use commonware_utils::codec::{Error, Read, Source, Write};
 use std::alloc::{AllocError, Global};
 
 /// The bytes of a value, or no bytes where it can't be written.
-pub fn written<T: Write<Global>>(alloc: Global, value: &T) -> Result<Vec<u8>, AllocError>
+pub(crate) fn written<T: Write<Global>>(alloc: Global, value: &T) -> Result<Vec<u8>, AllocError>
     ensures { T.writable value.now → IfOk result (λ bytes. bytes.items ≡ T.enc value.now) }
 {
     let mut bytes = Vec::new(alloc);
@@ -17,7 +17,7 @@ pub fn written<T: Write<Global>>(alloc: Global, value: &T) -> Result<Vec<u8>, Al
 }
 
 /// The value at the front of the bytes, or `None` where they are refused.
-pub fn read<T: Read<Global>>(
+pub(crate) fn read<T: Read<Global>>(
     alloc: Global,
     bytes: &[u8],
     limits: &T::Cfg,

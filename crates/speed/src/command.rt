@@ -15,7 +15,7 @@ pub enum Command {
 
 /// The command that the words ask for: `plot` alone is `Command::Plot`, and a decimal number alone
 /// is `Command::Time`. The answer is `None` exactly where the words ask for no command.
-pub fn parse_args<A: Allocator>(words: &[String<A>]) -> Option<Command>
+pub(crate) fn parse_args<A: Allocator>(words: &[String<A>]) -> Option<Command>
     ensures asked { IfSome result (IsAskedFor (map string_bytes words.now)) }
     ensures other { IfNone result (AskForNone (map string_bytes words.now)) }
 {

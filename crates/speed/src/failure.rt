@@ -3,6 +3,7 @@ ghost use Rattle.std.specs.Prelude.{◌≡◌};
 ghost use Rattle.speed.specs.Status.{status_of};
 
 use commonware_utils::ordered;
+use process::WriteFailed;
 use std::alloc::{AllocError, AllocFailed};
 use std::fmt;
 
@@ -55,10 +56,21 @@ impl<T: Drop> From<AllocFailed<T>> for Failure {
     }
 }
 
+impl From<WriteFailed> for Failure {
+    ghost use Rattle.std.specs.Prelude.{◌≡◌};
+    ghost use Rattle.speed.specs.declared.failure.Failure.{Failure};
+
+    ghost from_gives = { λ _ failure. failure ≡ Failure.Write };
+
+    fn from(_error: WriteFailed) -> Failure {
+        Failure::Write
+    }
+}
+
 impl Failure {
     /// The exit status of a run that has stopped for it: 1 for a line that can't be read, and
     /// else 3.
-    pub fn status(self) -> u8
+    pub(crate) fn status(self) -> u8
         ensures { result ≡ status_of self }
     {
         match self {
@@ -70,7 +82,7 @@ impl Failure {
 
 /// What a collection that was built counts as: its length, or 1 where it was refused for the
 /// entries that it was to have.
-pub fn count_built(length: Result<usize, ordered::Error>) -> Result<u64, Failure> {
+pub(crate) fn count_built(length: Result<usize, ordered::Error>) -> Result<u64, Failure> {
     match length {
         Ok(length) => Ok(length as u64),
         Err(ordered::Error::Memory) => Err(Failure::Memory),

@@ -18,7 +18,10 @@ pub struct Label<'a> {
 
 /// The labels from the lowest to the highest, moved up where they stand too near to the one
 /// below.
-pub fn spread<'a>(alloc: Global, labels: &[Label<'a>]) -> Result<Vec<Label<'a>>, AllocError> {
+pub(crate) fn spread<'a>(
+    alloc: Global,
+    labels: &[Label<'a>],
+) -> Result<Vec<Label<'a>>, AllocError> {
     let mut spread = Vec::from_slice(alloc, labels)?;
     spread.sort_by(|label, other| other.top.cmp(&label.top))?;
     let mut lowest = u32::MAX;

@@ -10,7 +10,7 @@ use std::io::Write;
 use std::time::Clock;
 
 /// The lines of the list of the numbers, of which there is one at least, read and mapped.
-pub fn time_lists<C: Clock, W: Write>(
+pub(crate) fn time_lists<C: Clock, W: Write>(
     bench: &mut Bench<C, W>,
     numbers: &[u32],
     rounds: u64,

@@ -14,7 +14,6 @@ mod lists;
 mod logarithm;
 mod maps;
 mod numbers;
-mod output;
 mod plot;
 mod program;
 mod sample;

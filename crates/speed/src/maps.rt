@@ -10,7 +10,7 @@ use std::io::Write;
 use std::time::Clock;
 
 /// The lines of maps in which each number of a list has itself as its value.
-pub fn time_maps<C: Clock, W: Write>(
+pub(crate) fn time_maps<C: Clock, W: Write>(
     bench: &mut Bench<C, W>,
     numbers: &[u32],
     rounds: u64,

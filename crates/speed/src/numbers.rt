@@ -8,7 +8,7 @@ const SEED: u64 = 88172645463325252;
 
 /// The state after this one: three shifts, to the left, the right and the left, each of which is
 /// mixed into what it is a shift of.
-pub fn next_state(state: u64) -> u64
+pub(crate) fn next_state(state: u64) -> u64
     ensures { let left = bit_xor state (state * 8192 % 2 ^ 64) in
         let right = bit_xor left (left / 128) in
         result ≡ bit_xor right (right * 131072 % 2 ^ 64) }
@@ -32,7 +32,7 @@ pub fn random(alloc: Global, count: u32) -> Result<Vec<u32>, AllocError>
 }
 
 /// The first so many multiples of 7, modulo 2^32.
-pub fn rising(alloc: Global, count: u32) -> Result<Vec<u32>, AllocError>
+pub(crate) fn rising(alloc: Global, count: u32) -> Result<Vec<u32>, AllocError>
     ensures { IfOk result (λ numbers. length numbers.items ≡ count) }
 {
     (0..count)

@@ -36,7 +36,7 @@ struct Frame {
 }
 
 /// The drawing of the lines of a text, or the number of the first line that can't be read.
-pub fn draw(alloc: Global, text: &str) -> Result<String, Failure> {
+pub(crate) fn draw(alloc: Global, text: &str) -> Result<String, Failure> {
     let mut samples = Vec::new(alloc);
     let mut number = 0u64;
     for line in text.lines() {

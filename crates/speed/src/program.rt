@@ -1,5 +1,5 @@
 //! The program from its arguments to its exit status.
-ghost use Rattle.std.specs.Prelude.{◌≡◌, ◌≢◌, ◌≤◌, ◌↔◌, drop, map, string_bytes};
+ghost use Rattle.std.specs.Prelude.{◌≡◌, ◌≢◌, ◌≤◌, ◌↔◌, map, string_bytes};
 ghost use Rattle.std.specs.IoError.{error_kind};
 ghost use Rattle.std.specs.declared.io.ErrorKind.TheVariants.{OutOfMemory};
 ghost use Rattle.speed.specs.Command.{AskForNone};
@@ -7,9 +7,9 @@ ghost use Rattle.speed.specs.Command.{AskForNone};
 use crate::bench::Bench;
 use crate::command::{Command, parse_args};
 use crate::failure::Failure;
-use crate::output::write_text;
 use crate::plot::draw;
 use crate::sizes::time_sizes;
+use process::{Watched, after_first, say, take_arguments, write_whole};
 use std::alloc::Global;
 use std::io::{ErrorKind, Read, Write};
 use std::process::ExitCode;
@@ -33,13 +33,13 @@ pub fn session<C: Clock + Drop, R: Read + Drop, W: Write + Drop, E: Write>(
     ensures statuses { result ≤ 3 }
 {
     let Some(command) = parse_args(words) else {
-        let _ = writeln!(errors, "usage: speed <greatest n>, or speed plot");
+        say(errors, &"usage: speed <greatest n>, or speed plot");
         return 2;
     };
     match run(alloc, command, clock, input, output) {
         Ok(()) => 0,
         Err(failure) => {
-            let _ = writeln!(errors, "{failure}");
+            say(errors, &failure);
             failure.status()
         }
     }
@@ -63,14 +63,14 @@ fn run<C: Clock + Drop, R: Read + Drop, W: Write + Drop>(
 fn plot<R: Read + Drop, W: Write + Drop>(
     alloc: Global,
     input: R,
-    mut output: W,
+    output: W,
 ) -> Result<(), Failure> {
     let text = match io::read_to_string(alloc, input) {
         Ok(text) => text,
         Err(error) => return Err(failed_read(&error)),
     };
     let drawing = draw(alloc, text.as_str())?;
-    write_text(&mut output, drawing.as_str())
+    Ok(write_whole(&mut Watched::new(output), drawing.as_bytes())?)
 }
 
 /// Why a run has stopped that couldn't read its input: for want of memory, or as the input failed.
@@ -84,30 +84,12 @@ pub fn failed_read(error: &io::Error) -> Failure
     }
 }
 
-/// What follows the first text, if there is one.
-fn after_first(texts: &[String]) -> &[String]
-    ensures { result.now ≡ drop 1 texts.now }
-{
-    match texts {
-        [_, words @ ..] => words,
-        [] => texts,
-    }
-}
-
-/// The arguments, or `None` where they can't be taken.
-fn taken(rt: &HostRuntime) -> Option<Vec<String>> {
-    let Ok(arguments) = env::args(rt) else {
-        return None;
-    };
-    arguments.collect(rt.alloc()).ok()
-}
-
 /// The program on its host, with its arguments and its three standard streams. Arguments that
 /// can't be taken count as want of memory.
 pub fn on_host(rt: &HostRuntime) -> ExitCode {
     let mut errors = rt.stderr();
-    let Some(arguments) = taken(rt) else {
-        let _ = writeln!(errors, "{}", Failure::Memory);
+    let Some(arguments) = take_arguments(rt.alloc(), env::args(rt)) else {
+        say(&mut errors, &Failure::Memory);
         return ExitCode::from(Failure::Memory.status());
     };
     let words = after_first(&arguments);

@@ -13,7 +13,7 @@ use std::time::Clock;
 
 /// The lines of sets that are built of random numbers, of rising ones and of equal ones, and those
 /// of the set of the random ones.
-pub fn time_sets<C: Clock, W: Write>(
+pub(crate) fn time_sets<C: Clock, W: Write>(
     bench: &mut Bench<C, W>,
     random: &[u32],
     rounds: u64,
@@ -27,7 +27,7 @@ pub fn time_sets<C: Clock, W: Write>(
 }
 
 /// The set of the numbers.
-pub fn set_of(alloc: Global, numbers: &[u32]) -> Result<Set<u32, Global>, AllocError> {
+pub(crate) fn set_of(alloc: Global, numbers: &[u32]) -> Result<Set<u32, Global>, AllocError> {
     Set::from_iter_dedup(alloc, numbers.iter().copied())
 }
 

@@ -20,7 +20,7 @@ const SIZES: [(u32, u64); 4] = [(10, 100_000), (1_000, 1_000), (100_000, 10), (1
 const BIMAPS: [(u32, u64); 3] = [(100, 1_000), (1_000, 30), (10_000, 1)];
 
 /// The lines of every size that is at most the greatest.
-pub fn time_sizes<C: Clock, W: Write>(
+pub(crate) fn time_sizes<C: Clock, W: Write>(
     bench: &mut Bench<C, W>,
     greatest: u32,
 ) -> Result<(), Failure> {

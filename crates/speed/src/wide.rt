@@ -13,7 +13,7 @@ use std::io::Write;
 use std::time::Clock;
 
 /// The lines of sets of items that begin with the numbers: built, read, and looked up.
-pub fn time_wide<C: Clock, W: Write>(
+pub(crate) fn time_wide<C: Clock, W: Write>(
     bench: &mut Bench<C, W>,
     numbers: &[u32],
     rounds: u64,

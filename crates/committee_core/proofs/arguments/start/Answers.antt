@@ -1,6 +1,6 @@
 -- Each clause on the words is that of the session of what follows the first argument.
 use Rattle.std.proofs.Common.{ap, arith, drop, ◌∙◌, ◌≡◌}
-use Rattle.committee_core.proofs.Taken.{has_words}
+use Rattle.process.proofs.ArgumentLemmas.{has_words}
 use Rattle.committee_core.proofs.arguments.start.Goals as goal
 
 pub returns-in-Some-clause-done : goal.returns-in-Some-clause-done

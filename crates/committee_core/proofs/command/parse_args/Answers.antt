@@ -1,6 +1,7 @@
 use Rattle.std.proofs.Common.{◌≡◌, rules, codes, refl, sym}
 use Rattle.std.specs.String.{string_bytes}
-use Rattle.committee_core.proofs.Words.{one_word, two_words, no_command, one_command}
+use Rattle.process.proofs.OneWord.{one_word}
+use Rattle.committee_core.proofs.Words.{two_words, no_command, one_command}
 use Rattle.committee_core.proofs.command.parse_args.Goals as goal
 
 pub returns-in-len1-clause-asked : goal.returns-in-len1-clause-asked

@@ -1,5 +1,6 @@
 use Rattle.std.proofs.Common.{◌≡◌, sym, ◌∙◌}
-use Rattle.committee_core.specs.Run.{Gave, status_of}
+use Rattle.process.specs.Streams.{Gave}
+use Rattle.committee_core.specs.Run.{status_of}
 use Rattle.committee_core.specs.declared.error.RunError.TheVariants.{WriteFailed}
 use Rattle.committee_core.proofs.Refusals.{not_written_at_one, refused_at_one}
 use Rattle.committee_core.proofs.program.session.Goals as goal

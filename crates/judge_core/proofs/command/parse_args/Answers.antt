@@ -1,6 +1,6 @@
 use Rattle.std.proofs.Common.{◌≡◌, rules, codes}
 use Rattle.std.specs.String.{string_bytes}
-use Rattle.judge_core.proofs.Taken.{one_word}
+use Rattle.process.proofs.OneWord.{one_word}
 use Rattle.judge_core.proofs.command.parse_args.Goals as goal
 
 pub returns-in-len1-clause-asked : goal.returns-in-len1-clause-asked

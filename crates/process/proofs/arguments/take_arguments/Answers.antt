@@ -1,6 +1,6 @@
 use Rattle.std.specs.Vec.Iter.{into_iter_steps}
-use Rattle.judge_core.proofs.Taken.{collected, ok_along}
-use Rattle.judge_core.proofs.arguments.taken.Goals as goal
+use Rattle.process.proofs.ArgumentLemmas.{collected, ok_along}
+use Rattle.process.proofs.arguments.take_arguments.Goals as goal
 
 pub returns-in-Ok-collect : goal.returns-in-Ok-collect
 returns-in-Ok-collect g c =

@@ -3,7 +3,7 @@ use Rattle.std.proofs.Common.{◌≡◌, List, String, Result, Ok, Err, ℕ, IsO
 use Rattle.std.specs.Iterator.{Drains, DrainsIf}
 use Rattle.std.specs.Vec.Iter.{into_iter_steps}
 use Rattle.std.specs.declared.vec.IntoIter.{IntoIter}
-use Rattle.committee_core.specs.Arguments.{HasWords}
+use Rattle.process.specs.Arguments.{HasWords}
 
 -- what was collected are the items up to the end
 pub collected : {S X : Type 0} (steps : _) (s : S) (xs items : List X) → DrainsIf steps (Unit {0}) s xs → items ≡ xs → Drains steps s items

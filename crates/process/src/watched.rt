@@ -1,9 +1,10 @@
 //! Readers and writers that remember whether they have failed or ended.
-ghost use Rattle.std.specs.Prelude.{◌≡◌, ◌||◌, length, false, is_err};
+ghost use Rattle.std.specs.Prelude.{◌≡◌, ◌||◌, ◌++◌, ℕ, List, length, true, false, is_err, OnErr, OnOk};
 ghost use Rattle.std.specs.Io.{ReadsAtMost, WritesAtMost};
-ghost use Rattle.std.specs.Io.KnownBytes.{Keeps, ReadConsumes, WriteAppends};
-ghost use Rattle.committee_core.specs.Watch.{ended_after, is_failed_write};
+ghost use Rattle.std.specs.Io.KnownBytes.{Appends, Keeps, ReadConsumes, WriteAppends};
+ghost use Rattle.process.specs.Watch.{ended_after, is_failed_write};
 
+use crate::output::{WriteFailed, write_bytes};
 use std::io;
 use std::io::{Read, Write};
 use std::marker::Model;
@@ -21,7 +22,7 @@ pub struct Watched<S> {
 }
 
 impl<S> Model for Watched<S> {
-    ghost use Rattle.committee_core.specs.Watch.{Watch};
+    ghost use Rattle.process.specs.Watch.{Watch};
 
     ghost Value = { Watch S };
 
@@ -122,6 +123,24 @@ impl<S: Write> Write for Watched<S> {
         ensures ended { self.new.ended ≡ self.old.ended }
     {
         let result = self.inner.flush();
+        if result.is_err() {
+            self.failed = true;
+        }
+        result
+    }
+}
+
+impl<S: Write> Watched<S> {
+    /// Writes all the bytes to the inner writer, and remembers where that fails.
+    pub(crate) fn write_bytes(&mut self, bytes: &[u8]) -> Result<(), WriteFailed>
+        ensures bytes { OnOk result
+            (Appends (S.contents self.old.inner) (S.contents self.new.inner) bytes.now) }
+        ensures sound { OnOk result (self.new.failed ≡ self.old.failed) }
+        ensures failed { OnErr result (self.new.failed ≡ true) }
+        ensures beginning { (front back : List ℕ) × (bytes.now ≡ front ++ back)
+            × Appends (S.contents self.old.inner) (S.contents self.new.inner) front }
+    {
+        let result = write_bytes(&mut self.inner, bytes);
         if result.is_err() {
             self.failed = true;
         }
