@@ -1,11 +1,12 @@
 -- The byte form of a map: the list of its keys, and then the list of its values, each with its count.
-use Rattle.std.specs.Prelude.{ℕ, List, length}
+use Rattle.std.specs.Prelude.{ℕ, ◌+◌, ◌*◌, List, length}
 use Rattle.std.specs.Map.{keys_of, values_of}
 use Rattle.std.specs.declared.cmp.Ordering.{Ordering}
 use Rattle.commonware_base.specs.Range.{Bounds, exactly}
 use Rattle.commonware_base.specs.Fault.{Fault}
 use Rattle.commonware_base.specs.Lists.{list_enc, IsWritableList, IsAllowedList, ListFault}
 use Rattle.commonware_base.specs.Sequence.{sequence_enc, IsWritableSequence, IsAllowedSequence, SequenceFault}
+use Rattle.commonware_base.specs.Varint.{varint_size}
 use Rattle.commonware_ordered.specs.Sets.{IsWritableSet, SetFault}
 
 -- the keys, and the values
@@ -15,6 +16,10 @@ columns m = (keys_of m, values_of m)
 -- the bytes of the list of keys, and then those of the list of values
 abbrev pub map_enc : {K V : Type 0} → (K → List ℕ) → (V → List ℕ) → List (K × V) → List ℕ
 map_enc key_enc value_enc m = sequence_enc (list_enc key_enc) (list_enc value_enc) (columns m)
+
+-- the most bytes of len pairs, where a key takes at most `key` bytes, and a value at most `value`
+abbrev pub map_size_bound : ℕ → ℕ → ℕ → ℕ
+map_size_bound len key value = varint_size len + len * key + (varint_size len + len * value)
 
 -- The keys can be written as a set, and the values as a list.
 abbrev pub IsWritableMap : {K V : Type 0} → (K → Type 0) → (K → K → Ordering) → (V → Type 0) → List (K × V) → Type 0

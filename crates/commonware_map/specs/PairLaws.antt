@@ -37,5 +37,6 @@ module _ {K V : Type 0} (key_eq : K → K → Bool) (value_eq : V → V → Bool
 
   -- pairs of clones are equal
   pub both_equal : (C : K → K → Type 0) (D : V → V → Type 0) → ((x y : K) → C x y → key_eq x y ≡ true)
-      → ((x y : V) → D x y → value_eq x y ≡ true) → (p q : K × V) → C p.0 q.0 × D p.1 q.1 → is_equal_pair p q ≡ true
+      → ((x y : V) → D x y → value_eq x y ≡ true) → (p q : K × V) → C p.0 q.0 × D p.1 q.1
+      → is_equal_pair key_eq value_eq p q ≡ true
   both_equal C D each_key each_value p q h = λ i. each_key p.0 q.0 h.0 i && each_value p.1 q.1 h.1 i

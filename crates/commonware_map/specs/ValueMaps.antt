@@ -32,6 +32,10 @@ TakesRefs {F} {K} {V} calls f pair = (key : Bor K) → (value : Bor V) → key.n
 abbrev pub TakesPair : {F K V R : Type 0} → Mut F (Bor K × (V × Unit {0})) R → F → K × V → Type 0
 TakesPair {F} {K} calls f pair = (key : Bor K) → key.now ≡ pair.0 → Takes calls f (key, (pair.1, tt))
 
+-- The step from f to f' answered `Ok r`.
+abbrev pub Succeeds : {F X R E : Type 0} → (F → X → Result R E → F → Type 0) → F → X → R → F → Type 0
+Succeeds step f x r f' = step f x (Ok r) f'
+
 -- The calls at the first of xs answered `Ok`, and the one after them answered the error e.
 pub record IsFirstError {F X R E : Type 0} (step : F → X → Result R E → F → Type 0) (f : F) (xs : List X) (e : E) :
     Type 0 where
@@ -41,7 +45,7 @@ pub record IsFirstError {F X R E : Type 0} (step : F → X → Result R E → F 
   pub split : xs ≡ before ++ at ∷ after
   pub answers : List R
   pub now : F
-  pub calls : CallsGive (λ p x r q. step p x (Ok r) q) f before answers now
+  pub calls : CallsGive (Succeeds step) f before answers now
   pub last : F
   pub failed : step now at (Err e) last
 

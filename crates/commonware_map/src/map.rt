@@ -1,11 +1,11 @@
 //! A set of keys, and a value for each.
-ghost use Rattle.std.specs.Prelude.{◌≡◌, ◌↔◌, ◌<◌, ◌^◌, ◌==◌, [], IfOk, IfSome, IsSome, Some, length, slice_get, take, true, zip, ℕ};
+ghost use Rattle.std.specs.Prelude.{◌≡◌, ◌↔◌, ◌<◌, ◌^◌, ◌==◌, [], IfOk, IfSome, IsSome, Some, length, take, zip, ℕ};
 ghost use Rattle.std.specs.Iterator.Adapters.{IterYieldsInOrder, IterYieldsInReverse};
 ghost use Rattle.std.specs.Map.{keys_of, lookup, values_of};
 ghost use Rattle.std.specs.Option.{option_copied};
 ghost use Rattle.std.specs.Slice.{IsItemAt};
 ghost use Rattle.std.specs.Slice.Iter.{iter_rest};
-ghost use Rattle.commonware_ordered.specs.Strict.{IsPlaceOf, IsStrict};
+ghost use Rattle.commonware_ordered.specs.Strict.{HasEqualAt, IsPlaceOf, IsStrict};
 
 mod builders;
 mod codec;
@@ -125,7 +125,7 @@ impl<K: Ord, V, A: Allocator> Map<K, V, A> {
     /// halved: O(log n) comparisons.
     pub fn position(&self, key: &K) -> Option<usize>
         ensures place { IsPlaceOf K.eq (keys_of self.now) key.now result }
-        ensures only { (p : ℕ) → (result ≡ Some p) ↔ ((x : K) × (slice_get (keys_of self.now) p ≡ Some x) × (K.eq x key.now ≡ true)) }
+        ensures only { (p : ℕ) → (result ≡ Some p) ↔ HasEqualAt K.eq (keys_of self.now) key.now p }
     {
         self.keys().position(key)
     }

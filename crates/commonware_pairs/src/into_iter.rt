@@ -24,7 +24,8 @@ impl<K, V, A: Allocator> Model for MapIntoIter<K, V, A> {
 
     ghost view = { λ pairs. zip (into_iter_items pairs.keys) (into_iter_items pairs.values) };
 
-    ghost invariant = { λ pairs. length (into_iter_items pairs.values) ≡ length (into_iter_items pairs.keys) };
+    ghost invariant = { λ pairs.
+        length (into_iter_items pairs.values) ≡ length (into_iter_items pairs.keys) };
 }
 
 impl<K, V, A: Allocator> MapIntoIter<K, V, A> {

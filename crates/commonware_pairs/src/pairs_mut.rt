@@ -50,7 +50,7 @@ impl<'a, K, V> Iterator for PairsMut<'a, K, V> {
     fn size_hint(&self) -> (usize, Option<usize>)
         ensures lower { IsWithinCount result.0 (at_most (length (pairs_mut_left self.now))) }
         ensures upper { IfSome result.1 (UpTo (at_most (length (pairs_mut_left self.now)))) }
-        ensures exact { result ≡ (length (pairs_mut_left self.now), Some (length (pairs_mut_left self.now))) }
+        ensures exact { let left = length (pairs_mut_left self.now) in result ≡ (left, Some left) }
     {
         let left = self.len();
         (left, Some(left))

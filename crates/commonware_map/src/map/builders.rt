@@ -3,6 +3,7 @@ ghost use Rattle.std.specs.Prelude.{◌≡◌, IfOk};
 ghost use Rattle.std.specs.Iterator.{IsFiniteIterable};
 ghost use Rattle.std.specs.Map.{keys_of, values_of};
 ghost use Rattle.commonware_base.specs.Taken.{TakesAll};
+ghost use Rattle.commonware_map.specs.Pairs.{on_both, on_keys};
 ghost use Rattle.commonware_ordered.specs.Dedup.{IsDedup};
 ghost use Rattle.commonware_ordered.specs.Strict.{IsStrict};
 ghost use Rattle.commonware_ordered.specs.Whole.{IsRefusedFor, IsSetOfAll, IsWholeSet, IsWholeSetOfClones};
@@ -20,8 +21,10 @@ impl<K: Ord + Drop, V: Drop, A: Allocator + Copy> Map<K, V, A> {
         alloc: A,
         iter: I,
     ) -> Result<Self, AllocError>
-        requires { IsFiniteIterable I.into_iter_gives I.IntoIter.can_next I.IntoIter.remaining iter }
-        ensures { IfOk result (λ m. TakesAll I.into_iter_gives I.IntoIter.next_gives iter (λ ps. IsDedup (λ p q. K.eq p.0 q.0) (λ p q. K.cmp p.0 q.0) ps m)) }
+        requires { IsFiniteIterable I.into_iter_gives I.IntoIter.can_next
+            I.IntoIter.remaining iter }
+        ensures { IfOk result (λ m. TakesAll I.into_iter_gives I.IntoIter.next_gives iter
+            (λ ps. IsDedup (on_keys K.eq) (on_keys K.cmp) ps m)) }
     {
         let rest = iter.into_iter();
         let mut gathered = Gathered::with_room(alloc, rest.size_hint().0)?;
@@ -34,7 +37,7 @@ impl<K: Ord + Drop, V: Drop, A: Allocator + Copy> Map<K, V, A> {
     /// The map of all the pairs, or `DuplicateKey` where two of their keys are equal. It takes O(n
     /// log n) comparisons.
     pub fn try_from_vec(vec: Vec<(K, V), A>) -> Result<Self, Error>
-        ensures { IsWholeSet (λ p q. K.eq p.0 q.0) (λ p q. K.cmp p.0 q.0) vec.items result }
+        ensures { IsWholeSet (on_keys K.eq) (on_keys K.cmp) vec.items result }
     {
         let alloc = *vec.allocator();
         Map::try_from_iter(alloc, vec)
@@ -44,9 +47,9 @@ impl<K: Ord + Drop, V: Drop, A: Allocator + Copy> Map<K, V, A> {
 impl<K: Ord + Drop, V: Drop, A: Allocator + Copy> TryFromIterator<(K, V), A> for Map<K, V, A> {
     type Error = Error;
 
-    ghost collects = { IsSetOfAll (λ p q. K.eq p.0 q.0) (λ p q. K.cmp p.0 q.0) };
+    ghost collects = { IsSetOfAll (on_keys K.eq) (on_keys K.cmp) };
 
-    ghost refuses = { λ drawn _ error. IsRefusedFor (λ p q. K.eq p.0 q.0) drawn error };
+    ghost refuses = { λ drawn _ error. IsRefusedFor (on_keys K.eq) drawn error };
 
     /// The map of all the pairs, or `DuplicateKey` where two keys of those that were drawn are
     /// equal: none is drawn after the first repeat. It takes O(n log n) comparisons.
@@ -66,7 +69,8 @@ impl<K: Ord + EqClone, V: Clone, A: Allocator + Copy> Map<K, V, A> {
     /// The map of clones of all the pairs, or `DuplicateKey` where two of their keys are equal. It
     /// takes O(n log n) comparisons.
     pub fn try_from_slice(alloc: A, pairs: &[(K, V)]) -> Result<Self, Error>
-        ensures { IsWholeSetOfClones (λ p q. K.eq p.0 q.0) (λ p q. K.cmp p.0 q.0) (λ p q. K.is_clone p.0 q.0 × V.is_clone p.1 q.1) pairs.now result }
+        ensures { IsWholeSetOfClones (on_keys K.eq) (on_keys K.cmp)
+            (on_both K.is_clone V.is_clone) pairs.now result }
     {
         Map::try_from_vec(Vec::from_clones(alloc, pairs)?)
     }
@@ -74,7 +78,8 @@ impl<K: Ord + EqClone, V: Clone, A: Allocator + Copy> Map<K, V, A> {
     /// The map of clones of all the pairs, or `DuplicateKey` where two of their keys are equal. The
     /// array is given up. It takes O(n log n) comparisons.
     pub fn try_from_array<const N: usize>(alloc: A, pairs: [(K, V); N]) -> Result<Self, Error>
-        ensures { IsWholeSetOfClones (λ p q. K.eq p.0 q.0) (λ p q. K.cmp p.0 q.0) (λ p q. K.is_clone p.0 q.0 × V.is_clone p.1 q.1) pairs result }
+        ensures { IsWholeSetOfClones (on_keys K.eq) (on_keys K.cmp)
+            (on_both K.is_clone V.is_clone) pairs result }
     {
         Map::try_from_slice(alloc, &pairs)
     }
@@ -82,7 +87,8 @@ impl<K: Ord + EqClone, V: Clone, A: Allocator + Copy> Map<K, V, A> {
     /// The map of clones of all the pairs, or `DuplicateKey` where two of their keys are equal. It
     /// takes O(n log n) comparisons.
     pub fn try_from_array_ref<const N: usize>(alloc: A, pairs: &[(K, V); N]) -> Result<Self, Error>
-        ensures { IsWholeSetOfClones (λ p q. K.eq p.0 q.0) (λ p q. K.cmp p.0 q.0) (λ p q. K.is_clone p.0 q.0 × V.is_clone p.1 q.1) pairs.now result }
+        ensures { IsWholeSetOfClones (on_keys K.eq) (on_keys K.cmp)
+            (on_both K.is_clone V.is_clone) pairs.now result }
     {
         Map::try_from_slice(alloc, pairs)
     }
@@ -93,7 +99,7 @@ fn map_of<K: Ord + Drop, V: Drop, A: Allocator + Copy>(
     gathered: Gathered<K, V, A>,
 ) -> Result<Map<K, V, A>, AllocError>
     ensures pairs { IfOk result (λ m. m ≡ gathered) }
-    ensures strict { IfOk result (λ m. IsStrict (λ p q. K.cmp p.0 q.0) m) }
+    ensures strict { IfOk result (λ m. IsStrict (on_keys K.cmp) m) }
 {
     let (keys, values) = gathered.into_columns()?;
     Ok(Map::from_columns(Set::from_strict(keys), values))

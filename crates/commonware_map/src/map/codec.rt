@@ -1,14 +1,13 @@
 //! The byte form of a map: the list of its keys, and then the list of its values, each with its
 //! count.
-ghost use Rattle.std.specs.Prelude.{◌≡◌, ◌+◌, ◌*◌, ◌<◌, ◌≤◌, ◌^◌, ℕ, List, length};
+ghost use Rattle.std.specs.Prelude.{◌≡◌, ◌<◌, ◌≤◌, ◌^◌, ℕ, List, length};
 ghost use Rattle.std.specs.List.{AllByRecursion};
 ghost use Rattle.std.specs.Map.{keys_of, values_of};
 ghost use Rattle.commonware_base.specs.Fault.{Fault};
 ghost use Rattle.commonware_base.specs.Lists.{IsListMemoryFree};
 ghost use Rattle.commonware_base.specs.Sequence.{sequence_cut};
-ghost use Rattle.commonware_base.specs.Varint.{varint_size};
 ghost use Rattle.commonware_map.specs.MapLaws.{map_bytes, map_canonical, map_laws, map_prefix_free};
-ghost use Rattle.commonware_map.specs.Maps.{map_enc, IsAllowedMap, IsWritableMap, MapFault};
+ghost use Rattle.commonware_map.specs.Maps.{map_enc, map_size_bound, IsAllowedMap, IsWritableMap, MapFault};
 ghost use Rattle.commonware_ordered.specs.Sets.{IsWritableSet};
 
 use super::Map;
@@ -23,9 +22,11 @@ impl<K: Ord + EncodeSize, V: EncodeSize, A: Allocator> EncodeSize for Map<K, V, 
 
     ghost writable = { IsWritableMap K.writable K.cmp V.writable };
 
-    ghost prefix_free = { map_prefix_free K.enc K.writable K.cmp K.prefix_free V.enc V.writable V.prefix_free };
+    ghost prefix_free = { map_prefix_free K.enc K.writable K.cmp K.prefix_free
+        V.enc V.writable V.prefix_free };
 
-    ghost text_of_bytes = { map_bytes K.enc K.writable K.cmp K.prefix_free V.enc V.writable K.text_of_bytes V.text_of_bytes };
+    ghost text_of_bytes = { map_bytes K.enc K.writable K.cmp K.prefix_free V.enc V.writable
+        K.text_of_bytes V.text_of_bytes };
 
     fn encode_size(&self) -> usize {
         self.keys.encode_size() + self.values.encode_size()
@@ -56,11 +57,15 @@ impl<K: Ord + Canonical + Read<A> + Drop, V: Read<A> + Drop, A: Allocator + Copy
 
     ghost allowed = { λ c. IsAllowedMap c.0 (K.allowed c.1) (V.allowed c.2) };
 
-    ghost fault = { λ c. MapFault K.enc K.writable K.cmp (K.allowed c.1) (K.fault c.1) V.enc V.writable (V.allowed c.2) (V.fault c.2) c.0 };
+    ghost fault = { λ c. MapFault K.enc K.writable K.cmp (K.allowed c.1) (K.fault c.1)
+        V.enc V.writable (V.allowed c.2) (V.fault c.2) c.0 };
 
     ghost memory_free = { λ c. IsListMemoryFree (K.fault c.1) (K.memory_free c.1) c.0 };
 
-    ghost read_laws = { λ alloc c. map_laws K.enc K.writable K.cmp K.prefix_free V.enc V.writable V.prefix_free K.eq K.total K.matches_eq K.canonical c.0 (K.allowed c.1) (K.fault c.1) (V.allowed c.2) (V.fault c.2) (K.read_laws alloc c.1) (V.read_laws alloc c.2) };
+    ghost read_laws = { λ alloc c. map_laws K.enc K.writable K.cmp K.prefix_free
+        V.enc V.writable V.prefix_free K.eq K.total K.matches_eq K.canonical
+        c.0 (K.allowed c.1) (K.fault c.1) (V.allowed c.2) (V.fault c.2)
+        (K.read_laws alloc c.1) (V.read_laws alloc c.2) };
 
     /// Reads the keys as a set, and then the values as a list of as many.
     fn read_cfg(alloc: A, src: &mut Source<'_>, cfg: &Self::Cfg) -> Result<Map<K, V, A>, Error> {
@@ -80,7 +85,9 @@ impl<K: Ord + Canonical + Read<A> + Drop, V: Read<A> + Drop, A: Allocator + Copy
 }
 
 impl<K: Ord + Canonical, V: Canonical, A: Allocator> Canonical for Map<K, V, A> {
-    ghost canonical = { map_canonical K.enc K.writable K.cmp K.prefix_free V.enc V.writable V.prefix_free K.eq K.total K.matches_eq K.canonical V.eq V.canonical };
+    ghost canonical = { map_canonical K.enc K.writable K.cmp K.prefix_free
+        V.enc V.writable V.prefix_free K.eq K.total K.matches_eq K.canonical
+        V.eq V.canonical };
 }
 
 impl<K: Ord + MaxEncodeSize, V, A: Allocator> Map<K, V, A> {
@@ -89,9 +96,12 @@ impl<K: Ord + MaxEncodeSize, V, A: Allocator> Map<K, V, A> {
     /// and that of a value. `len` is at most 4294967295, and the result fits a `usize`.
     pub fn max_encode_size(len: usize, value: usize) -> usize
         requires short { len < 2 ^ 32 }
-        requires fits { varint_size len + len * K.MAX_ENCODE_SIZE + (varint_size len + len * value) < 2 ^ 64 }
-        ensures size { result ≡ varint_size len + len * K.MAX_ENCODE_SIZE + (varint_size len + len * value) }
-        ensures enough { (enc : V → List ℕ) (m : List (K × V)) → IsWritableSet K.writable K.cmp (keys_of m) → AllByRecursion (λ v. length (enc v) ≤ value) (values_of m) → length m ≤ len → length (map_enc K.enc enc m) ≤ result }
+        requires fits { map_size_bound len K.MAX_ENCODE_SIZE value < 2 ^ 64 }
+        ensures size { result ≡ map_size_bound len K.MAX_ENCODE_SIZE value }
+        ensures enough { (enc : V → List ℕ) (m : List (K × V))
+            → IsWritableSet K.writable K.cmp (keys_of m)
+            → AllByRecursion (λ v. length (enc v) ≤ value) (values_of m)
+            → length m ≤ len → length (map_enc K.enc enc m) ≤ result }
     {
         Set::<K, A>::max_encode_size(len) + (UInt(len as u32).encode_size() + len * value)
     }
@@ -106,8 +116,10 @@ pub fn map_fault_law<K: Ord + Canonical + Read<A>, V: Read<A>, A: Allocator>(
     value: &V::Cfg,
 )
     ensures { (s : List ℕ) (f g : Fault)
-        (v : MapFault K.enc K.writable K.cmp (K.allowed key.now) (K.fault key.now) V.enc V.writable (V.allowed value.now) (V.fault value.now) range s f)
-        (w : MapFault K.enc K.writable K.cmp (K.allowed key.now) (K.fault key.now) V.enc V.writable (V.allowed value.now) (V.fault value.now) range s g)
+        (v : MapFault K.enc K.writable K.cmp (K.allowed key.now) (K.fault key.now)
+        V.enc V.writable (V.allowed value.now) (V.fault value.now) range s f)
+        (w : MapFault K.enc K.writable K.cmp (K.allowed key.now) (K.fault key.now)
+        V.enc V.writable (V.allowed value.now) (V.fault value.now) range s g)
         → sequence_cut v ≡ sequence_cut w }
 {
     // The contract alone speaks of them.

@@ -1,6 +1,5 @@
 //! The pairs of a map that is given up, one by one.
-ghost use Rattle.std.specs.Prelude.{◌≡◌, ◌<◌, ◌^◌, length};
-ghost use Rattle.std.specs.Map.Iter.{GivesInOrder, GivesInReverse};
+ghost use Rattle.commonware_map.specs.Pairs.{GivesPairsOf};
 
 use super::Map;
 use commonware_pairs::MapIntoIter;
@@ -11,7 +10,7 @@ impl<K: Ord + Drop, V: Drop, A: Allocator> IntoIterator for Map<K, V, A> {
 
     type IntoIter = MapIntoIter<K, V, A>;
 
-    ghost into_iter_gives = { λ map pairs. (pairs ≡ map) × (length map < 2 ^ 64) × GivesInOrder (K × V) × GivesInReverse (K × V) };
+    ghost into_iter_gives = { GivesPairsOf };
 
     /// The pairs in the order of their keys, from both ends, with the exact number left. It takes
     /// no memory.

@@ -12,7 +12,8 @@ impl<K: Ord, V, A: Allocator> Map<K, V, A> {
     /// The value of the key that equals the one asked, to be written, or `None` where none does.
     /// The keys are halved: O(log n) comparisons.
     pub fn get_value_mut(&mut self, key: &K) -> Option<&mut V>
-        ensures* writes_back { sem 𝓛 (LendsValueOf K.row V.row A.row K.cmp K.eq K.partial_cmp A.Allocator self.entry (λ k. K.eq k key.now) result) }
+        ensures* writes_back { sem 𝓛 (LendsValueOf K.row V.row A.row
+            K.cmp K.eq K.partial_cmp A.Allocator self.entry (λ k. K.eq k key.now) result) }
         ensures value { option_copied_mut result ≡ lookup (λ k. K.eq k key.now) self.old }
     {
         match self.position(key) {
@@ -23,7 +24,8 @@ impl<K: Ord, V, A: Allocator> Map<K, V, A> {
 
     /// The values in the order of their keys, to be written.
     pub fn values_mut(&mut self) -> &mut [V]
-        ensures* writes_back { sem 𝓛 (LendsValues K.row V.row A.row K.cmp K.eq K.partial_cmp A.Allocator self.entry result) }
+        ensures* writes_back { sem 𝓛 (LendsValues K.row V.row A.row
+            K.cmp K.eq K.partial_cmp A.Allocator self.entry result) }
         ensures value { result.now ≡ values_of self.old }
     {
         self.values.as_mut_slice()
@@ -32,7 +34,8 @@ impl<K: Ord, V, A: Allocator> Map<K, V, A> {
     /// The value at a position, which is inside, to be written.
     fn value_mut(&mut self, index: usize) -> &mut V
         requires { index < length self.old }
-        ensures* writes_back { sem 𝓛 (LendsValueAt K.row V.row A.row K.cmp K.eq K.partial_cmp A.Allocator self.entry index result) }
+        ensures* writes_back { sem 𝓛 (LendsValueAt K.row V.row A.row
+            K.cmp K.eq K.partial_cmp A.Allocator self.entry index result) }
         ensures value { result.now ≡ slice_index_or (values_of self.old) index result.now }
     {
         &mut self.values[index]

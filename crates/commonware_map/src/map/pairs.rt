@@ -1,6 +1,7 @@
 //! The pairs of a map, lent one by one.
 ghost use Rattle.std.specs.Prelude.{◌≡◌, ◌<◌, ◌^◌, length};
 ghost use Rattle.std.specs.Map.Iter.{ShowsInOrder, ShowsInReverse, deref_pair};
+ghost use Rattle.commonware_map.specs.Pairs.{ShowsPairsOf};
 
 use super::Map;
 use commonware_pairs::Pairs;
@@ -23,7 +24,7 @@ impl<'a, K: Ord, V, A: Allocator> IntoIterator for &'a Map<K, V, A> {
 
     type IntoIter = Pairs<'a, K, V>;
 
-    ghost into_iter_gives = { λ map pairs. (pairs ≡ map.now) × (length map.now < 2 ^ 64) × ShowsInOrder (deref_pair {K = K} {X = V}) × ShowsInReverse (deref_pair {K = K} {X = V}) };
+    ghost into_iter_gives = { λ map left. ShowsPairsOf map.now left };
 
     /// The pairs in the order of their keys, from both ends, with the exact number left.
     fn into_iter(self) -> Pairs<'a, K, V> {

@@ -12,7 +12,8 @@ impl<K: Ord, V, A: Allocator> Map<K, V, A> {
     /// The pairs in the order of their keys, from both ends, with the exact number left. Each value
     /// may be written; keys and their number stay.
     pub fn iter_pairs_mut(&mut self) -> PairsMut<'_, K, V>
-        ensures* writes_back { sem 𝓛 (LendsValuesTo K.row V.row A.row K.cmp K.eq K.partial_cmp A.Allocator self.entry (pairs_mut_name result)) }
+        ensures* writes_back { sem 𝓛 (LendsValuesTo K.row V.row A.row
+            K.cmp K.eq K.partial_cmp A.Allocator self.entry (pairs_mut_name result)) }
         ensures ready { CanStep result }
         ensures pairs { pairs_mut_left result ≡ self.old }
         ensures bound { length self.old < 2 ^ 64 }

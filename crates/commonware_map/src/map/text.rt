@@ -23,7 +23,8 @@ fn write_pairs<K: Ord + fmt::Display, V: fmt::Display, A: Allocator, W: fmt::Wri
     map: &Map<K, V, A>,
     f: &mut fmt::Formatter<W>,
 ) -> fmt::Result
-    ensures { DisplaysOnOk W.write_str_gives f.old result (debug_items (λ p. pair_text (K.output p.0) (V.output p.1)) [] map.now) f.new }
+    ensures { DisplaysOnOk W.write_str_gives f.old result
+        (debug_items (λ p. pair_text (K.output p.0) (V.output p.1)) [] map.now) f.new }
 {
     let mut lead = "";
     for (key, value) in map.keys().iter().zip(map.values()) {

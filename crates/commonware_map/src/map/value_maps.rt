@@ -1,9 +1,9 @@
 //! Maps with the same keys, whose values a closure makes.
-ghost use Rattle.std.specs.Prelude.{◌≡◌, IfErr, IfOk, Ok};
+ghost use Rattle.std.specs.Prelude.{◌≡◌, IfErr, IfOk};
 ghost use Rattle.std.specs.List.{AllZip};
 ghost use Rattle.std.specs.Map.{keys_of, values_of};
 ghost use Rattle.commonware_base.specs.Calls.{CallableAlong, CallsGiveAll};
-ghost use Rattle.commonware_map.specs.ValueMaps.{CalledAtPair, CalledAtRefs, IfClosure, IsFirstError, TakesPair, TakesRefs};
+ghost use Rattle.commonware_map.specs.ValueMaps.{CalledAtPair, CalledAtRefs, IfClosure, IsFirstError, Succeeds, TakesPair, TakesRefs};
 
 use super::Map;
 use crate::MapError;
@@ -20,7 +20,8 @@ impl<K: Ord + EqClone, V, A: Allocator + Copy> Map<K, V, A> {
     ) -> Result<Map<K, U, A>, AllocError>
         requires { CallableAlong (CalledAtRefs F.FnMut) (TakesRefs F.FnMut) f self.now }
         ensures keys { IfOk result (λ m. AllZip K.is_clone (keys_of self.now) (keys_of m)) }
-        ensures values { IfOk result (λ m. CallsGiveAll (CalledAtRefs F.FnMut) f self.now (values_of m)) }
+        ensures values { IfOk result (λ m.
+            CallsGiveAll (CalledAtRefs F.FnMut) f self.now (values_of m)) }
     {
         let mut answers = Vec::with_capacity(*self.values.allocator(), self.len())?;
         for (key, value) in self.iter_pairs() {
@@ -37,10 +38,12 @@ impl<K: Ord + EqClone, V, A: Allocator + Copy> Map<K, V, A> {
         &'a self,
         mut f: F,
     ) -> Result<Map<K, U, A>, MapError<E>>
-        requires { CallableAlong (λ p x u q. CalledAtRefs F.FnMut p x (Ok u) q) (TakesRefs F.FnMut) f self.now }
+        requires { CallableAlong (Succeeds (CalledAtRefs F.FnMut)) (TakesRefs F.FnMut) f self.now }
         ensures keys { IfOk result (λ m. AllZip K.is_clone (keys_of self.now) (keys_of m)) }
-        ensures values { IfOk result (λ m. CallsGiveAll (λ p x u q. CalledAtRefs F.FnMut p x (Ok u) q) f self.now (values_of m)) }
-        ensures error { IfErr result (λ e. IfClosure e (IsFirstError (CalledAtRefs F.FnMut) f self.now)) }
+        ensures values { IfOk result (λ m.
+            CallsGiveAll (Succeeds (CalledAtRefs F.FnMut)) f self.now (values_of m)) }
+        ensures error { IfErr result (λ e.
+            IfClosure e (IsFirstError (CalledAtRefs F.FnMut) f self.now)) }
     {
         let mut tried = Vec::with_capacity(*self.values.allocator(), self.len())?;
         for (key, value) in self.iter_pairs() {
@@ -63,7 +66,8 @@ impl<K: Ord + Drop, V: Drop, A: Allocator + Copy> Map<K, V, A> {
     ) -> Result<Map<K, U, A>, AllocError>
         requires { CallableAlong (CalledAtPair F.FnMut) (TakesPair F.FnMut) f self }
         ensures keys { IfOk result (λ m. keys_of m ≡ keys_of self) }
-        ensures values { IfOk result (λ m. CallsGiveAll (CalledAtPair F.FnMut) f self (values_of m)) }
+        ensures values { IfOk result (λ m.
+            CallsGiveAll (CalledAtPair F.FnMut) f self (values_of m)) }
     {
         let mut mapped = Vec::with_capacity(*self.values.allocator(), self.len())?;
         let (keys, values) = self.into_columns();
@@ -80,10 +84,12 @@ impl<K: Ord + Drop, V: Drop, A: Allocator + Copy> Map<K, V, A> {
         self,
         mut f: F,
     ) -> Result<Map<K, U, A>, MapError<E>>
-        requires { CallableAlong (λ p x u q. CalledAtPair F.FnMut p x (Ok u) q) (TakesPair F.FnMut) f self }
+        requires { CallableAlong (Succeeds (CalledAtPair F.FnMut)) (TakesPair F.FnMut) f self }
         ensures keys { IfOk result (λ m. keys_of m ≡ keys_of self) }
-        ensures values { IfOk result (λ m. CallsGiveAll (λ p x u q. CalledAtPair F.FnMut p x (Ok u) q) f self (values_of m)) }
-        ensures error { IfErr result (λ e. IfClosure e (IsFirstError (CalledAtPair F.FnMut) f self)) }
+        ensures values { IfOk result (λ m.
+            CallsGiveAll (Succeeds (CalledAtPair F.FnMut)) f self (values_of m)) }
+        ensures error { IfErr result (λ e.
+            IfClosure e (IsFirstError (CalledAtPair F.FnMut) f self)) }
     {
         let mut collected = Vec::with_capacity(*self.values.allocator(), self.len())?;
         let (keys, values) = self.into_columns();
