@@ -8,10 +8,15 @@ use std::alloc::Global;
 use std::io::Write;
 use std::time::{Clock, Duration, Instant};
 
+/// The bytes of a block that is large to the C library.
+const LARGE: usize = 65_536;
+
 /// What every line is filled with: a heap, a clock, and where the lines go.
 #[derive(Drop)]
 pub struct Bench<C: Clock, W: Write> {
     alloc: Global,
+    /// The last large block that was asked for.
+    large: Vec<u8>,
     clock: C,
     output: Watched<W>,
 }
@@ -32,6 +37,7 @@ impl<C: Clock, W: Write> Bench<C, W> {
     pub fn new(alloc: Global, clock: C, output: W) -> Self {
         Bench {
             alloc,
+            large: Vec::new(alloc),
             clock,
             output: Watched::new(output),
         }
@@ -44,6 +50,9 @@ impl<C: Clock, W: Write> Bench<C, W> {
 
     /// Makes the call once a round and writes the line. The answer is the check sum, which goes
     /// on from `sum` with what each call answers, modulo 2^64.
+    ///
+    /// A large block is asked for before the clock starts. With such a request the C library
+    /// merges the small ones that were given back, as the nodes of a tree, whoever makes it.
     pub(crate) fn line<F: FnMut() -> Result<u64, Failure>>(
         &mut self,
         work: Work<'_>,
@@ -53,6 +62,7 @@ impl<C: Clock, W: Write> Bench<C, W> {
         requires { F.IsAlwaysCallable call }
     {
         let mut sum = sum;
+        self.large = Vec::with_capacity(self.alloc, LARGE)?;
         let start = Instant::now(&self.clock).map_err(|_| Failure::Clock)?;
         for _ in 0..work.rounds {
             sum = sum.wrapping_add(call()?);
