@@ -1,6 +1,6 @@
 -- The words of `vec`: lists with an item, their faults and cuts, queues, loans and closures.
-pub use Rattle.commonware_vec.specs.Closures.{CalledWith, CalledWithNothing, TakesNothing}
-pub use Rattle.commonware_vec.specs.Closures.{TakesWith}
+pub use Rattle.commonware_vec.specs.Closures.{AppendsAnswers, CallableTimes, CalledWith}
+pub use Rattle.commonware_vec.specs.Closures.{CalledWithNothing, TakesNothing, TakesWith}
 pub use Rattle.commonware_vec.specs.Lends.{LendsItemAt, LendsItems, LendsItemsTo}
 pub use Rattle.commonware_vec.specs.Mutate.{LeavesSome, ReturnsAtItems, TakesItems}
 pub use Rattle.commonware_vec.specs.NonEmpty.{BeginsEmpty, IsWritableNonEmpty, empty_fault}
