@@ -3,12 +3,13 @@
 use Rattle.std.specs.Prelude.{Bool, List, MatchResult, Result}
 use Rattle.std.specs.Map.{values_of}
 use Rattle.std.specs.declared.cmp.Ordering.{Ordering}
+use Rattle.commonware_map.specs.Pairs.{on_keys}
 use Rattle.commonware_ordered.specs.Whole.{HasEqualItems, IsSetOfAll, IsSetOfClones, MatchError}
 use Rattle.commonware_ordered.specs.declared.error.Error.{Error}
 
 -- two positions of l hold equal keys
 abbrev pub HasEqualKeys : {K V : Type 0} → (K → K → Bool) → List (K × V) → Type 0
-HasEqualKeys key_eq l = HasEqualItems (λ p q. key_eq p.0 q.0) l
+HasEqualKeys key_eq l = HasEqualItems (on_keys key_eq) l
 
 -- two positions of l hold equal values
 abbrev pub HasEqualValues : {K V : Type 0} → (V → V → Bool) → List (K × V) → Type 0
@@ -18,7 +19,7 @@ HasEqualValues value_eq l = HasEqualItems value_eq (values_of l)
 abbrev pub IsBiMapOfAll : {K V : Type 0} → (K → K → Bool) → (K → K → Ordering) → (V → V → Bool) → List (K × V)
     → List (K × V) → Type 0
 IsBiMapOfAll key_eq key_cmp value_eq l m =
-    IsSetOfAll (λ p q. key_eq p.0 q.0) (λ p q. key_cmp p.0 q.0) l m × (¬ HasEqualValues value_eq l)
+    IsSetOfAll (on_keys key_eq) (on_keys key_cmp) l m × (¬ HasEqualValues value_eq l)
 
 -- l is refused as two of its positions hold equal keys; or as none do, Whole holds, and two positions hold equal
 -- values; or for want of memory
@@ -36,7 +37,7 @@ IsWholeBiMap key_eq key_cmp value_eq l result =
 abbrev pub IsBiMapOfClones : {K V : Type 0} → (K → K → Bool) → (K → K → Ordering) → (V → V → Bool)
     → (K × V → K × V → Type 0) → List (K × V) → List (K × V) → Type 0
 IsBiMapOfClones key_eq key_cmp value_eq Clone l m =
-    IsSetOfClones (λ p q. key_eq p.0 q.0) (λ p q. key_cmp p.0 q.0) Clone l m × (¬ HasEqualValues value_eq l)
+    IsSetOfClones (on_keys key_eq) (on_keys key_cmp) Clone l m × (¬ HasEqualValues value_eq l)
 
 -- the bimap of clones of all of l, or why there is none
 abbrev pub IsWholeBiMapOfClones : {K V : Type 0} → (K → K → Bool) → (K → K → Ordering) → (V → V → Bool)

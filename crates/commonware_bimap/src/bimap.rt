@@ -1,14 +1,15 @@
 //! A map whose values are pairwise unequal.
-ghost use Rattle.std.specs.Prelude.{◌≡◌, ◌↔◌, ◌<◌, ◌^◌, ◌==◌, [], IfOk, IsOk, IsSomeAnd, IsTrue, MatchResult, Some, length, slice_get, true, ℕ};
+ghost use Rattle.std.specs.Prelude.{◌≡◌, ◌↔◌, ◌<◌, ◌^◌, ◌==◌, [], IfOk, IsOk, IsSomeAnd, IsTrue, MatchResult, Some, length, true, ℕ};
 ghost use Rattle.std.specs.Iterator.Adapters.{IterYieldsInOrder, IterYieldsInReverse};
 ghost use Rattle.std.specs.Map.{keys_of, lookup, values_of};
 ghost use Rattle.std.specs.Map.Iter.{ShowsInOrder, ShowsInReverse, deref_pair};
 ghost use Rattle.std.specs.Option.{option_copied};
 ghost use Rattle.std.specs.Slice.{IsItemAt};
 ghost use Rattle.std.specs.Slice.Iter.{iter_rest};
-ghost use Rattle.commonware_ordered.specs.Strict.{IsPlaceOf, IsStrict};
+ghost use Rattle.commonware_ordered.specs.Strict.{HasEqualAt, IsPlaceOf, IsStrict};
 ghost use Rattle.commonware_ordered.specs.Whole.{HasEqualItems, MatchError};
 ghost use Rattle.commonware_bimap.specs.Swapped.{swapped};
+ghost use Rattle.commonware_bimap.specs.WholeBiMaps.{HasEqualValues};
 
 mod builders;
 mod codec;
@@ -62,7 +63,9 @@ impl<K: Ord + Drop, V: Eq + Hash + Drop, A: Allocator + Copy> BiMap<K, V, A> {
     /// and memory for a reference to each value, without which the answer is `Memory`. A map
     /// without pairs takes none and is never refused.
     pub fn try_from_map(map: Map<K, V, A>) -> Result<Self, Error>
-        ensures whole { MatchResult result (λ b. (b ≡ map) × (¬ HasEqualItems V.eq (values_of map))) (λ error. MatchError error ⊥ (HasEqualItems V.eq (values_of map))) }
+        ensures whole { MatchResult result
+            (λ b. (b ≡ map) × (¬ HasEqualValues V.eq map))
+            (λ error. MatchError error ⊥ (HasEqualValues V.eq map)) }
         ensures empty { map ≡ [] → IsOk result }
     {
         if has_equal_values(*map.allocator(), map.values())? {
@@ -97,7 +100,7 @@ impl<K: Ord, V: Eq + Hash, A: Allocator> BiMap<K, V, A> {
     pub fn len(&self) -> usize
         ensures len { result ≡ length self.now }
         ensures strict { IsStrict K.cmp (keys_of self.now) }
-        ensures distinct { ¬ HasEqualItems V.eq (values_of self.now) }
+        ensures distinct { ¬ HasEqualValues V.eq self.now }
     {
         self.map.len()
     }
@@ -119,7 +122,7 @@ impl<K: Ord, V: Eq + Hash, A: Allocator> BiMap<K, V, A> {
     /// The values in the order of their keys. No two are equal.
     pub fn values(&self) -> &[V]
         ensures values { result.now ≡ values_of self.now }
-        ensures distinct { ¬ HasEqualItems V.eq (values_of self.now) }
+        ensures distinct { ¬ HasEqualValues V.eq self.now }
     {
         self.map.values()
     }
@@ -155,7 +158,7 @@ impl<K: Ord, V: Eq + Hash, A: Allocator> BiMap<K, V, A> {
     /// halved: O(log n) comparisons.
     pub fn position(&self, key: &K) -> Option<usize>
         ensures place { IsPlaceOf K.eq (keys_of self.now) key.now result }
-        ensures only { (p : ℕ) → (result ≡ Some p) ↔ ((x : K) × (slice_get (keys_of self.now) p ≡ Some x) × (K.eq x key.now ≡ true)) }
+        ensures only { (p : ℕ) → (result ≡ Some p) ↔ HasEqualAt K.eq (keys_of self.now) key.now p }
     {
         self.map.position(key)
     }
@@ -179,7 +182,8 @@ impl<K: Ord, V: Eq + Hash, A: Allocator> BiMap<K, V, A> {
     /// where that key's value equals the one asked. The values are compared one by one.
     pub fn get_key(&self, value: &V) -> Option<&K>
         ensures key { option_copied result ≡ lookup (λ v. V.eq v value.now) (swapped self.now) }
-        ensures law { (k : K) → IsSomeAnd (option_copied result) (λ q. K.eq q k ≡ true) ↔ IsSomeAnd (lookup (λ q. K.eq q k) self.now) (λ v. V.eq v value.now ≡ true) }
+        ensures law { (k : K) → IsSomeAnd (option_copied result) (λ q. K.eq q k ≡ true)
+            ↔ IsSomeAnd (lookup (λ q. K.eq q k) self.now) (λ v. V.eq v value.now ≡ true) }
     {
         let keys = self.map.keys().as_slice();
         let index = place_of(self.map.values(), value)?;

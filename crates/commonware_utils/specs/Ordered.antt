@@ -10,9 +10,9 @@ pub use Rattle.commonware_ordered.specs.Dedup.{EqualsSameItems, HaveSameItems, I
 pub use Rattle.commonware_map.specs.Lends.{LendsValueAt, LendsValueOf, LendsValues, LendsValuesTo}
 pub use Rattle.commonware_map.specs.Lends.{map_row, set_value_at, set_values}
 pub use Rattle.commonware_map.specs.Maps.{AreAllowedValues, IsAllowedMap, IsWritableMap, MapFault}
-pub use Rattle.commonware_map.specs.Maps.{columns, map_enc}
-pub use Rattle.commonware_map.specs.Pairs.{are_equal_pairs, is_equal_pair, on_both, on_keys}
-pub use Rattle.commonware_map.specs.Pairs.{pair_text}
+pub use Rattle.commonware_map.specs.Maps.{columns, map_enc, map_size_bound}
+pub use Rattle.commonware_map.specs.Pairs.{GivesPairsOf, ShowsPairsOf, are_equal_pairs, is_equal_pair}
+pub use Rattle.commonware_map.specs.Pairs.{on_both, on_keys, pair_text}
 pub use Rattle.commonware_map.specs.PairLaws.{both_equal}
 pub use Rattle.commonware_map.specs.PairLaws.{pairs_respect_eq}
 pub use Rattle.commonware_pairs.specs.PairsMut.{CanStep, LendsInOrder, LendsInReverse}
@@ -24,7 +24,7 @@ pub use Rattle.commonware_ordered.specs.Sets.{SetFault, bad_list, bad_order}
 pub use Rattle.commonware_ordered.specs.Sets.{SetCut, at_list, at_order, set_cut}
 pub use Rattle.commonware_ordered.specs.Strict.{HasEqualAt, IsPlaceOf, IsStrict}
 pub use Rattle.commonware_map.specs.ValueMaps.{CalledAtPair, CalledAtRefs, IfClosure, IsFirstError}
-pub use Rattle.commonware_map.specs.ValueMaps.{TakesPair, TakesRefs}
+pub use Rattle.commonware_map.specs.ValueMaps.{Succeeds, TakesPair, TakesRefs}
 pub use Rattle.commonware_ordered.specs.Whole.{HasEqualItems, IsRefusedFor, IsSetOfAll}
 pub use Rattle.commonware_ordered.specs.Whole.{IsSetOfClones, IsWholeSet, IsWholeSetOfClones}
 pub use Rattle.commonware_ordered.specs.Whole.{MatchError}

@@ -1,6 +1,7 @@
 //! Bimaps of many pairs: equal keys are refused, and then equal values. Each builder makes the map
 //! of the pairs, and takes the time and the memory of `try_from_map` for its values.
 ghost use Rattle.commonware_bimap.specs.WholeBiMaps.{IsBiMapOfAll, IsRefusedBiMap, IsWholeBiMap, IsWholeBiMapOfClones};
+ghost use Rattle.commonware_map.specs.Pairs.{on_both};
 ghost use Rattle.std.specs.Prelude.{◌≡◌, true};
 
 use super::BiMap;
@@ -40,7 +41,8 @@ impl<K: Ord + EqClone, V: EqClone + Hash, A: Allocator + Copy> BiMap<K, V, A> {
     /// The bimap of clones of all the pairs; `DuplicateKey` where two of their keys are equal; else
     /// `DuplicateValue` where two of their values are, which are looked up in a hash set.
     pub fn try_from_slice(alloc: A, pairs: &[(K, V)]) -> Result<Self, Error>
-        ensures { IsWholeBiMapOfClones K.eq K.cmp V.eq (λ p q. K.is_clone p.0 q.0 × V.is_clone p.1 q.1) pairs.now result }
+        ensures { IsWholeBiMapOfClones K.eq K.cmp V.eq
+            (on_both K.is_clone V.is_clone) pairs.now result }
     {
         BiMap::try_from_map(Map::try_from_slice(alloc, pairs)?)
     }
@@ -49,7 +51,8 @@ impl<K: Ord + EqClone, V: EqClone + Hash, A: Allocator + Copy> BiMap<K, V, A> {
     /// `DuplicateValue` where two of their values are, which are looked up in a hash set. The array
     /// is given up.
     pub fn try_from_array<const N: usize>(alloc: A, pairs: [(K, V); N]) -> Result<Self, Error>
-        ensures { IsWholeBiMapOfClones K.eq K.cmp V.eq (λ p q. K.is_clone p.0 q.0 × V.is_clone p.1 q.1) pairs result }
+        ensures { IsWholeBiMapOfClones K.eq K.cmp V.eq
+            (on_both K.is_clone V.is_clone) pairs result }
     {
         BiMap::try_from_slice(alloc, &pairs)
     }
@@ -57,7 +60,8 @@ impl<K: Ord + EqClone, V: EqClone + Hash, A: Allocator + Copy> BiMap<K, V, A> {
     /// The bimap of clones of all the pairs; `DuplicateKey` where two of their keys are equal; else
     /// `DuplicateValue` where two of their values are, which are looked up in a hash set.
     pub fn try_from_array_ref<const N: usize>(alloc: A, pairs: &[(K, V); N]) -> Result<Self, Error>
-        ensures { IsWholeBiMapOfClones K.eq K.cmp V.eq (λ p q. K.is_clone p.0 q.0 × V.is_clone p.1 q.1) pairs.now result }
+        ensures { IsWholeBiMapOfClones K.eq K.cmp V.eq
+            (on_both K.is_clone V.is_clone) pairs.now result }
     {
         BiMap::try_from_slice(alloc, pairs)
     }

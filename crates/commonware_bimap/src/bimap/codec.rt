@@ -19,9 +19,11 @@ impl<K: Ord + EncodeSize, V: Eq + Hash + EncodeSize, A: Allocator> EncodeSize fo
 
     ghost writable = { IsWritableBiMap K.writable K.cmp V.writable V.eq };
 
-    ghost prefix_free = { bimap_prefix_free K.enc K.writable K.cmp K.prefix_free V.enc V.writable V.prefix_free V.eq };
+    ghost prefix_free = { bimap_prefix_free K.enc K.writable K.cmp K.prefix_free
+        V.enc V.writable V.prefix_free V.eq };
 
-    ghost text_of_bytes = { λ m h. map_bytes K.enc K.writable K.cmp K.prefix_free V.enc V.writable K.text_of_bytes V.text_of_bytes m h.map };
+    ghost text_of_bytes = { λ m h. map_bytes K.enc K.writable K.cmp K.prefix_free
+        V.enc V.writable K.text_of_bytes V.text_of_bytes m h.map };
 
     fn encode_size(&self) -> usize {
         self.map.encode_size()
@@ -47,11 +49,15 @@ impl<
 
     ghost allowed = { λ c. IsAllowedMap c.0 (K.allowed c.1) (V.allowed c.2) };
 
-    ghost fault = { λ c. BiMapFault K.enc K.writable K.cmp (K.allowed c.1) (K.fault c.1) V.enc V.writable (V.allowed c.2) (V.fault c.2) V.eq c.0 };
+    ghost fault = { λ c. BiMapFault K.enc K.writable K.cmp (K.allowed c.1) (K.fault c.1)
+        V.enc V.writable (V.allowed c.2) (V.fault c.2) V.eq c.0 };
 
     ghost memory_free = { λ c. IsListMemoryFree (K.fault c.1) (K.memory_free c.1) c.0 };
 
-    ghost read_laws = { λ alloc c. bimap_laws K.enc K.writable K.cmp K.prefix_free V.enc V.writable V.prefix_free K.eq K.total K.matches_eq K.canonical V.eq V.Eq.laws V.canonical c.0 (K.allowed c.1) (K.fault c.1) (V.allowed c.2) (V.fault c.2) (K.read_laws alloc c.1) (V.read_laws alloc c.2) };
+    ghost read_laws = { λ alloc c. bimap_laws K.enc K.writable K.cmp K.prefix_free
+        V.enc V.writable V.prefix_free K.eq K.total K.matches_eq K.canonical
+        V.eq V.Eq.laws V.canonical c.0 (K.allowed c.1) (K.fault c.1) (V.allowed c.2) (V.fault c.2)
+        (K.read_laws alloc c.1) (V.read_laws alloc c.2) };
 
     /// Reads a map, and then looks for equal values, in a hash set on the same allocator: a fault
     /// of any byte of the map comes before equal values.
@@ -77,7 +83,9 @@ impl<
 }
 
 impl<K: Ord + Canonical, V: Canonical + Hash, A: Allocator> Canonical for BiMap<K, V, A> {
-    ghost canonical = { bimap_canonical K.enc K.writable K.cmp K.prefix_free V.enc V.writable V.prefix_free K.eq K.total K.matches_eq K.canonical V.eq V.Eq.laws V.canonical };
+    ghost canonical = { bimap_canonical K.enc K.writable K.cmp K.prefix_free
+        V.enc V.writable V.prefix_free K.eq K.total K.matches_eq K.canonical
+        V.eq V.Eq.laws V.canonical };
 }
 
 /// The cuts at which a text is no bimap exclude one another: no text has a fault of the map and one
@@ -89,8 +97,10 @@ pub fn bimap_fault_law<K: Ord + Canonical + Read<A>, V: Canonical + Read<A>, A: 
     value: &V::Cfg,
 )
     ensures { (s : List ℕ) (f g : Fault)
-        (v : BiMapFault K.enc K.writable K.cmp (K.allowed key.now) (K.fault key.now) V.enc V.writable (V.allowed value.now) (V.fault value.now) V.eq range s f)
-        (w : BiMapFault K.enc K.writable K.cmp (K.allowed key.now) (K.fault key.now) V.enc V.writable (V.allowed value.now) (V.fault value.now) V.eq range s g)
+        (v : BiMapFault K.enc K.writable K.cmp (K.allowed key.now) (K.fault key.now)
+        V.enc V.writable (V.allowed value.now) (V.fault value.now) V.eq range s f)
+        (w : BiMapFault K.enc K.writable K.cmp (K.allowed key.now) (K.fault key.now)
+        V.enc V.writable (V.allowed value.now) (V.fault value.now) V.eq range s g)
         → bimap_cut v ≡ bimap_cut w }
 {
     // The contract alone speaks of them.

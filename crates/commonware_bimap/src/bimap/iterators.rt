@@ -1,6 +1,5 @@
 //! The pairs of a bimap, lent or given, one by one.
-ghost use Rattle.std.specs.Prelude.{◌≡◌, ◌<◌, ◌^◌, length};
-ghost use Rattle.std.specs.Map.Iter.{GivesInOrder, GivesInReverse, ShowsInOrder, ShowsInReverse, deref_pair};
+ghost use Rattle.commonware_map.specs.Pairs.{GivesPairsOf, ShowsPairsOf};
 
 use super::BiMap;
 use commonware_pairs::{MapIntoIter, Pairs};
@@ -12,7 +11,7 @@ impl<K: Ord + Drop, V: Eq + Hash + Drop, A: Allocator> IntoIterator for BiMap<K,
 
     type IntoIter = MapIntoIter<K, V, A>;
 
-    ghost into_iter_gives = { λ map pairs. (pairs ≡ map) × (length map < 2 ^ 64) × GivesInOrder (K × V) × GivesInReverse (K × V) };
+    ghost into_iter_gives = { GivesPairsOf };
 
     /// The pairs in the order of their keys, from both ends, with the exact number left. It takes
     /// no memory.
@@ -27,7 +26,7 @@ impl<'a, K: Ord, V: Eq + Hash, A: Allocator> IntoIterator for &'a BiMap<K, V, A>
 
     type IntoIter = Pairs<'a, K, V>;
 
-    ghost into_iter_gives = { λ map pairs. (pairs ≡ map.now) × (length map.now < 2 ^ 64) × ShowsInOrder (deref_pair {K = K} {X = V}) × ShowsInReverse (deref_pair {K = K} {X = V}) };
+    ghost into_iter_gives = { λ map left. ShowsPairsOf map.now left };
 
     /// The pairs in the order of their keys, from both ends, with the exact number left.
     fn into_iter(self) -> Pairs<'a, K, V> {

@@ -27,7 +27,8 @@ pub(super) struct Labelled {
 }
 
 impl EqClone for Labelled {
-    ghost clones_are_equal = { λ x y same. equal_from_same nat_eq_equiv x.number y.number (ap (λ v. v.number) same) };
+    ghost clones_are_equal = { λ x y same.
+        equal_from_same nat_eq_equiv x.number y.number (ap (λ v. v.number) same) };
 }
 
 impl EncodeSize for Labelled {
@@ -72,7 +73,8 @@ impl<A: Allocator> Read<A> for Labelled {
 
     ghost memory_free = { λ _ _. Unit {0} };
 
-    ghost read_laws = { λ _ _. laws_on (λ v. v.number) byte IsByte (λ _. Unit {0}) byte_fault (λ n _ _. (record { number = n; label = 114 }, refl)) byte_laws };
+    ghost read_laws = { λ _ _. laws_on (λ v. v.number) byte IsByte (λ _. Unit {0}) byte_fault
+        (λ n _ _. (record { number = n; label = 114 }, refl)) byte_laws };
 
     fn read_cfg(alloc: A, src: &mut Source<'_>, cfg: &()) -> Result<Labelled, Error> {
         match u8::read_cfg(alloc, src, cfg) {
