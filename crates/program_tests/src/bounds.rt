@@ -30,10 +30,13 @@ pub const TEN: &str = "n 10\n\
 /// The report on the bounds for the most members there can be.
 pub const MOST: &str = "n 4294967295\n\
     N3f1 faults 1431655764 quorum 2863311531\n\
-    N3f1 refuted 1431655765 first 0..2863311530 second 1431655765..4294967295 shared 1431655765 needed 1431655766\n\
+    N3f1 refuted 1431655765 first 0..2863311530 second 1431655765..4294967295 \
+    shared 1431655765 needed 1431655766\n\
     N5f1 faults 858993458 quorum 3435973837 m-quorum 1717986917\n\
-    N5f1 refuted 858993459 first 0..3435973836 second 858993459..4294967295 shared 2576980377 needed 2576980378\n\
-    N5f1 m-refuted 1717986916 first 0..3435973837 second 2576980379..4294967295 shared 858993458 needed 858993459\n";
+    N5f1 refuted 858993459 first 0..3435973836 second 858993459..4294967295 \
+    shared 2576980377 needed 2576980378\n\
+    N5f1 m-refuted 1717986916 first 0..3435973837 second 2576980379..4294967295 \
+    shared 858993458 needed 858993459\n";
 
 /// Two ranges, and how many positions they share.
 fn ranges(first: Range<u32>, second: Range<u32>, shared: u32) -> Refutation {

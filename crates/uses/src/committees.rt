@@ -9,7 +9,8 @@ use std::alloc::Global;
 /// How many members have to sign, or `None` where there are none, or more than fit a `u32`: all but
 /// the third part of the others, rounded down.
 pub fn signatures_needed(members: &Set<u32, Global>) -> Option<u32>
-    ensures { SomeIff result ((1 ≤ length members.now) × (length members.now < 2 ^ 32)) (length members.now - (length members.now - 1) / 3) }
+    ensures { SomeIff result ((1 ≤ length members.now) × (length members.now < 2 ^ 32))
+        (length members.now - (length members.now - 1) / 3) }
 {
     let count = members.len();
     if count == 0 || count > 4294967295 {

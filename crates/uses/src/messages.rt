@@ -14,10 +14,14 @@ pub fn read_members(
     bytes: &[u8],
     allowed: RangeCfg<usize>,
 ) -> Result<(Set<Participant, Global>, usize), Error>
-    ensures bytes { IfOk result (λ p. (after : List ℕ) × (bytes.now ≡ ⟦<Set<Participant, Global> as EncodeSize>⟧.enc p.0 ++ after)) }
-    ensures taken { IfOk result (λ p. p.1 ≡ length (⟦<Set<Participant, Global> as EncodeSize>⟧.enc p.0)) }
+    ensures bytes { IfOk result (λ p. (after : List ℕ)
+        × (bytes.now ≡ ⟦<Set<Participant, Global> as EncodeSize>⟧.enc p.0 ++ after)) }
+    ensures taken { IfOk result (λ p.
+        p.1 ≡ length (⟦<Set<Participant, Global> as EncodeSize>⟧.enc p.0)) }
     ensures count { IfOk result (λ p. Within allowed (length p.0)) }
-    ensures refused { IfErr result (Refuses (⟦<Set<Participant, Global> as Read<Global>>⟧.fault (allowed, tt) bytes.now) (⟦<Set<Participant, Global> as Read<Global>>⟧.memory_free (allowed, tt) bytes.now)) }
+    ensures refused { IfErr result (Refuses
+        (⟦<Set<Participant, Global> as Read<Global>>⟧.fault (allowed, tt) bytes.now)
+        (⟦<Set<Participant, Global> as Read<Global>>⟧.memory_free (allowed, tt) bytes.now)) }
 {
     let mut source = Source::new(bytes);
     let members = Set::read_cfg(alloc, &mut source, &(allowed, ()))?;
@@ -29,8 +33,10 @@ pub fn write_members(
     alloc: Global,
     members: &Set<Participant, Global>,
 ) -> Result<Option<Vec<u8>>, AllocError>
-    ensures writable { IfOk result (λ bytes. IsSome bytes ↔ ⟦<Set<Participant, Global> as EncodeSize>⟧.writable members.now) }
-    ensures bytes { IfOk result (λ bytes. IfSome bytes (λ v. v.items ≡ ⟦<Set<Participant, Global> as EncodeSize>⟧.enc members.now)) }
+    ensures writable { IfOk result (λ bytes.
+        IsSome bytes ↔ ⟦<Set<Participant, Global> as EncodeSize>⟧.writable members.now) }
+    ensures bytes { IfOk result (λ bytes. IfSome bytes (λ v.
+        v.items ≡ ⟦<Set<Participant, Global> as EncodeSize>⟧.enc members.now)) }
 {
     if !members.is_writable() {
         return Ok(None);

@@ -2,14 +2,15 @@
 ghost use Rattle.std.specs.Prelude.{◌≡◌, ◌==◌, ◌↔◌, ℕ, [], IsOk, IsSomeAnd, MatchResult, true};
 ghost use Rattle.std.specs.Map.{lookup, values_of};
 ghost use Rattle.commonware_utils.specs.Ordered.{HasEqualItems, MatchError};
-ghost use Rattle.commonware_utils.specs.Ordered.{IsWholeBiMap, IsWholeSetOfClones};
+ghost use Rattle.commonware_utils.specs.Ordered.{IsWholeBiMap, IsWholeSetOfClones, on_both, on_keys};
 
 use commonware_utils::ordered::{BiMap, Error, Map};
 use std::alloc::Global;
 
 /// The powers of the members, none of whom may be named twice.
 pub fn powers(alloc: Global, members: &[(u32, u64)]) -> Result<Map<u32, u64, Global>, Error>
-    ensures { IsWholeSetOfClones (λ p q. p.0 == q.0) (λ p q. ⟦<u32 as Ord>⟧.cmp p.0 q.0) (λ p q. ⟦<u32 as Clone>⟧.is_clone p.0 q.0 × ⟦<u64 as Clone>⟧.is_clone p.1 q.1) members.now result }
+    ensures { IsWholeSetOfClones (on_keys ◌==◌) (on_keys ⟦<u32 as Ord>⟧.cmp)
+        (on_both ⟦<u32 as Clone>⟧.is_clone ⟦<u64 as Clone>⟧.is_clone) members.now result }
 {
     Map::try_from_slice(alloc, members)
 }
@@ -33,7 +34,8 @@ pub fn registry_of(keys: Map<u32, u64, Global>) -> Result<BiMap<u32, u64, Global
 
 /// The member that a key belongs to, or `None` where it belongs to none.
 pub fn owner(keys: &BiMap<u32, u64, Global>, key: u64) -> Option<u32>
-    ensures { (member : ℕ) → IsSomeAnd result (λ k. (k == member) ≡ true) ↔ IsSomeAnd (lookup (λ k. k == member) keys.now) (λ held. (held == key) ≡ true) }
+    ensures { (member : ℕ) → IsSomeAnd result (λ k. (k == member) ≡ true)
+        ↔ IsSomeAnd (lookup (λ k. k == member) keys.now) (λ held. (held == key) ≡ true) }
 {
     keys.get_key(&key).copied()
 }

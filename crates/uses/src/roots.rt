@@ -15,7 +15,8 @@ pub fn signed_text(
     message: &[u8],
 ) -> Result<Option<Vec<u8>>, AllocError>
     ensures short { IfOk result (λ text. IsSome text ↔ (length namespace.now < 2 ^ 32)) }
-    ensures text { IfOk result (λ text. IfSome text (λ v. v.items ≡ union_text namespace.now message.now)) }
+    ensures text { IfOk result (λ text. IfSome text (λ v.
+        v.items ≡ union_text namespace.now message.now)) }
 {
     if namespace.len() > 4294967295 {
         return Ok(None);
@@ -26,7 +27,8 @@ pub fn signed_text(
 /// How many bytes to make room for, at least one for each participant.
 pub fn room(participants: NonZeroU32, wanted: usize) -> usize
     ensures most { result ≤ MAX_ALLOCATION_BYTES }
-    ensures enough { (non_zero_u32_get participants ≤ result) × (wanted ≤ MAX_ALLOCATION_BYTES → wanted ≤ result) }
+    ensures enough { (non_zero_u32_get participants ≤ result)
+        × (wanted ≤ MAX_ALLOCATION_BYTES → wanted ≤ result) }
 {
     let least: u64 = participants.widen();
     max(least as usize, wanted).min(MAX_ALLOCATION_BYTES)
