@@ -2,6 +2,8 @@
 #![tactic(auto)]
 
 #[cfg(test)]
+mod builders;
+#[cfg(test)]
 mod drawn;
 #[cfg(test)]
 mod refused_bimaps;

@@ -1,7 +1,7 @@
 //! The builders of sets and maps at many items in many orders, with each request for memory
 //! refused in turn, and lists that are sets already.
-use crate::refused_maps::{self, BUILDERS as MAP_BUILDERS};
-use crate::refused_sets::{self, BUILDERS as SET_BUILDERS};
+use crate::builders::{BUILDERS, Builder};
+use crate::{refused_maps, refused_sets};
 use commonware_utils::ordered::{Error, Set};
 use std::test::Fail;
 use test_equipment::Refusing;
@@ -43,7 +43,7 @@ impl Order {
 
 /// A builder of sets at the numbers in an order.
 #[derive(Drop)]
-struct SetOf(refused_sets::Builder, Order);
+struct SetOf(Builder, Order);
 
 impl Refusable for SetOf {
     fn outcome(&self, heap: Heap<'_>, granted: u64) -> Outcome {
@@ -58,7 +58,7 @@ impl Refusable for SetOf {
 
 /// A builder of maps at the numbers in an order, and their positions.
 #[derive(Drop)]
-struct MapOf(refused_maps::Builder, Order);
+struct MapOf(Builder, Order);
 
 impl Refusable for MapOf {
     fn outcome(&self, heap: Heap<'_>, granted: u64) -> Outcome {
@@ -80,7 +80,7 @@ impl Refusable for MapOf {
 #[test]
 fn each_request_of_a_set_is_refused_in_turn(rt: HostRuntime) {
     for order in ORDERS {
-        for builder in SET_BUILDERS {
+        for builder in BUILDERS {
             let call = SetOf(builder, order);
             assert!(rt; asks_for(rt.alloc(), &call, 1), "{builder:?} {order:?}");
         }
@@ -90,7 +90,7 @@ fn each_request_of_a_set_is_refused_in_turn(rt: HostRuntime) {
 #[test]
 fn each_request_of_a_map_is_refused_in_turn(rt: HostRuntime) {
     for order in ORDERS {
-        for builder in MAP_BUILDERS {
+        for builder in BUILDERS {
             let call = MapOf(builder, order);
             assert!(rt; asks_for(rt.alloc(), &call, 1), "{builder:?} {order:?}");
         }

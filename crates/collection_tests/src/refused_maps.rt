@@ -1,34 +1,12 @@
 //! The builders of maps and their pairs with each request for memory refused in turn, and the
 //! calls that take none.
+use crate::builders::{BUILDERS, Builder};
 use commonware_utils::codec::EncodeSize;
 use commonware_utils::ordered::{Error, Map, Set};
 use commonware_utils::{TryCollect, TryFromIterator};
 use std::test::Fail;
 use test_equipment::Refusing;
 use test_equipment::walk::{Heap, Outcome, Refusable, asks_for, full, refused};
-
-/// A way to make a map of pairs.
-#[derive(Clone, Copy, Debug)]
-pub(super) enum Builder {
-    Dedup,
-    Iterator,
-    Collect,
-    List,
-    Slice,
-    Array,
-    ArrayRef,
-}
-
-/// Each of them.
-pub(super) const BUILDERS: [Builder; 7] = [
-    Builder::Dedup,
-    Builder::Iterator,
-    Builder::Collect,
-    Builder::List,
-    Builder::Slice,
-    Builder::Array,
-    Builder::ArrayRef,
-];
 
 /// Pairs of different keys.
 const PAIRS: [(u32, u8); 4] = [(5, 50), (1, 10), (9, 90), (3, 30)];

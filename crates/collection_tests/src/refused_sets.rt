@@ -1,34 +1,12 @@
 //! The builders of sets with each request for memory refused in turn, and the calls on sets that
 //! take none.
+use crate::builders::{BUILDERS, Builder};
 use commonware_utils::codec::EncodeSize;
 use commonware_utils::ordered::{Error, Quorum, Set};
 use commonware_utils::{N3f1, N5f1, Participant, TryCollect, TryFromIterator};
 use std::test::Fail;
 use test_equipment::Refusing;
 use test_equipment::walk::{Heap, Outcome, Refusable, asks_for, full, refused};
-
-/// A way to make a set of items.
-#[derive(Clone, Copy, Debug)]
-pub(super) enum Builder {
-    Dedup,
-    Iterator,
-    Collect,
-    List,
-    Slice,
-    Array,
-    ArrayRef,
-}
-
-/// Each of them.
-pub(super) const BUILDERS: [Builder; 7] = [
-    Builder::Dedup,
-    Builder::Iterator,
-    Builder::Collect,
-    Builder::List,
-    Builder::Slice,
-    Builder::Array,
-    Builder::ArrayRef,
-];
 
 /// Items, and the set of them if all differ.
 const ITEMS: [([u32; 5], &[u32], bool); 3] = [

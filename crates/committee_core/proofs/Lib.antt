@@ -2,5 +2,6 @@ pub mod Chunks
 pub mod CommitteeFronts
 pub mod Counts
 pub mod Ends
+pub mod Numbers
 pub mod Refusals
 pub mod Words

@@ -21,14 +21,9 @@ pub(crate) fn bounds_report<A: Allocator>(alloc: A, n: NonZeroU32) -> Result<Str
     let n = n.get();
     let mut text = String::new(alloc);
     write_n(&mut text, n)?;
-    write_n3f1(&mut text, N3f1::max_faults(n), N3f1::quorum(n))?;
+    write_n3f1(&mut text, n)?;
     write_n3f1_refuted(&mut text, n)?;
-    write_n5f1(
-        &mut text,
-        N5f1::max_faults(n),
-        N5f1::quorum(n),
-        N5f1::m_quorum(n),
-    )?;
+    write_n5f1(&mut text, n)?;
     write_n5f1_refuted(&mut text, n)?;
     write_m_refuted(&mut text, n)?;
     Ok(text)

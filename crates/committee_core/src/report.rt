@@ -1,7 +1,8 @@
 //! The report on a committee, as text in memory.
 //!
 //! Each line has a function of its own, which appends it.
-ghost use Rattle.std.specs.Prelude.{◌≡◌, ◌^◌, ◌<◌, ◌≤◌, ◌++◌, length, OnOk, IfOk, string_bytes};
+ghost use Rattle.std.specs.Prelude.{◌≡◌, ◌+◌, ◌-◌, ◌*◌, ◌^◌, ◌<◌, ◌≤◌, ◌++◌, length, OnOk, IfOk, string_bytes};
+ghost use Rattle.commonware_faults.specs.Counts.{n3f1_faults, n5f1_faults};
 ghost use Rattle.committee_core.specs.Report.{IsMembersReport, members_line, member_line};
 ghost use Rattle.committee_core.specs.Report.{n3f1_line, n5f1_line};
 
@@ -25,13 +26,8 @@ pub(crate) fn committee_report<A: Allocator>(
         write_member(&mut text, position, item)?;
     }
     let n = members.len() as u32;
-    write_n3f1(&mut text, N3f1::max_faults(n), N3f1::quorum(n))?;
-    write_n5f1(
-        &mut text,
-        N5f1::max_faults(n),
-        N5f1::quorum(n),
-        N5f1::m_quorum(n),
-    )?;
+    write_n3f1(&mut text, n)?;
+    write_n5f1(&mut text, n)?;
     Ok(text)
 }
 
@@ -54,29 +50,27 @@ fn write_member<A: Allocator>(
     writeln!(text, "{position} {item}")
 }
 
-/// The numbers of the model N3f1.
+/// The numbers of the model N3f1 for `n` members.
 #[tactic(auto, unfolding(crate::specs::Report::n3f1_line))]
-pub(crate) fn write_n3f1<A: Allocator>(
-    text: &mut String<A>,
-    faults: u32,
-    quorum: u32,
-) -> Result<(), AllocError>
-    ensures { OnOk result
-        (string_bytes text.new ≡ string_bytes text.old ++ n3f1_line faults quorum) }
+pub(crate) fn write_n3f1<A: Allocator>(text: &mut String<A>, n: u32) -> Result<(), AllocError>
+    requires { 1 ≤ n }
+    ensures { OnOk result (string_bytes text.new
+        ≡ string_bytes text.old ++ n3f1_line (n3f1_faults n) (n - n3f1_faults n)) }
 {
+    let faults = N3f1::max_faults(n);
+    let quorum = N3f1::quorum(n);
     writeln!(text, "N3f1 faults {faults} quorum {quorum}")
 }
 
-/// The numbers of the model N5f1.
+/// The numbers of the model N5f1 for `n` members.
 #[tactic(auto, unfolding(crate::specs::Report::n5f1_line))]
-pub(crate) fn write_n5f1<A: Allocator>(
-    text: &mut String<A>,
-    faults: u32,
-    quorum: u32,
-    m: u32,
-) -> Result<(), AllocError>
-    ensures { OnOk result
-        (string_bytes text.new ≡ string_bytes text.old ++ n5f1_line faults quorum m) }
+pub(crate) fn write_n5f1<A: Allocator>(text: &mut String<A>, n: u32) -> Result<(), AllocError>
+    requires { 1 ≤ n }
+    ensures { let f = n5f1_faults n in OnOk result (string_bytes text.new
+        ≡ string_bytes text.old ++ n5f1_line f (n - f) (2 * f + 1)) }
 {
+    let faults = N5f1::max_faults(n);
+    let quorum = N5f1::quorum(n);
+    let m = N5f1::m_quorum(n);
     writeln!(text, "N5f1 faults {faults} quorum {quorum} m-quorum {m}")
 }

@@ -10,7 +10,7 @@ use Rattle.std.proofs.Math.Seq.{drop-nil}
 use Rattle.commonware_base.specs.Fault.{Fault, EndOfBuffer, InvalidVarint, InvalidLength, Invalid}
 use Rattle.commonware_base.specs.Text.{AreBytes}
 use Rattle.commonware_base.specs.TextLaws.{bytes_append}
-use Rattle.commonware_base.specs.Varint.{IsContinued, AreContinued, groups_sum, IsVarint, groups, varint, varint_size}
+use Rattle.commonware_base.specs.Varint.{AreContinued, groups_sum, IsVarint, groups, varint, varint_size}
 use Rattle.commonware_base.specs.Varint.{IsTruncated, IsMisspelled, varint_fault}
 
 -- Two texts that agree: their high bytes in front, and the byte after them, are the same.
@@ -290,15 +290,7 @@ pub number_of : (s : List ℕ) (front : List ℕ) (last : ℕ) (rest : List ℕ)
     ((n : ℕ) × (n ≡ groups_sum (front ++ last ∷ [])) × IsVarint n (front ++ last ∷ [])) ⊎ IsMisspelled s
 number_of s front last rest begins high short stops = elim (cases_lt 0 last) [
   | inr z ↦ (let zero' : last ≡ 0 = omega arith in elim (cases_lt 0 (length front)) [
-    | inl p ↦ inr
-        (record {
-          front = front;
-          last = last;
-          rest = rest;
-          begins = begins;
-          high = high;
-          wrong = inl (zero', p, short);
-        })
+    | inl p ↦ inr (misspelled (inl (zero', p, short)))
     | inr p ↦ inl (good (omega arith) (λ _. nil_of front (omega arith)) (λ four. omega arith))
   ])
   | inl p ↦ elim (cases_lt 15 last) [
@@ -307,15 +299,7 @@ number_of s front last rest begins high short stops = elim (cases_lt 0 last) [
       | inl t ↦ inl
           (good (elim stops [ inl a ↦ a | inr a ↦ absurd (omega arith) ]) (λ z. absurd (omega arith))
           (λ four. absurd (omega arith)))
-      | inr t ↦ inr
-          (record {
-            front = front;
-            last = last;
-            rest = rest;
-            begins = begins;
-            high = high;
-            wrong = inr (omega arith, q);
-          })
+      | inr t ↦ inr (misspelled (inr (omega arith, q)))
     ]
   ]
 ]
@@ -323,6 +307,11 @@ number_of s front last rest begins high short stops = elim (cases_lt 0 last) [
     nil_of : (f : List ℕ) → length f ≡ 0 → f ≡ []
     nil_of [] e = refl
     nil_of (b ∷ f) e = absurd (omega arith)
+
+    misspelled : ((last ≡ 0) × (0 < length front) × (length front ≤ 4)) ⊎ ((length front ≡ 4) × (15 < last))
+        → IsMisspelled s
+    misspelled wrong =
+        record { front = front; last = last; rest = rest; begins = begins; high = high; wrong = wrong }
 
     good : last < 128 → (last ≡ 0 → front ≡ []) → (length front ≡ 4 → last ≤ 15)
         → (n : ℕ) × (n ≡ groups_sum (front ++ last ∷ [])) × IsVarint n (front ++ last ∷ [])

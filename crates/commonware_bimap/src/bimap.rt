@@ -154,8 +154,8 @@ impl<K: Ord, V: Eq + Hash, A: Allocator> BiMap<K, V, A> {
         self.map.iter_pairs()
     }
 
-    /// The place of the key that equals the one asked, or `None` where none does. The keys are
-    /// halved: O(log n) comparisons.
+    /// The place of the key that equals the one asked, or `None` where none does. It takes
+    /// O(log n) comparisons.
     pub fn position(&self, key: &K) -> Option<usize>
         ensures place { IsPlaceOf K.eq (keys_of self.now) key.now result }
         ensures only { (p : ℕ) → (result ≡ Some p) ↔ HasEqualAt K.eq (keys_of self.now) key.now p }
@@ -170,8 +170,8 @@ impl<K: Ord, V: Eq + Hash, A: Allocator> BiMap<K, V, A> {
         self.map.value(index)
     }
 
-    /// The value of the key that equals the one asked, or `None` where none does. The keys are
-    /// halved: O(log n) comparisons.
+    /// The value of the key that equals the one asked, or `None` where none does. It takes
+    /// O(log n) comparisons.
     pub fn get_value(&self, key: &K) -> Option<&V>
         ensures { option_copied result ≡ lookup (λ k. K.eq k key.now) self.now }
     {

@@ -3,7 +3,7 @@ use Rattle.std.proofs.Common.{◌≡◌, inl, inr, ℕ, zero, suc, ◌+◌, ◌-
 use Rattle.std.proofs.Common.{[], ◌∷◌, length, refl, ap, sym, ◌∙◌, arith}
 use Rattle.std.proofs.lemmas.Bool.{cases_order}
 use Rattle.commonware_faults.specs.Counts.{GreatestFit}
-use Rattle.commonware_faults.specs.Subsets.{size, shared, places, Overlap, OverlapAtLeast, GreatestFor, Greatest3}
+use Rattle.commonware_faults.specs.Subsets.{size, shared, places, Overlap, OverlapAtLeast, Greatest3}
 use Rattle.commonware_faults.specs.Subsets.{Greatest5, LeastM, IsIn, IsOutside, MeetsOutside}
 use Rattle.commonware_faults.specs.SubsetSizeLaws.{size-le-shared, size-places, shared-places, length-passing}
 

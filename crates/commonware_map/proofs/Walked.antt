@@ -10,6 +10,8 @@ use Rattle.std.specs.Vec.Iter.{into_iter_items, into_iter_len, into_iter_steps}
 use Rattle.std.specs.declared.iter.Zip.{Zip}
 use Rattle.std.specs.declared.slice.Iter.{Iter}
 use Rattle.std.specs.declared.vec.IntoIter.{IntoIter}
+use Rattle.commonware_base.specs.Calls.{CallsGiveAll}
+use Rattle.commonware_base.specs.CallLaws.{CallsSoFar, so_far_all}
 use Rattle.commonware_map.proofs.Columns.{zip-parts}
 use Rattle.commonware_map.proofs.Zipped.{empty_from_len, zip_nothing}
 
@@ -43,3 +45,7 @@ module _ {K V Z : Type 0} where
 
       second : (u : IntoIter V Z) × into_iter_steps (zip_second s) None u → pairs_left s ≡ []
       second v = ap (λ l. zip (iter_rest (zip_first s)) l) (empty_from_len (into_iter_items (zip_second s)) (sym v.1.0 ∙ h)) ∙ zip_nothing (iter_rest (zip_first s))
+
+  -- a call was made at each pair
+  pub all_called : {F R : Type 0} (step : F → K × V → R → F → Type 0) (f : F) (es : List (K × V)) (rs : List R) (now : F) (s t : Zip (Iter K) (IntoIter V Z)) → CallsSoFar step f es rs now (pairs_left s) → zip_steps iter_steps into_iter_steps s None t → IsCounted s → CallsGiveAll step f es rs
+  all_called step f es rs now s t h w counted = so_far_all step f es rs now (pairs_left s) h (walked_all s t w counted)

@@ -121,8 +121,8 @@ impl<K: Ord, V, A: Allocator> Map<K, V, A> {
         self.keys().iter()
     }
 
-    /// The place of the key that equals the one asked, or `None` where none does. The keys are
-    /// halved: O(log n) comparisons.
+    /// The place of the key that equals the one asked, or `None` where none does. It takes
+    /// O(log n) comparisons.
     pub fn position(&self, key: &K) -> Option<usize>
         ensures place { IsPlaceOf K.eq (keys_of self.now) key.now result }
         ensures only { (p : ℕ) → (result ≡ Some p) ↔ HasEqualAt K.eq (keys_of self.now) key.now p }
@@ -137,8 +137,8 @@ impl<K: Ord, V, A: Allocator> Map<K, V, A> {
         self.values().get(index)
     }
 
-    /// The value of the key that equals the one asked, or `None` where none does. The keys are
-    /// halved: O(log n) comparisons.
+    /// The value of the key that equals the one asked, or `None` where none does. It takes
+    /// O(log n) comparisons.
     pub fn get_value(&self, key: &K) -> Option<&V>
         ensures { option_copied result ≡ lookup (λ k. K.eq k key.now) self.now }
     {

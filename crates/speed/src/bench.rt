@@ -32,6 +32,20 @@ pub struct Work<'a> {
     pub rounds: u64,
 }
 
+impl<'a> Work<'a> {
+    /// The work of the call of this name.
+    pub(crate) fn new(name: &'a str, entries: usize, rounds: u64) -> Self
+        ensures name { result.name.now ≡ name.now }
+        ensures size { (result.entries ≡ entries) × (result.rounds ≡ rounds) }
+    {
+        Work {
+            name,
+            entries,
+            rounds,
+        }
+    }
+}
+
 impl<C: Clock, W: Write> Bench<C, W> {
     /// A bench with this heap, this clock and this output.
     pub fn new(alloc: Global, clock: C, output: W) -> Self {

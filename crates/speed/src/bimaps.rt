@@ -17,11 +17,7 @@ pub fn time_bimaps<C: Clock, W: Write>(
 ) -> Result<(), Failure> {
     let alloc = bench.alloc();
     let numbers = random(alloc, count)?;
-    let work = Work {
-        name: "bimap_try_iter",
-        entries: count as usize,
-        rounds,
-    };
+    let work = Work::new("bimap_try_iter", count as usize, rounds);
     bench.line(work, 0, || {
         count_built(bimap_of(alloc, &numbers).map(|bimap| bimap.len()))
     })?;

@@ -16,11 +16,7 @@ pub(crate) fn time_bytes<C: Clock, W: Write>(
 ) -> Result<(), Failure> {
     let alloc = bench.alloc();
     let list = bytes(alloc, entries)?;
-    let work = Work {
-        name: "bytes_write",
-        entries: entries as usize,
-        rounds,
-    };
+    let work = Work::new("bytes_write", entries as usize, rounds);
     let sum = bench.line(work, 0, || Ok(written(alloc, &list)?.len() as u64))?;
     let text = written(alloc, &list)?;
     let work = Work {

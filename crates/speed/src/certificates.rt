@@ -17,17 +17,9 @@ pub(crate) fn time_committees<C: Clock, W: Write>(
     rounds: u64,
 ) -> Result<(), Failure> {
     let committee = set_of(bench.alloc(), numbers)?;
-    let work = Work {
-        name: "committee_key",
-        entries: committee.len(),
-        rounds,
-    };
+    let work = Work::new("committee_key", committee.len(), rounds);
     bench.line(work, 0, || Ok(sum_of_members(&committee)))?;
-    let work = Work {
-        name: "committee_index",
-        entries: numbers.len(),
-        rounds,
-    };
+    let work = Work::new("committee_index", numbers.len(), rounds);
     bench.line(work, 0, || Ok(sum_of_indices(&committee, numbers)))?;
     time_conflicts(bench, &committee, rounds)
 }
@@ -75,11 +67,7 @@ fn time_conflicts<C: Clock, W: Write>(
     let alloc = bench.alloc();
     let first = certificate(alloc, 1, size(committee))?;
     let second = certificate(alloc, 2, size(committee))?;
-    let work = Work {
-        name: "conflict",
-        entries: committee.len(),
-        rounds,
-    };
+    let work = Work::new("conflict", committee.len(), rounds);
     bench.line(work, 0, || count_both(alloc, committee, &first, &second))?;
     Ok(())
 }

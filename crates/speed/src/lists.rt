@@ -33,11 +33,7 @@ fn time_read<C: Clock, W: Write>(
 ) -> Result<(), Failure> {
     let alloc = bench.alloc();
     let bytes = written(alloc, list)?;
-    let work = Work {
-        name: "non_empty_read",
-        entries: list.len().get(),
-        rounds,
-    };
+    let work = Work::new("non_empty_read", list.len().get(), rounds);
     bench.line(work, 0, || count_read(alloc, &bytes))?;
     Ok(())
 }
@@ -57,11 +53,7 @@ fn time_maps<C: Clock, W: Write>(
     list: &NonEmptyVec<u32, Global>,
     rounds: u64,
 ) -> Result<(), Failure> {
-    let work = Work {
-        name: "non_empty_map",
-        entries: list.len().get(),
-        rounds,
-    };
+    let work = Work::new("non_empty_map", list.len().get(), rounds);
     bench.line(
         work,
         0,

@@ -16,11 +16,7 @@ pub(crate) fn time_maps<C: Clock, W: Write>(
     rounds: u64,
 ) -> Result<(), Failure> {
     let alloc = bench.alloc();
-    let work = Work {
-        name: "map_dedup",
-        entries: numbers.len(),
-        rounds,
-    };
+    let work = Work::new("map_dedup", numbers.len(), rounds);
     let sum = bench.line(work, 0, || Ok(map_of(alloc, numbers)?.len() as u64))?;
     let map = map_of(alloc, numbers)?;
     let sum = time_lookups(bench, &map, numbers, sum, rounds)?;
@@ -42,11 +38,7 @@ fn time_lookups<C: Clock, W: Write>(
     sum: u64,
     rounds: u64,
 ) -> Result<u64, Failure> {
-    let work = Work {
-        name: "map_get_value",
-        entries: numbers.len(),
-        rounds,
-    };
+    let work = Work::new("map_get_value", numbers.len(), rounds);
     bench.line(work, sum, || Ok(sum_of_values(map, numbers)))
 }
 
@@ -95,11 +87,7 @@ fn time_values<C: Clock, W: Write>(
     map: &Map<u32, u32, Global>,
     rounds: u64,
 ) -> Result<(), Failure> {
-    let work = Work {
-        name: "value_map",
-        entries: map.len(),
-        rounds,
-    };
+    let work = Work::new("value_map", map.len(), rounds);
     bench.line(work, 0, || {
         let other = map.map_values(|_, value| value.wrapping_add(1))?;
         Ok(other.len() as u64)
@@ -117,11 +105,7 @@ fn time_walks<C: Clock, W: Write>(
     for _ in 0..rounds {
         maps.push(map.clone()?)?;
     }
-    let work = Work {
-        name: "map_into_iter",
-        entries: map.len(),
-        rounds,
-    };
+    let work = Work::new("map_into_iter", map.len(), rounds);
     bench.line(work, 0, || match maps.pop() {
         Some(map) => Ok(sum_of_pairs(map)),
         None => Ok(0),

@@ -56,11 +56,7 @@ fn time_dedup<C: Clock, W: Write>(
     rounds: u64,
 ) -> Result<(), Failure> {
     let alloc = bench.alloc();
-    let work = Work {
-        name,
-        entries: numbers.len(),
-        rounds,
-    };
+    let work = Work::new(name, numbers.len(), rounds);
     bench.line(work, 0, || Ok(set_of(alloc, numbers)?.len() as u64))?;
     Ok(())
 }
@@ -73,11 +69,7 @@ fn time_try_vec<C: Clock, W: Write>(
     rounds: u64,
 ) -> Result<(), Failure> {
     let alloc = bench.alloc();
-    let work = Work {
-        name,
-        entries: numbers.len(),
-        rounds,
-    };
+    let work = Work::new(name, numbers.len(), rounds);
     bench.line(work, 0, || {
         let copy = Vec::from_slice(alloc, numbers)?;
         count_built(Set::try_from_vec(copy).map(|set| set.len()))
@@ -92,11 +84,7 @@ fn time_lookups<C: Clock, W: Write>(
     numbers: &[u32],
     rounds: u64,
 ) -> Result<(), Failure> {
-    let work = Work {
-        name: "set_position",
-        entries: numbers.len(),
-        rounds,
-    };
+    let work = Work::new("set_position", numbers.len(), rounds);
     bench.line(work, 0, || Ok(sum_of_places(set, numbers)))?;
     Ok(())
 }
@@ -122,18 +110,10 @@ fn time_codec<C: Clock, W: Write>(
 ) -> Result<(), Failure> {
     let alloc = bench.alloc();
     let entries = set.len();
-    let work = Work {
-        name: "set_write",
-        entries,
-        rounds,
-    };
+    let work = Work::new("set_write", entries, rounds);
     bench.line(work, 0, || Ok(written(alloc, set)?.len() as u64))?;
     let bytes = written(alloc, set)?;
-    let work = Work {
-        name: "set_read",
-        entries,
-        rounds,
-    };
+    let work = Work::new("set_read", entries, rounds);
     bench.line(work, 0, || count_read(alloc, &bytes))?;
     Ok(())
 }
@@ -154,18 +134,10 @@ fn time_clones<C: Clock, W: Write>(
     rounds: u64,
 ) -> Result<(), Failure> {
     let entries = set.len();
-    let work = Work {
-        name: "set_clone",
-        entries,
-        rounds,
-    };
+    let work = Work::new("set_clone", entries, rounds);
     bench.line(work, 0, || Ok(set.clone()?.len() as u64))?;
     let other = set.clone()?;
-    let work = Work {
-        name: "set_equal",
-        entries,
-        rounds,
-    };
+    let work = Work::new("set_equal", entries, rounds);
     bench.line(work, 0, || Ok(u64::from(*set == other)))?;
     Ok(())
 }
@@ -176,11 +148,7 @@ fn time_hashes<C: Clock, W: Write>(
     set: &Set<u32, Global>,
     rounds: u64,
 ) -> Result<(), Failure> {
-    let work = Work {
-        name: "set_hash",
-        entries: set.len(),
-        rounds,
-    };
+    let work = Work::new("set_hash", set.len(), rounds);
     bench.line(work, 0, || {
         let mut hasher = DefaultHasher::new();
         set.hash(&mut hasher);

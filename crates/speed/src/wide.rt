@@ -20,11 +20,7 @@ pub(crate) fn time_wide<C: Clock, W: Write>(
 ) -> Result<(), Failure> {
     let alloc = bench.alloc();
     let items: Vec<Member> = numbers.iter().map(|number| wide(*number)).collect(alloc)?;
-    let work = Work {
-        name: "wide_dedup",
-        entries: numbers.len(),
-        rounds,
-    };
+    let work = Work::new("wide_dedup", numbers.len(), rounds);
     bench.line(work, 0, || Ok(set_of(alloc, &items)?.len() as u64))?;
     let set = set_of(alloc, &items)?;
     time_read(bench, &set, rounds)?;
@@ -58,11 +54,7 @@ fn time_read<C: Clock, W: Write>(
 ) -> Result<(), Failure> {
     let alloc = bench.alloc();
     let bytes = written(alloc, set)?;
-    let work = Work {
-        name: "wide_read",
-        entries: set.len(),
-        rounds,
-    };
+    let work = Work::new("wide_read", set.len(), rounds);
     bench.line(work, 0, || count_read(alloc, &bytes))?;
     Ok(())
 }

@@ -10,7 +10,7 @@ use std::alloc::Allocator;
 
 impl<K: Ord, V, A: Allocator> Map<K, V, A> {
     /// The value of the key that equals the one asked, to be written, or `None` where none does.
-    /// The keys are halved: O(log n) comparisons.
+    /// It takes O(log n) comparisons.
     pub fn get_value_mut(&mut self, key: &K) -> Option<&mut V>
         ensures* writes_back { sem 𝓛 (LendsValueOf K.row V.row A.row
             K.cmp K.eq K.partial_cmp A.Allocator self.entry (λ k. K.eq k key.now) result) }

@@ -1,15 +1,10 @@
-use Rattle.std.proofs.Common.{◌+◌, ◌-◌, ◌*◌, ◌/◌, arith}
+use Rattle.std.proofs.Common.{◌+◌, ◌*◌, arith}
 use Rattle.std.proofs.lemmas.Grind.{common_steps}
-use Rattle.commonware_faults.specs.SubsetLaws.{n3f1_greatest, n5f1_greatest, n5f1_least_m}
+use Rattle.commonware_faults.specs.Counts.{n3f1_faults, n5f1_faults}
+use Rattle.committee_core.proofs.Numbers.{are_numbers}
 use Rattle.committee_core.proofs.bounds_report.bounds_report.Goals as goal
 
 pub returns : goal.returns
 returns g c =
     let n = c.args.n.value in
-    let some = c.args.n.ok in (
-      (n - 1) / 3,
-      (n - 1) / 5,
-      2 * ((n - 1) / 5) + 1,
-      record { n3f1 = n3f1_greatest n some; n5f1 = n5f1_greatest n some; m_quorum = n5f1_least_m n some },
-      grind (arith, common_steps),
-    )
+    (n3f1_faults n, n5f1_faults n, 2 * n5f1_faults n + 1, are_numbers n c.args.n.ok, grind (arith, common_steps))

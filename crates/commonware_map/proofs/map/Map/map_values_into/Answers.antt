@@ -1,10 +1,10 @@
 use Rattle.std.proofs.Common.{length, ap, refl, sym, ◌∙◌, arith}
 use Rattle.std.proofs.lemmas.Map.Entries.{length-keys_of}
 use Rattle.std.specs.Slice.Iter.{iter_rest}
-use Rattle.commonware_base.specs.CallLaws.{so_far_all, so_far_more, so_far_none, takes_next}
+use Rattle.commonware_base.specs.CallLaws.{so_far_more, so_far_none, takes_next}
 use Rattle.commonware_map.specs.ValueMaps.{CalledAtPair, TakesPair}
 use Rattle.commonware_map.proofs.Calls.{as_many, keys_are, values_are}
-use Rattle.commonware_map.proofs.Walked.{counted_still, walk_starts, walked_all, walked_one}
+use Rattle.commonware_map.proofs.Walked.{all_called, counted_still, walk_starts, walked_one}
 use Rattle.commonware_map.proofs.map.Map.map_values_into.Goals as goal
 
 pub loop-key-init : goal.loop-key-init
@@ -36,15 +36,15 @@ f-requires g c =
 
 pub from_columns-requires : goal.from_columns-requires
 from_columns-requires g c =
-    let all = so_far_all (CalledAtPair g.F.FnMut) _ _ _ _ _ c.loop-key.invariant.calls (walked_all c.loop-key.key-iterator c.next.new.self c.in-None.ensures.steps c.loop-key.invariant.counted) in
+    let all = all_called (CalledAtPair g.F.FnMut) _ _ _ _ c.loop-key.key-iterator c.next.new.self c.loop-key.invariant.calls c.in-None.ensures.steps c.loop-key.invariant.counted in
     as_many (CalledAtPair g.F.FnMut) _ _ _ _ all (ap length c.into_columns-keys.ensures.0 ∙ length-keys_of c.args.self)
 
 pub returns-clause-keys : goal.returns-clause-keys
 returns-clause-keys g c =
-    let all = so_far_all (CalledAtPair g.F.FnMut) _ _ _ _ _ c.loop-key.invariant.calls (walked_all c.loop-key.key-iterator c.next.new.self c.in-None.ensures.steps c.loop-key.invariant.counted) in
+    let all = all_called (CalledAtPair g.F.FnMut) _ _ _ _ c.loop-key.key-iterator c.next.new.self c.loop-key.invariant.calls c.in-None.ensures.steps c.loop-key.invariant.counted in
     keys_are (CalledAtPair g.F.FnMut) _ _ _ _ all (ap length c.into_columns-keys.ensures.0 ∙ length-keys_of c.args.self) _ c.from_columns.ensures ∙ c.into_columns-keys.ensures.0
 
 pub returns-clause-values : goal.returns-clause-values
 returns-clause-values g c =
-    let all = so_far_all (CalledAtPair g.F.FnMut) _ _ _ _ _ c.loop-key.invariant.calls (walked_all c.loop-key.key-iterator c.next.new.self c.in-None.ensures.steps c.loop-key.invariant.counted) in
+    let all = all_called (CalledAtPair g.F.FnMut) _ _ _ _ c.loop-key.key-iterator c.next.new.self c.loop-key.invariant.calls c.in-None.ensures.steps c.loop-key.invariant.counted in
     values_are (CalledAtPair g.F.FnMut) _ _ _ _ all (ap length c.into_columns-keys.ensures.0 ∙ length-keys_of c.args.self) _ c.from_columns.ensures

@@ -1,50 +1,50 @@
-use Rattle.std.proofs.Common.{Ok, length, ap, refl, sym, subst, ◌∙◌, ◌≡◌, ◌∷◌, arith}
+use Rattle.std.proofs.Common.{length, ap, refl, sym, subst, ◌∙◌, ◌≡◌, ◌∷◌, arith}
 use Rattle.std.specs.Fn.{Called}
 use Rattle.std.specs.List.{AllZip}
 use Rattle.std.specs.Map.{keys_of}
 use Rattle.commonware_base.specs.CallLaws.{so_far_all, so_far_more, so_far_none}
-use Rattle.commonware_map.specs.ValueMaps.{CalledAtRefs}
+use Rattle.commonware_map.specs.ValueMaps.{CalledAtRefs, Succeeds}
 use Rattle.commonware_map.proofs.Calls.{as_many, first_error, keys_are, length_clones, ready, values_are}
 use Rattle.commonware_map.proofs.map.Map.try_map_values.Goals as goal
 
 pub loop-key-init : goal.loop-key-init
 loop-key-init g c =
     let whole = c.into_iter-key-iterator.ensures.into_iter_gives ∙ c.iter_pairs-key-items.ensures.pairs in
-    let calls = so_far_none (λ p x u q. CalledAtRefs g.F.FnMut p x (Ok u) q) _ _ _ _ c.in_ok-tried.ensures.items whole in
+    let calls = so_far_none (Succeeds (CalledAtRefs g.F.FnMut)) _ _ _ _ c.in_ok-tried.ensures.items whole in
     record {
       room = omega (arith, ap length whole, c.len.ensures.len, c.in_ok-tried.ensures.len, c.in_ok-tried.ensures.exact);
       calls = calls;
-      ready = ready g.F.FnMut (λ p x u q. CalledAtRefs g.F.FnMut p x (Ok u) q) _ _ _ _ _ c.requires calls;
+      ready = ready g.F.FnMut (Succeeds (CalledAtRefs g.F.FnMut)) _ _ _ _ _ c.requires calls;
     }
 
 pub loop-key-preserved : goal.loop-key-preserved
 loop-key-preserved g c =
     let step : c.loop-key.key-iterator ≡ (c.in-Some.key.now, c.in-Some.value.now) ∷ c.next.new.self = c.in-Some.ensures.steps in
-    let calls = so_far_more (λ p x u q. CalledAtRefs g.F.FnMut p x (Ok u) q) _ _ _ _ _ _ _ _ _ _ c.loop-key.invariant.calls step c.push_reserved.ensures.items
+    let calls = so_far_more (Succeeds (CalledAtRefs g.F.FnMut)) _ _ _ _ _ _ _ _ _ _ c.loop-key.invariant.calls step c.push_reserved.ensures.items
     (record { key = c.in-Some.key; value = c.in-Some.value; key_is = refl; value_is = refl; called = subst (λ r. Called g.F.FnMut c.loop-key.f (c.in-Some.key, (c.in-Some.value, tt)) r c.f.new.self) c.in-Ok.is c.f.ensures }) in
     record {
       room = omega (arith, c.loop-key.invariant.room, ap length step, c.push_reserved.ensures.len, c.push_reserved.ensures.capacity);
       calls = calls;
-      ready = ready g.F.FnMut (λ p x u q. CalledAtRefs g.F.FnMut p x (Ok u) q) _ _ _ _ _ c.requires calls;
+      ready = ready g.F.FnMut (Succeeds (CalledAtRefs g.F.FnMut)) _ _ _ _ _ c.requires calls;
     }
 
 pub from_columns-requires : goal.from_columns-requires
 from_columns-requires g c =
     let C = g.K.Clone.is_clone in
     let clones = subst (λ ks. AllZip C ks c.in_ok-keys.keys) c.keys.ensures c.in_ok-keys.ensures.cases in
-    as_many (λ p x u q. CalledAtRefs g.F.FnMut p x (Ok u) q) _ _ _ _ (so_far_all (λ p x u q. CalledAtRefs g.F.FnMut p x (Ok u) q) _ _ _ _ _ c.loop-key.invariant.calls c.in-None.ensures.steps.0) (length_clones C _ _ clones)
+    as_many (Succeeds (CalledAtRefs g.F.FnMut)) _ _ _ _ (so_far_all (Succeeds (CalledAtRefs g.F.FnMut)) _ _ _ _ _ c.loop-key.invariant.calls c.in-None.ensures.steps.0) (length_clones C _ _ clones)
 
 pub returns-clause-keys : goal.returns-clause-keys
 returns-clause-keys g c =
     let C = g.K.Clone.is_clone in
     let clones : AllZip C (keys_of c.args.self.now) c.in_ok-keys.keys = subst (λ ks. AllZip C ks c.in_ok-keys.keys) c.keys.ensures c.in_ok-keys.ensures.cases in
-    subst (AllZip C (keys_of c.args.self.now)) (sym (keys_are (λ p x u q. CalledAtRefs g.F.FnMut p x (Ok u) q) _ _ _ _ (so_far_all (λ p x u q. CalledAtRefs g.F.FnMut p x (Ok u) q) _ _ _ _ _ c.loop-key.invariant.calls c.in-None.ensures.steps.0) (length_clones C _ _ clones) _ c.from_columns.ensures)) clones
+    subst (AllZip C (keys_of c.args.self.now)) (sym (keys_are (Succeeds (CalledAtRefs g.F.FnMut)) _ _ _ _ (so_far_all (Succeeds (CalledAtRefs g.F.FnMut)) _ _ _ _ _ c.loop-key.invariant.calls c.in-None.ensures.steps.0) (length_clones C _ _ clones) _ c.from_columns.ensures)) clones
 
 pub returns-clause-values : goal.returns-clause-values
 returns-clause-values g c =
     let C = g.K.Clone.is_clone in
     let clones : AllZip C (keys_of c.args.self.now) c.in_ok-keys.keys = subst (λ ks. AllZip C ks c.in_ok-keys.keys) c.keys.ensures c.in_ok-keys.ensures.cases in
-    values_are (λ p x u q. CalledAtRefs g.F.FnMut p x (Ok u) q) _ _ _ _ (so_far_all (λ p x u q. CalledAtRefs g.F.FnMut p x (Ok u) q) _ _ _ _ _ c.loop-key.invariant.calls c.in-None.ensures.steps.0) (length_clones C _ _ clones) _ c.from_columns.ensures
+    values_are (Succeeds (CalledAtRefs g.F.FnMut)) _ _ _ _ (so_far_all (Succeeds (CalledAtRefs g.F.FnMut)) _ _ _ _ _ c.loop-key.invariant.calls c.in-None.ensures.steps.0) (length_clones C _ _ clones) _ c.from_columns.ensures
 
 pub returns-in-Err-clause-error : goal.returns-in-Err-clause-error
 returns-in-Err-clause-error g c =

@@ -1,13 +1,13 @@
-use Rattle.std.proofs.Common.{Ok, length, ◌+◌, ◌≤◌, vec_len}
+use Rattle.std.proofs.Common.{length, ◌+◌, ◌≤◌, vec_len}
 use Rattle.std.specs.Vec.{vec_capacity}
 use Rattle.commonware_base.specs.CallLaws.{CallsSoFar}
-use Rattle.commonware_map.specs.ValueMaps.{CalledAtRefs}
+use Rattle.commonware_map.specs.ValueMaps.{CalledAtRefs, Succeeds}
 use Rattle.commonware_map.proofs.Calls.{IsReady}
 use Rattle.commonware_map.proofs.map.Map.try_map_values.Given as goal
 
 abbrev pub invariant-loop-key : goal.invariant-loop-key
 invariant-loop-key g l = record {
   room : vec_len l.tried + length l.key-iterator ≤ vec_capacity l.tried;
-  calls : CallsSoFar (λ p x u q. CalledAtRefs g.F.FnMut p x (Ok u) q) l.fn.f l.fn.self l.tried.items l.f l.key-iterator;
+  calls : CallsSoFar (Succeeds (CalledAtRefs g.F.FnMut)) l.fn.f l.fn.self l.tried.items l.f l.key-iterator;
   ready : IsReady g.F.FnMut l.f l.key-iterator;
 }
