@@ -3,6 +3,7 @@ pub mod Bytes
 pub mod CallLaws
 pub mod Calls
 pub mod CloneLaws
+pub mod ConditionLaws
 pub mod Fault
 pub mod FrontLaws
 pub mod Fronts

@@ -9,7 +9,8 @@ use Rattle.std.specs.Ordering.{is_eq}
 use Rattle.std.specs.declared.cmp.Ordering.{Ordering}
 use Rattle.commonware_base.specs.Range.{Bounds}
 use Rattle.commonware_base.specs.Fault.{Fault}
-use Rattle.commonware_base.specs.Text.{Accepts, IsPrefixFree, ReadLaws, CanonicalLaws}
+use Rattle.commonware_base.specs.Text.{IsPrefixFree, ReadLaws, CanonicalLaws}
+use Rattle.commonware_base.specs.ConditionLaws.{Condition, broken_no_fault, condition_laws}
 use Rattle.commonware_ordered.specs.EqualItemLaws.{equal_items_back, equal_items_or_none, equal_items_same}
 use Rattle.commonware_map.specs.MapLaws.{map_canonical, map_laws, map_prefix_free}
 use Rattle.commonware_map.specs.Maps.{map_enc, IsAllowedMap, IsWritableMap, MapFault}
@@ -17,7 +18,7 @@ use Rattle.commonware_map.specs.Pairs.{are_equal_pairs}
 use Rattle.commonware_map.specs.PairLaws.{equal_by_parts}
 use Rattle.commonware_ordered.specs.Whole.{HasEqualItems}
 use Rattle.commonware_bimap.specs.BiMaps.{IsWritableBiMap, BeginsRepeated, repeated_fault, BiMapFault, bad_map}
-use Rattle.commonware_bimap.specs.BiMaps.{bad_values, bimap_cut, at_map, at_values}
+use Rattle.commonware_bimap.specs.BiMaps.{bad_values, bimap_cut}
 
 module _ {K V : Type 0} (key_eq : K → K → Bool) (value_eq : V → V → Bool) (value_equiv : IsEquivalence value_eq) where
   -- of two equal maps both have equal values, or neither
@@ -76,78 +77,45 @@ module _ {K V : Type 0} (ek : K → List ℕ) (WK : K → Type 0) (cmp : K → K
       as_map = map_laws ek WK cmp key_prefix_free ev WV value_prefix_free key_eq total matches_eq key_canonical range AK
           fk AV fv key_laws value_laws
 
-      -- a bimap at the front is no fault
-      no_fault : (s : List ℕ) (m : List (K × V)) (r : List ℕ) (f : Fault)
-          → Accepts (map_enc ek ev) (IsWritableBiMap WK cmp WV value_eq) (IsAllowedMap range AK AV) s m r
-          → BiMapFault ek WK cmp AK fk ev WV AV fv value_eq range s f → ⊥
-      no_fault s m r f a (bad_map w) =
-          as_map.accepted_no_fault s m r f
-          (record { writable = a.writable.map; allowed = a.allowed; begins = a.begins }) w
-      no_fault s m r f a (bad_values same w) =
-          let bytes =
-          map_prefix_free ek WK cmp key_prefix_free ev WV value_prefix_free m w.pairs r w.rest a.writable.map
-          w.writable (sym a.begins ∙ w.begins) in
-          let equal = (as_maps.equal_by_bytes m w.pairs a.writable.map w.writable).1 bytes in
-          a.writable.distinct (repeated_back key_eq value_eq value_equiv m w.pairs equal w.repeated)
-
-      -- the map of which two values are equal is accepted as a map
-      map_of : (s : List ℕ) (w : BeginsRepeated ek WK cmp AK ev WV AV value_eq range s)
-          → Accepts (map_enc ek ev) (IsWritableMap WK cmp WV) (IsAllowedMap range AK AV) s w.pairs w.rest
-      map_of s w = record { writable = w.writable; allowed = w.allowed; begins = w.begins }
+      -- the condition that no two values are equal
+      distinctness :
+          Condition (map_enc ek ev) (IsWritableMap WK cmp WV) (IsWritableBiMap WK cmp WV value_eq)
+          (IsAllowedMap range AK AV) (MapFault ek WK cmp AK fk ev WV AV fv range)
+          (BiMapFault ek WK cmp AK fk ev WV AV fv value_eq range)
+          (BeginsRepeated ek WK cmp AK ev WV AV value_eq range) repeated_fault
+      distinctness = record {
+        without = λ m v. v.map;
+        keeps_or_breaks = λ s m r a. elim (equal_items_or_none value_eq (values_of m)) [
+          | inr none ↦ inl (record { map = a.writable; distinct = none })
+          | inl twice ↦ inr
+              (record
+              { pairs = m; rest = r; begins = a.begins; writable = a.writable; allowed = a.allowed; repeated = twice })
+        ];
+        broken = λ s w. (
+          w.pairs,
+          w.rest,
+          record { writable = w.writable; allowed = w.allowed; begins = w.begins },
+          (λ m v e. let equal = (as_maps.equal_by_bytes m w.pairs v.map w.writable).1 e in
+              v.distinct (repeated_back key_eq value_eq value_equiv m w.pairs equal w.repeated)),
+        );
+        faults = λ s f. (
+          (λ w. elim w [ bad_map v ↦ inl v | bad_values e v ↦ inr (e, v) ]),
+          (λ w. elim w [ inl v ↦ bad_map v | inr v ↦ bad_values v.0 v.1 ]),
+        );
+      }
 
       -- two faults of a text are at one cut
       pub bimap_one_cut :
           (s : List ℕ) (f g : Fault) (v : BiMapFault ek WK cmp AK fk ev WV AV fv value_eq range s f)
           (w : BiMapFault ek WK cmp AK fk ev WV AV fv value_eq range s g) → bimap_cut v ≡ bimap_cut w
       bimap_one_cut s f g (bad_map v) (bad_map w) = refl
-      bimap_one_cut s f g (bad_map v) (bad_values e w) =
-          absurd (as_map.accepted_no_fault s w.pairs w.rest f (map_of s w) v)
-      bimap_one_cut s f g (bad_values d v) (bad_map w) =
-          absurd (as_map.accepted_no_fault s v.pairs v.rest g (map_of s v) w)
+      bimap_one_cut s f g (bad_map v) (bad_values e w) = absurd (broken_no_fault as_map distinctness s f w v)
+      bimap_one_cut s f g (bad_values d v) (bad_map w) = absurd (broken_no_fault as_map distinctness s g v w)
       bimap_one_cut s f g (bad_values d v) (bad_values e w) = refl
-
-      -- a text has at most one fault
-      one : (s : List ℕ) (f g : Fault) → BiMapFault ek WK cmp AK fk ev WV AV fv value_eq range s f
-          → BiMapFault ek WK cmp AK fk ev WV AV fv value_eq range s g → f ≡ g
-      one s f g (bad_map v) (bad_map w) = as_map.one_fault s f g v w
-      one s f g (bad_map v) (bad_values e w) = let cut : at_map ≡ at_values =
-          bimap_one_cut s f g (bad_map v) (bad_values e w) in absurd (cc)
-      one s f g (bad_values d v) (bad_map w) = let cut : at_values ≡ at_map =
-          bimap_one_cut s f g (bad_values d v) (bad_map w) in absurd (cc)
-      one s f g (bad_values d v) (bad_values e w) = d ∙ sym e
 
       -- what is promised of the texts of bimaps
       pub bimap_laws :
           ReadLaws (map_enc ek ev) (IsWritableBiMap WK cmp WV value_eq) (IsAllowedMap range AK AV)
           (BiMapFault ek WK cmp AK fk ev WV AV fv value_eq range)
-      bimap_laws = record {
-        allowed_by_bytes = λ m n v w e h. as_map.allowed_by_bytes m n v.map w.map e h;
-        one_fault = one;
-        accepted_no_fault = no_fault;
-        accepted_or_faulty = λ s h. elim (as_map.accepted_or_faulty s h) [
-          | inr w ↦ inr (w.0, bad_map w.1)
-          | inl w ↦ elim (equal_items_or_none value_eq (values_of w.0)) [
-            | inr none ↦ inl (
-              w.0,
-              w.1,
-              record {
-                writable = record { map = w.2.writable; distinct = none };
-                allowed = w.2.allowed;
-                begins = w.2.begins;
-              },
-            )
-            | inl twice ↦ inr (
-              repeated_fault,
-              bad_values refl
-                  (record {
-                    pairs = w.0;
-                    rest = w.1;
-                    begins = w.2.begins;
-                    writable = w.2.writable;
-                    allowed = w.2.allowed;
-                    repeated = twice;
-                  }),
-            )
-          ]
-        ];
-      }
+      bimap_laws =
+          condition_laws as_map distinctness (map_prefix_free ek WK cmp key_prefix_free ev WV value_prefix_free)

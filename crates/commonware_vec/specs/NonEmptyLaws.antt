@@ -4,12 +4,13 @@ use Rattle.std.proofs.Common.{ap, arith, inl, inr, subst, sym, ◌∙◌}
 use Rattle.std.specs.Cmp.Lexicographic.{pointwise}
 use Rattle.commonware_base.specs.Range.{Bounds, Within}
 use Rattle.commonware_base.specs.Fault.{Fault}
-use Rattle.commonware_base.specs.Text.{Accepts, IsPrefixFree, ReadLaws, CanonicalLaws}
+use Rattle.commonware_base.specs.Text.{IsPrefixFree, ReadLaws, CanonicalLaws}
+use Rattle.commonware_base.specs.ConditionLaws.{Condition, broken_no_fault, condition_laws}
 use Rattle.commonware_base.specs.Lists.{list_enc, IsWritableList, IsAllowedList, ListFault}
 use Rattle.commonware_base.specs.ListLaws.{list_prefix_free, list_laws, list_canonical, pointwise_length, split_count}
 use Rattle.commonware_base.specs.Varint.{varint}
 use Rattle.commonware_vec.specs.NonEmpty.{IsWritableNonEmpty, BeginsEmpty, empty_fault, NonEmptyFault, bad_list}
-use Rattle.commonware_vec.specs.NonEmpty.{no_items, non_empty_cut, at_list, at_end}
+use Rattle.commonware_vec.specs.NonEmpty.{no_items, non_empty_cut}
 
 -- a list has an item, or it has none
 some_or_none : {T : Type 0} (l : List T) → (1 ≤ length l) ⊎ (l ≡ [])
@@ -52,6 +53,13 @@ module _ {T : Type 0} (enc : T → List ℕ) (Writable : T → Type 0) (prefix_f
             };
       }
 
+  -- a list with an item isn't spelled as the empty one
+  not_spelled_empty : (v : List T) → IsWritableNonEmpty Writable v → list_enc enc v ≡ list_enc enc [] → ⊥
+  not_spelled_empty v p e =
+      let none : length v ≡ 0 =
+      (split_count enc Writable prefix_free v [] [] [] p.list (empty_writable Writable) (ap (λ u. u ++ []) e)).0 in
+      omega (arith, none, p.some)
+
   module _ (Allowed : T → Type 0) (item_fault : List ℕ → Fault → Type 0) (range : Bounds ℕ)
       (item_laws : ReadLaws enc Writable Allowed item_fault) where
     -- the laws of the same texts as lists
@@ -60,72 +68,44 @@ module _ {T : Type 0} (enc : T → List ℕ) (Writable : T → Type 0) (prefix_f
         (ListFault enc Writable Allowed item_fault range)
     as_list = list_laws enc Writable prefix_free Allowed item_fault range item_laws
 
-    -- the empty list is accepted as a list
-    empty_accepted : (s : List ℕ) (w : BeginsEmpty range s)
-        → Accepts (list_enc enc) (IsWritableList Writable) (IsAllowedList range Allowed) s [] w.rest
-    empty_accepted s w =
+    -- the condition that a list has an item
+    non_emptiness :
+        Condition (list_enc enc) (IsWritableList Writable) (IsWritableNonEmpty Writable) (IsAllowedList range Allowed)
+        (ListFault enc Writable Allowed item_fault range) (NonEmptyFault enc Writable Allowed item_fault range)
+        (BeginsEmpty range) empty_fault
+    non_emptiness = record {
+      without = λ v p. p.list;
+      keeps_or_breaks = λ s v r a. elim (some_or_none v) [
+        | inl p ↦ inl (record { list = a.writable; some = p })
+        | inr n ↦ inr (begins_empty enc range s v r (ap length n) a.begins a.allowed.in_range)
+      ];
+      broken = λ s w. (
+        [],
+        w.rest,
         record {
           writable = empty_writable Writable;
           allowed = record { in_range = w.in_range; each = tt };
           begins = w.begins ∙ empty_begins enc w.rest;
-        }
-
-    -- a list at the front that isn't empty is no fault
-    no_fault : (s : List ℕ) (v : List T) (r : List ℕ) (f : Fault)
-        → Accepts (list_enc enc) (IsWritableNonEmpty Writable) (IsAllowedList range Allowed) s v r
-        → NonEmptyFault enc Writable Allowed item_fault range s f → ⊥
-    no_fault s v r f a (bad_list w) =
-        as_list.accepted_no_fault s v r f
-        (record { writable = a.writable.list; allowed = a.allowed; begins = a.begins }) w
-    no_fault s v r f a (no_items e w) =
-        let none : length v ≡ 0 =
-        (split_count enc Writable prefix_free v [] r w.rest a.writable.list (empty_writable Writable)
-        (sym a.begins ∙ w.begins ∙ empty_begins enc w.rest)).0 in
-        omega (arith, none, a.writable.some)
+        },
+        not_spelled_empty,
+      );
+      faults = λ s f. (
+        (λ w. elim w [ bad_list v ↦ inl v | no_items e v ↦ inr (e, v) ]),
+        (λ w. elim w [ inl v ↦ bad_list v | inr v ↦ no_items v.0 v.1 ]),
+      );
+    }
 
     -- two faults of a text are at one cut
     pub non_empty_one_cut :
         (s : List ℕ) (f g : Fault) (v : NonEmptyFault enc Writable Allowed item_fault range s f)
         (w : NonEmptyFault enc Writable Allowed item_fault range s g) → non_empty_cut v ≡ non_empty_cut w
     non_empty_one_cut s f g (bad_list v) (bad_list w) = refl
-    non_empty_one_cut s f g (bad_list v) (no_items e w) =
-        absurd (as_list.accepted_no_fault s [] w.rest f (empty_accepted s w) v)
-    non_empty_one_cut s f g (no_items d v) (bad_list w) =
-        absurd (as_list.accepted_no_fault s [] v.rest g (empty_accepted s v) w)
+    non_empty_one_cut s f g (bad_list v) (no_items e w) = absurd (broken_no_fault as_list non_emptiness s f w v)
+    non_empty_one_cut s f g (no_items d v) (bad_list w) = absurd (broken_no_fault as_list non_emptiness s g v w)
     non_empty_one_cut s f g (no_items d v) (no_items e w) = refl
-
-    -- a text has at most one fault
-    one : (s : List ℕ) (f g : Fault) → NonEmptyFault enc Writable Allowed item_fault range s f
-        → NonEmptyFault enc Writable Allowed item_fault range s g → f ≡ g
-    one s f g (bad_list v) (bad_list w) = as_list.one_fault s f g v w
-    one s f g (bad_list v) (no_items e w) = let cut : at_list ≡ at_end =
-        non_empty_one_cut s f g (bad_list v) (no_items e w) in absurd (cc)
-    one s f g (no_items d v) (bad_list w) = let cut : at_end ≡ at_list =
-        non_empty_one_cut s f g (no_items d v) (bad_list w) in absurd (cc)
-    one s f g (no_items d v) (no_items e w) = d ∙ sym e
 
     -- what is promised of the texts of lists that are never empty
     pub non_empty_laws :
         ReadLaws (list_enc enc) (IsWritableNonEmpty Writable) (IsAllowedList range Allowed)
         (NonEmptyFault enc Writable Allowed item_fault range)
-    non_empty_laws = record {
-      allowed_by_bytes = λ a b p q e h. as_list.allowed_by_bytes a b p.list q.list e h;
-      one_fault = one;
-      accepted_no_fault = no_fault;
-      accepted_or_faulty = λ s h. elim (as_list.accepted_or_faulty s h) [
-        | inr w ↦ inr (w.0, bad_list w.1)
-        | inl w ↦ elim (some_or_none w.0) [
-          | inl p ↦ inl (
-            w.0,
-            w.1,
-            record
-                { writable = record { list = w.2.writable; some = p }; allowed = w.2.allowed; begins = w.2.begins },
-          )
-          | inr n ↦ inr (
-            empty_fault,
-            no_items refl
-                (begins_empty enc range s w.0 w.1 (ap length n) w.2.begins w.2.allowed.in_range),
-          )
-        ]
-      ];
-    }
+    non_empty_laws = condition_laws as_list non_emptiness (list_prefix_free enc Writable prefix_free)
