@@ -123,6 +123,7 @@ impl<K: Ord, V, A: Allocator> Map<K, V, A> {
 
     /// The place of the key that equals the one asked, or `None` where none does. It takes
     /// O(log n) comparisons.
+    #[inline]
     pub fn position(&self, key: &K) -> Option<usize>
         ensures place { IsPlaceOf K.eq (keys_of self.now) key.now result }
         ensures only { (p : ℕ) → (result ≡ Some p) ↔ HasEqualAt K.eq (keys_of self.now) key.now p }
@@ -139,6 +140,7 @@ impl<K: Ord, V, A: Allocator> Map<K, V, A> {
 
     /// The value of the key that equals the one asked, or `None` where none does. It takes
     /// O(log n) comparisons.
+    #[inline]
     pub fn get_value(&self, key: &K) -> Option<&V>
         ensures { option_copied result ≡ lookup (λ k. K.eq k key.now) self.now }
     {

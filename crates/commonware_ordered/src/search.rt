@@ -68,6 +68,7 @@ fn quartered<T: Ord>(items: &[T], item: &T) -> Option<usize>
 }
 
 /// The same place, by halving the list.
+#[inline]
 fn halved<T: Ord>(items: &[T], item: &T) -> Option<usize>
     requires { IsStrict T.cmp items.now }
     ensures { IsPlaceOf T.eq items.now item.now result }
@@ -83,6 +84,7 @@ const FEW: usize = 16;
 
 /// The same place. Of many narrow items three are asked at a time. Few are halved, and so are wide
 /// ones, of which a comparison is dear.
+#[inline(always)]
 pub(crate) fn place_of<T: Ord>(items: &[T], item: &T) -> Option<usize>
     requires { IsStrict T.cmp items.now }
     ensures { IsPlaceOf T.eq items.now item.now result }

@@ -103,6 +103,7 @@ impl<T: Ord, A: Allocator> Set<T, A> {
 
     /// The place of the item that equals the one asked, or `None` where none does. It takes
     /// O(log n) comparisons.
+    #[inline(always)]
     pub fn position(&self, item: &T) -> Option<usize>
         ensures place { IsPlaceOf T.eq self.now item.now result }
         ensures only { (p : ℕ) → (result ≡ Some p) ↔ HasEqualAt T.eq self.now item.now p }

@@ -137,22 +137,28 @@ fn make_room<T, A: Allocator>(
     items.reserve(more.max(1))
 }
 
-/// Puts an item last, after which so many bytes are left.
+/// The list with another item last, after which so many bytes are left.
+///
+/// The list goes in and out by value, and only one that is full is lent, so that a loop keeps the
+/// length in a register.
 #[inline(always)]
 fn put<T: Drop, A: Allocator>(
-    items: &mut Vec<T, A>,
+    items: Vec<T, A>,
     value: T,
     stated: Stated,
     left: usize,
-) -> Result<(), AllocError>
-    ensures { items.new.items
-        ≡ (if is_ok result then items.old.items ++ value ∷ [] else items.old.items) }
+) -> Result<Vec<T, A>, AllocError>
+    ensures { IfOk result (λ v. v.items ≡ items.items ++ value ∷ []) }
 {
-    if items.len() == items.capacity() {
-        make_room(items, stated, left)?;
-    }
+    let mut items = if items.len() == items.capacity() {
+        let mut full = items;
+        make_room(&mut full, stated, left)?;
+        full
+    } else {
+        items
+    };
     items.push_reserved(value);
-    Ok(())
+    Ok(items)
 }
 
 /// Reads a list under a range for its length and a configuration for its items: what `Vec` reads.
@@ -191,9 +197,10 @@ pub fn read_list<T: Read<A> + Drop, A: Allocator + Copy>(
     for _ in 0..count {
         match T::read_cfg(alloc, &mut here, item) {
             Ok(value) => {
-                if put(&mut items, value, stated, here.remaining()).is_err() {
+                let Ok(more) = put(items, value, stated, here.remaining()) else {
                     return Err(Error::Memory);
-                }
+                };
+                items = more;
             }
             Err(error) => return Err(error),
         }

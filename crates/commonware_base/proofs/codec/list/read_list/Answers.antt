@@ -1,4 +1,4 @@
-use Rattle.std.proofs.Common.{arith, refl, ◌≡◌, ◌+◌, ◌++◌, [], ◌∷◌, sym, subst}
+use Rattle.std.proofs.Common.{arith, refl, ◌≡◌, ◌+◌, sym, subst}
 use Rattle.commonware_base.specs.RefusalLaws.{refuses_from}
 use Rattle.commonware_base.specs.Source.{rest_of}
 use Rattle.commonware_base.proofs.ReadSteps.{ReadSoFar, read_none, read_more, read_all, read_all_writable, read_all_allowed, read_outside, read_faulty, read_wants}
@@ -14,8 +14,8 @@ loop-init g c =
     let none = read_none g.T.EncodeSize.enc g.T.EncodeSize.writable (g.T.Read.allowed c.args.item.now) c.args.range c.in-Ok.count c.args.src.now c.read_varint.new.src c.in-Ok.ensures.fits (c.if-not-contains.ensures.0 refl) c.in-Ok.ensures.consumed in
     subst (ReadSoFar g.T.EncodeSize.enc g.T.EncodeSize.writable (g.T.Read.allowed c.args.item.now) c.args.range c.in-Ok.count 0 c.args.src.now c.read_varint.new.src) (sym c.new-items.ensures.items) none
 
-pub returns-then-is_err-clause-refused : goal.returns-then-is_err-clause-refused
-returns-then-is_err-clause-refused g c =
+pub returns-in_default-clause-refused : goal.returns-in_default-clause-refused
+returns-in_default-clause-refused g c =
     let more = read_more g.T.EncodeSize.enc g.T.EncodeSize.writable (g.T.Read.allowed c.args.item.now) c.args.range c.in-Ok.count c.args.src.now c.loop.counter c.loop.here c.read_cfg.new.src c.loop.items.items c.in-Ok-read_cfg.value c.loop.invariant c.in-Ok-read_cfg.ensures.accepted c.in-Ok-read_cfg.ensures.consumed in
     read_wants g.T.EncodeSize.enc g.T.EncodeSize.writable (g.T.Read.allowed c.args.item.now) c.args.range c.in-Ok.count c.args.src.now (g.T.Read.fault c.args.item.now) (g.T.Read.memory_free c.args.item.now)
     _ _ _ more (omega arith) (g.met.T.Read.read_laws c.args.alloc c.args.item.now).accepted_no_fault (λ e. absurd (omega arith))
@@ -31,8 +31,7 @@ returns-in-Err-read_cfg-clause-refused g c =
 pub loop-preserved : goal.loop-preserved
 loop-preserved g c =
     let more = read_more g.T.EncodeSize.enc g.T.EncodeSize.writable (g.T.Read.allowed c.args.item.now) c.args.range c.in-Ok.count c.args.src.now c.loop.counter c.loop.here c.read_cfg.new.src c.loop.items.items c.in-Ok-read_cfg.value c.loop.invariant c.in-Ok-read_cfg.ensures.accepted c.in-Ok-read_cfg.ensures.consumed in
-    let pushed : c.put.new.items.items ≡ c.loop.items.items ++ c.in-Ok-read_cfg.value ∷ [] = rw c.if-is_err.ensures.negation at c.put.ensures in
-    subst (ReadSoFar g.T.EncodeSize.enc g.T.EncodeSize.writable (g.T.Read.allowed c.args.item.now) c.args.range c.in-Ok.count (c.loop.counter + 1) c.args.src.now c.read_cfg.new.src) (sym pushed) more
+    subst (ReadSoFar g.T.EncodeSize.enc g.T.EncodeSize.writable (g.T.Read.allowed c.args.item.now) c.args.range c.in-Ok.count (c.loop.counter + 1) c.args.src.now c.read_cfg.new.src) (sym c.in-Ok-put.ensures) more
 
 pub returns-clause-consumed : goal.returns-clause-consumed
 returns-clause-consumed g c =
