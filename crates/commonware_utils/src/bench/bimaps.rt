@@ -1,6 +1,6 @@
 //! Bimaps: what is built and refused, look-ups from both sides, texts, and what is written and
 //! read.
-use super::map_pairs::gives;
+use super::map_pairs::{gives, lends};
 use super::sets::UNSORTED;
 use super::{are_equal, is_debugged_as, is_shown_as, is_written_as, read, refuses};
 use crate::TryFromIterator;
@@ -144,8 +144,8 @@ fn test_pair_iterators(rt: HostRuntime) -> Result<(), Fail> {
         (true, None, 0),
     ];
     assert!(rt;
-        gives(bimap.iter_pairs(), 3, &steps)
-            && gives((&bimap).into_iter(), 3, &[(true, Some((&3, &30)), 2)])
+        lends(bimap.iter_pairs(), 3, &steps)
+            && lends((&bimap).into_iter(), 3, &[(true, Some((&3, &30)), 2)])
             && gives(bimap.into_iter(), 3, &[(true, Some((3, 30)), 2)])
     );
     Ok(())

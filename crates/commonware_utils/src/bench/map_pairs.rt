@@ -11,11 +11,33 @@ pub(super) fn tens(alloc: Global) -> Result<Map<u8, u8, Global>, Fail> {
 
 /// Whether so many pairs are told at first, and each step, from the back where that is said, gives
 /// the pair beside it and tells so many that are left.
-pub(super) fn gives<P, I>(mut pairs: I, count: usize, steps: &[(bool, Option<P>, usize)]) -> bool
-where
-    P: PartialEq + Drop,
-    I: DoubleEndedIterator<Item = P> + ExactSizeIterator + Drop,
-{
+pub(super) fn lends(
+    mut pairs: Pairs<'_, u8, u8>,
+    count: usize,
+    steps: &[(bool, Option<(&u8, &u8)>, usize)],
+) -> bool {
+    if pairs.len() != count || pairs.size_hint() != (count, Some(count)) {
+        return false;
+    }
+    for (from_back, expected, left) in steps {
+        let pair = if *from_back {
+            pairs.next_back()
+        } else {
+            pairs.next()
+        };
+        if pair != *expected || pairs.len() != *left || pairs.size_hint() != (*left, Some(*left)) {
+            return false;
+        }
+    }
+    true
+}
+
+/// The same of pairs that are given away.
+pub(super) fn gives(
+    mut pairs: MapIntoIter<u8, u8, Global>,
+    count: usize,
+    steps: &[(bool, Option<(u8, u8)>, usize)],
+) -> bool {
     if pairs.len() != count || pairs.size_hint() != (count, Some(count)) {
         return false;
     }
@@ -105,7 +127,7 @@ fn test_pair_iterators(rt: HostRuntime) -> Result<(), Fail> {
         (true, None, 0),
     ];
     assert!(rt;
-        gives(map.iter_pairs(), 3, &steps)
+        lends(map.iter_pairs(), 3, &steps)
             && adds_keys(&mut map)
             && map.values() == [11, 22, 33].as_slice()
     );
@@ -137,7 +159,7 @@ fn values_are_written_in_a_loop(rt: HostRuntime) -> Result<(), Fail> {
 #[test]
 fn two_lists_are_walked_side_by_side(rt: HostRuntime) -> Result<(), Fail> {
     let shown = Pairs::new([7u8, 3].as_slice(), [1u8, 2].as_slice());
-    assert!(rt; gives(shown, 2, &[(true, Some((&3, &2)), 1)]));
+    assert!(rt; lends(shown, 2, &[(true, Some((&3, &2)), 1)]));
     let mut values = [1u8, 2];
     let mut lent = PairsMut::new([7u8, 3].as_slice(), values.as_mut_slice());
     let told = add_key(lent.next_back());
