@@ -3,6 +3,7 @@
 pub use Rattle.commonware_base.specs.Bytes.{byte, byte_fault}
 pub use Rattle.commonware_base.specs.ByteLaws.{byte_canonical, byte_laws}
 pub use Rattle.commonware_base.specs.ByteLaws.{byte_length, byte_prefix_free}
+pub use Rattle.commonware_base.specs.ConditionLaws.{Condition, broken_no_fault, condition_laws}
 pub use Rattle.commonware_base.specs.Fault.{EndOfBuffer, Fault, Invalid, InvalidLength}
 pub use Rattle.commonware_base.specs.Fault.{InvalidVarint}
 pub use Rattle.commonware_base.specs.FrontLaws.{list_fault_settled, list_memory_free_settled}
