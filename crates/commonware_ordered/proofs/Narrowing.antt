@@ -1,5 +1,5 @@
 -- Where an item of a strict list stands that equals the one sought.
-use Rattle.std.proofs.Common.{◌≡◌, ℕ, ◌+◌, ◌-◌, ◌*◌, ◌<◌, ◌≤◌, Bool, true, false, List, length, get_or, refl, sym, ◌∙◌, ap, subst, arith, ⊎_elim}
+use Rattle.std.proofs.Common.{◌≡◌, ℕ, ◌+◌, ◌-◌, ◌*◌, ◌<◌, ◌≤◌, min, Bool, true, false, List, length, get_or, refl, sym, ◌∙◌, ap, subst, arith, ⊎_elim}
 use Rattle.std.specs.List.{HoldsAt}
 use Rattle.std.proofs.lemmas.List.{get_or_default}
 use Rattle.std.proofs.lemmas.Nat.{mul-le}
@@ -27,13 +27,13 @@ module _ {X : Type 0} {cmp : X → X → Ordering} (o : IsTotalOrder cmp) {eq : 
       )
 
 -- a step of the search: place k stays between its bounds
-pub narrowed : (base size q k a b c : ℕ) → 4 * q ≤ size
+pub quartered_within : (base size q k a b c : ℕ) → 4 * q ≤ size
     → (base + q ≤ k → a ≡ 1) × (k < base + q → a ≡ 0)
     → (base + 2 * q ≤ k → b ≡ 1) × (k < base + 2 * q → b ≡ 0)
     → (base + 3 * q ≤ k → c ≡ 1) × (k < base + 3 * q → c ≡ 0)
     → base ≤ k → k < base + size
     → (base + q * (a + b + c) ≤ k) × (k < base + q * (a + b + c) + (size - 3 * q))
-narrowed base size q k a b c room one two three low high = ⊎_elim none (λ h. ⊎_elim (some1 h) (λ h2. ⊎_elim (some2 h2) all (cases_lt k (base + 3 * q))) (cases_lt k (base + 2 * q))) (cases_lt k (base + q))
+quartered_within base size q k a b c room one two three low high = ⊎_elim none (λ h. ⊎_elim (some1 h) (λ h2. ⊎_elim (some2 h2) all (cases_lt k (base + 3 * q))) (cases_lt k (base + 2 * q))) (cases_lt k (base + q))
   where
     Goal : ℕ → Type 0
     Goal n = (base + q * n ≤ k) × (k < base + q * n + (size - 3 * q))
@@ -58,23 +58,21 @@ narrowed base size q k a b c room one two three low high = ⊎_elim none (λ h. 
         let e : 3 ≡ a + b + c = let x = one.0 (omega arith) in let y = two.0 (omega arith) in let z = three.0 g in omega arith in
         subst Goal e (omega arith, omega arith)
 
--- the last step of two places
-pub last_of_two : (base size k a : ℕ) → size ≤ 2
-    → (base + 1 ≤ k → a ≡ 1) × (k < base + 1 → a ≡ 0)
-    → base ≤ k → k < base + size → base + a ≡ k
-last_of_two base size k a few one low high =
-    ⊎_elim (λ h. let x = one.1 h in omega arith) (λ h. let x = one.0 h in omega arith) (cases_lt k (base + 1))
+-- a halving: place k stays between its bounds
+pub halved_within : (base size window k r : ℕ) → window < size → size ≤ 2 * window
+    → (base + (size - window) ≤ k → r ≡ 1) × (k < base + (size - window) → r ≡ 0)
+    → base ≤ k → k < base + size
+    → (base + (size - window) * r ≤ k) × (k < base + (size - window) * r + min size window)
+halved_within base size window k r more room one low high = ⊎_elim before after (cases_lt k (base + (size - window)))
+  where
+    Goal : ℕ → Type 0
+    Goal n = (base + (size - window) * n ≤ k) × (k < base + (size - window) * n + min size window)
 
--- the last step of three places
-pub last_of_three : (base size k a b : ℕ) → size ≤ 3
-    → (base + 1 ≤ k → a ≡ 1) × (k < base + 1 → a ≡ 0)
-    → (base + 2 ≤ k → b ≡ 1) × (k < base + 2 → b ≡ 0)
-    → base ≤ k → k < base + size → base + a + b ≡ k
-last_of_three base size k a b few one two low high =
-    ⊎_elim
-    (λ h. let x = one.1 h in let y = two.1 (omega arith) in omega arith)
-    (λ h. ⊎_elim (λ l. let x = one.0 h in let y = two.1 l in omega arith) (λ l. let x = one.0 h in let y = two.0 l in omega arith) (cases_lt k (base + 2)))
-    (cases_lt k (base + 1))
+    before : k < base + (size - window) → Goal r
+    before h = subst Goal (sym (one.1 h)) (omega arith, omega arith)
+
+    after : base + (size - window) ≤ k → Goal r
+    after h = subst Goal (sym (one.0 h)) (omega arith, omega arith)
 
 -- a sum of three answers times a quarter is at most three quarters
 pub passed_at_most : (q a b c : ℕ) → a ≤ 1 → b ≤ 1 → c ≤ 1 → q * (a + b + c) ≤ q * 3

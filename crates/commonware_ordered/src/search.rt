@@ -1,5 +1,5 @@
 //! The place of an item in a strict list, looked up without a branch that hangs on a comparison.
-ghost use Rattle.std.specs.Prelude.{◌≡◌, ◌≤◌, ◌<◌, ◌+◌, ℕ, true, length};
+ghost use Rattle.std.specs.Prelude.{◌≡◌, ◌≤◌, ◌<◌, ◌+◌, ◌*◌, ℕ, true, length, min};
 ghost use Rattle.std.specs.List.{HoldsAt};
 ghost use Rattle.commonware_ordered.specs.Strict.{IsPlaceOf, IsStrict, IsWithin};
 
@@ -18,37 +18,60 @@ fn reached<T: Ord>(items: &[T], place: usize, item: &T) -> usize
     if items[place].cmp(item).is_le() { 1 } else { 0 }
 }
 
-/// The one place of at most three from `base` on where an item can equal the one sought.
+/// From where on at most `window` places are left, of twice as many at most: the latter ones, where
+/// the first of these is at most the item sought, else the former ones.
+#[inline(always)]
+fn half<T: Ord>(items: &[T], base: usize, size: usize, window: usize, item: &T) -> usize
+    requires strict { IsStrict T.cmp items.now }
+    requires inside { base + size ≤ length items.now }
+    requires window { size ≤ 2 * window }
+    requires within { IsWithin T.eq items.now item.now base size }
+    ensures inside { result + min size window ≤ length items.now }
+    ensures within { IsWithin T.eq items.now item.now result (min size window) }
+{
+    if size <= window {
+        return base;
+    }
+    let step = size - window;
+    base + step * reached(items, base + step, item)
+}
+
+/// The one place of at most sixteen from `base` on where an item can equal the one sought.
+///
+/// Four halvings one after the other and no loop, so that a compiler makes no branch of an answer.
 #[inline(always)]
 fn last_steps<T: Ord>(items: &[T], base: usize, size: usize, item: &T) -> usize
     requires strict { IsStrict T.cmp items.now }
     requires inside { base + size ≤ length items.now }
-    requires few { size ≤ 3 }
+    requires few { size ≤ 16 }
     requires within { IsWithin T.eq items.now item.now base size }
     ensures { (k : ℕ) → k < length items.now
         → HoldsAt (λ y. T.eq y item.now ≡ true) items.now k → result ≡ k }
 {
-    if size > 2 {
-        return base + reached(items, base + 1, item) + reached(items, base + 2, item);
-    }
-    if size > 1 {
-        return base + reached(items, base + 1, item);
-    }
-    base
+    let base = half(items, base, size, 8, item);
+    let size = size.min(8);
+    let base = half(items, base, size, 4, item);
+    let size = size.min(4);
+    let base = half(items, base, size, 2, item);
+    half(items, base, size.min(2), 1, item)
 }
+
+/// The most items that are halved and not quartered.
+const FEW: usize = 16;
 
 /// The place of the item that equals the one sought, or `None` where none does.
 ///
 /// Each step asks the items at three places, which cut the list in four, and adds up the answers:
 /// a processor need not guess one before the next step. It takes one comparison and a half where
-/// halving takes one.
-fn quartered<T: Ord>(items: &[T], item: &T) -> Option<usize>
+/// halving takes one, so the last few are halved.
+#[inline(always)]
+fn narrowed<T: Ord>(items: &[T], item: &T) -> Option<usize>
     requires { IsStrict T.cmp items.now }
     ensures { IsPlaceOf T.eq items.now item.now result }
 {
     let mut base = 0;
     let mut size = items.len();
-    while size > 3 {
+    while size > FEW {
         let quarter = size / 4;
         let passed = reached(items, base + quarter, item)
             + reached(items, base + 2 * quarter, item)
@@ -79,20 +102,16 @@ fn halved<T: Ord>(items: &[T], item: &T) -> Option<usize>
 /// The most bytes of an item whose comparison costs less than a wrong guess.
 const NARROW: usize = 8;
 
-/// The most items of a list in which halving asks so few that guessing them costs less.
-const FEW: usize = 16;
-
-/// The same place. Of many narrow items three are asked at a time. Few are halved, and so are wide
-/// ones, of which a comparison is dear.
+/// The same place. Of narrow items three are asked at a time until few are left; the list of wide
+/// ones is halved, since a comparison of these is dear.
 #[inline(always)]
 pub(crate) fn place_of<T: Ord>(items: &[T], item: &T) -> Option<usize>
     requires { IsStrict T.cmp items.now }
     ensures { IsPlaceOf T.eq items.now item.now result }
 {
-    let is_wide = items.len().min(1) * size_of::<T>() > NARROW;
-    if is_wide || items.len() <= FEW {
+    if items.len().min(1) * size_of::<T>() > NARROW {
         halved(items, item)
     } else {
-        quartered(items, item)
+        narrowed(items, item)
     }
 }

@@ -1,7 +1,7 @@
 use Rattle.std.proofs.Common.{◌≤◌, ◌*◌, ◌/◌, sym, ap, ◌∙◌, arith}
 use Rattle.std.proofs.lemmas.List.{get_or_default}
-use Rattle.commonware_ordered.proofs.Narrowing.{narrowed, passed_at_most, none_from_only}
-use Rattle.commonware_ordered.proofs.search.quartered.Goals as goal
+use Rattle.commonware_ordered.proofs.Narrowing.{quartered_within, passed_at_most, none_from_only}
+use Rattle.commonware_ordered.proofs.search.narrowed.Goals as goal
 
 pub loop-size-preserved : goal.loop-size-preserved
 loop-size-preserved g c =
@@ -14,7 +14,7 @@ loop-size-preserved g c =
       omega arith,
       λ k there h.
           let p = c.loop-size.invariant.1 k there h in
-          narrowed base size quarter k c.reached.result c.reached-in-loop-size.result c.reached-in-loop-size-2.result room (c.reached.ensures.value k there h) (c.reached-in-loop-size.ensures.value k there h) (c.reached-in-loop-size-2.ensures.value k there h) p.0 p.1,
+          quartered_within base size quarter k c.reached.result c.reached-in-loop-size.result c.reached-in-loop-size-2.result room (c.reached.ensures.value k there h) (c.reached-in-loop-size.ensures.value k there h) (c.reached-in-loop-size-2.ensures.value k there h) p.0 p.1,
     )
 
 pub returns-then-place-items : goal.returns-then-place-items
