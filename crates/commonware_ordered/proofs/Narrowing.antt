@@ -1,29 +1,28 @@
 -- Where an item of a strict list stands that equals the one sought.
-use Rattle.std.proofs.Common.{◌≡◌, ℕ, ◌+◌, ◌-◌, ◌*◌, ◌<◌, ◌≤◌, min, Bool, true, false, List, length, get_or, refl, sym, ◌∙◌, ap, subst, arith, ⊎_elim}
+use Rattle.std.proofs.Common.{◌≡◌, ℕ, ◌+◌, ◌-◌, ◌*◌, ◌<◌, ◌≤◌, Bool, true, false, List, length, get_or, refl, sym, ◌∙◌, ap, subst, arith, ⊎_elim}
 use Rattle.std.specs.List.{HoldsAt}
 use Rattle.std.proofs.lemmas.List.{get_or_default}
 use Rattle.std.proofs.lemmas.Nat.{mul-le}
 use Rattle.std.specs.Cmp.{IsTotalOrder}
-use Rattle.std.specs.Ordering.{is_eq, is_le, ordering_reverse}
+use Rattle.std.specs.Ordering.{is_eq, is_ge, ordering_reverse}
 use Rattle.std.specs.declared.cmp.Ordering.{Ordering}
 use Rattle.std.proofs.lemmas.Bool.{cases_lt}
-use Rattle.std.proofs.lemmas.Cmp.{alike_right}
 use Rattle.std.proofs.lemmas.Map.Keys.{Less-from_sorted}
 use Rattle.commonware_ordered.specs.Strict.{IsStrict}
 use Rattle.commonware_ordered.specs.StrictLaws.{level, sorted_from_strict}
 
 module _ {X : Type 0} {cmp : X → X → Ordering} (o : IsTotalOrder cmp) {eq : X → X → Bool} (ties : (x y : X) → eq x y ≡ is_eq (cmp x y)) where
-  -- what the item at place i answers, where the item at place k equals x
-  pub at_most_from_place : (xs : List X) (x : X) (i k : ℕ) (d : X) → IsStrict cmp xs → i < length xs → k < length xs → HoldsAt (λ y. eq y x ≡ true) xs k
-      → (i ≤ k → is_le (cmp (get_or xs i d) x) ≡ true) × (k < i → is_le (cmp (get_or xs i d) x) ≡ false)
-  at_most_from_place xs x i k d s here there h =
+  -- what x answers to the item at place i, where the item at place k equals x
+  pub at_least_from_place : (xs : List X) (x : X) (i k : ℕ) (d : X) → IsStrict cmp xs → i < length xs → k < length xs → HoldsAt (λ y. eq y x ≡ true) xs k
+      → (i ≤ k → is_ge (cmp x (get_or xs i d)) ≡ true) × (k < i → is_ge (cmp x (get_or xs i d)) ≡ false)
+  at_least_from_place xs x i k d s here there h =
       let e = level cmp eq o ties (get_or xs k d) x (h d) in
-      let turned = alike_right o (get_or xs k d) x (get_or xs i d) e in (
+      let turned = o.congr (get_or xs k d) x (get_or xs i d) e in (
         λ low. ⊎_elim
-            (λ before. ap is_le (sym turned ∙ Less-from_sorted cmp xs i k d (sorted_from_strict o xs s) before there))
-            (λ after. let same : k ≡ i = omega arith in subst (λ j. is_le (cmp (get_or xs j d) x) ≡ true) same (ap is_le e))
+            (λ before. ap is_ge (sym turned ∙ (o.antisymm (get_or xs k d) (get_or xs i d) ∙ ap ordering_reverse (Less-from_sorted cmp xs i k d (sorted_from_strict o xs s) before there))))
+            (λ after. let same : k ≡ i = omega arith in subst (λ j. is_ge (cmp x (get_or xs j d)) ≡ true) same (ap is_ge (o.antisymm x (get_or xs k d) ∙ ap ordering_reverse e)))
             (cases_lt i k),
-        λ high. ap is_le (sym turned ∙ (o.antisymm (get_or xs i d) (get_or xs k d) ∙ ap ordering_reverse (Less-from_sorted cmp xs k i d (sorted_from_strict o xs s) high here))),
+        λ high. ap is_ge (sym turned ∙ Less-from_sorted cmp xs k i d (sorted_from_strict o xs s) high here),
       )
 
 -- a step of the search: place k stays between its bounds
@@ -62,11 +61,11 @@ quartered_within base size q k a b c room one two three low high = ⊎_elim none
 pub halved_within : (base size window k r : ℕ) → window < size → size ≤ 2 * window
     → (base + (size - window) ≤ k → r ≡ 1) × (k < base + (size - window) → r ≡ 0)
     → base ≤ k → k < base + size
-    → (base + (size - window) * r ≤ k) × (k < base + (size - window) * r + min size window)
+    → (base + (size - window) * r ≤ k) × (k < base + (size - window) * r + window)
 halved_within base size window k r more room one low high = ⊎_elim before after (cases_lt k (base + (size - window)))
   where
     Goal : ℕ → Type 0
-    Goal n = (base + (size - window) * n ≤ k) × (k < base + (size - window) * n + min size window)
+    Goal n = (base + (size - window) * n ≤ k) × (k < base + (size - window) * n + window)
 
     before : k < base + (size - window) → Goal r
     before h = subst Goal (sym (one.1 h)) (omega arith, omega arith)

@@ -1,5 +1,5 @@
 //! The place of an item in a strict list, looked up without a branch that hangs on a comparison.
-ghost use Rattle.std.specs.Prelude.{◌≡◌, ◌≤◌, ◌<◌, ◌+◌, ◌*◌, ℕ, true, length, min};
+ghost use Rattle.std.specs.Prelude.{◌≡◌, ◌≤◌, ◌<◌, ◌+◌, ◌*◌, ℕ, true, length};
 ghost use Rattle.std.specs.List.{HoldsAt};
 ghost use Rattle.commonware_ordered.specs.Strict.{IsPlaceOf, IsStrict, IsWithin};
 
@@ -15,25 +15,30 @@ fn reached<T: Ord>(items: &[T], place: usize, item: &T) -> usize
         → HoldsAt (λ y. T.eq y item.now ≡ true) items.now k
         → (place ≤ k → result ≡ 1) × (k < place → result ≡ 0) }
 {
-    if items[place].cmp(item).is_le() { 1 } else { 0 }
+    if item.cmp(&items[place]).is_ge() {
+        1
+    } else {
+        0
+    }
 }
 
-/// From where on at most `window` places are left, of twice as many at most: the latter ones, where
-/// the first of these is at most the item sought, else the former ones.
+/// Halves the places from `base` on, of which there are at most twice `window`: where those that
+/// are left begin, and how many they are, at most `window`. It asks the first of the last `window`.
 #[inline(always)]
-fn half<T: Ord>(items: &[T], base: usize, size: usize, window: usize, item: &T) -> usize
+fn half<T: Ord>(items: &[T], base: usize, size: usize, window: usize, item: &T) -> (usize, usize)
     requires strict { IsStrict T.cmp items.now }
     requires inside { base + size ≤ length items.now }
-    requires window { size ≤ 2 * window }
+    requires twice { size ≤ 2 * window }
     requires within { IsWithin T.eq items.now item.now base size }
-    ensures inside { result + min size window ≤ length items.now }
-    ensures within { IsWithin T.eq items.now item.now result (min size window) }
+    ensures inside { result.0 + result.1 ≤ length items.now }
+    ensures window { result.1 ≤ window }
+    ensures within { IsWithin T.eq items.now item.now result.0 result.1 }
 {
     if size <= window {
-        return base;
+        return (base, size);
     }
     let step = size - window;
-    base + step * reached(items, base + step, item)
+    (base + step * reached(items, base + step, item), window)
 }
 
 /// The one place of at most sixteen from `base` on where an item can equal the one sought.
@@ -48,12 +53,11 @@ fn last_steps<T: Ord>(items: &[T], base: usize, size: usize, item: &T) -> usize
     ensures { (k : ℕ) → k < length items.now
         → HoldsAt (λ y. T.eq y item.now ≡ true) items.now k → result ≡ k }
 {
-    let base = half(items, base, size, 8, item);
-    let size = size.min(8);
-    let base = half(items, base, size, 4, item);
-    let size = size.min(4);
-    let base = half(items, base, size, 2, item);
-    half(items, base, size.min(2), 1, item)
+    let (base, size) = half(items, base, size, 8, item);
+    let (base, size) = half(items, base, size, 4, item);
+    let (base, size) = half(items, base, size, 2, item);
+    let (place, _) = half(items, base, size, 1, item);
+    place
 }
 
 /// The most items that are halved and not quartered.

@@ -43,6 +43,7 @@ fn time_lookups<C: Clock, W: Write>(
 }
 
 /// The sum of the values of the numbers modulo 2^64, where one that has none counts 1.
+#[inline(never)]
 fn sum_of_values(map: &Map<u32, u32, Global>, numbers: &[u32]) -> u64 {
     let mut sum = 0u64;
     for number in numbers {

@@ -11,19 +11,49 @@ use std::hash::{DefaultHasher, Hash, Hasher};
 use std::io::Write;
 use std::time::Clock;
 
+/// What the lines of sets go over.
+#[derive(Drop)]
+pub(crate) struct Timed {
+    rising: Vec<u32>,
+    same: Vec<u32>,
+    set: Set<u32, Global>,
+    bytes: Vec<u8>,
+}
+
+impl Timed {
+    /// Rising numbers, equal ones, and the set of the random ones with its bytes.
+    fn new(alloc: Global, random: &[u32]) -> Result<Self, AllocError> {
+        let count = random.len();
+        let rising = rising(alloc, count.min(u32::MAX as usize) as u32)?;
+        let same = vec![in alloc; 5u32; count]?;
+        let set = set_of(alloc, random)?;
+        let bytes = written(alloc, &set)?;
+        Ok(Timed {
+            rising,
+            same,
+            set,
+            bytes,
+        })
+    }
+}
+
 /// The lines of sets that are built of random numbers, of rising ones and of equal ones, and those
 /// of the set of the random ones.
+///
+/// The answer is to be kept while the other lines are timed. The C library gives large blocks that
+/// nobody holds back to the kernel, and the next line would be counted the new pages.
 pub(crate) fn time_sets<C: Clock, W: Write>(
     bench: &mut Bench<C, W>,
     random: &[u32],
     rounds: u64,
-) -> Result<(), Failure> {
-    time_builders(bench, random, rounds)?;
-    let set = set_of(bench.alloc(), random)?;
-    time_lookups(bench, &set, random, rounds)?;
-    time_codec(bench, &set, rounds)?;
-    time_clones(bench, &set, rounds)?;
-    time_hashes(bench, &set, rounds)
+) -> Result<Timed, Failure> {
+    let timed = Timed::new(bench.alloc(), random)?;
+    time_builders(bench, random, &timed, rounds)?;
+    time_lookups(bench, &timed.set, random, rounds)?;
+    time_codec(bench, &timed, rounds)?;
+    time_clones(bench, &timed.set, rounds)?;
+    time_hashes(bench, &timed.set, rounds)?;
+    Ok(timed)
 }
 
 /// The set of the numbers.
@@ -35,16 +65,13 @@ pub(crate) fn set_of(alloc: Global, numbers: &[u32]) -> Result<Set<u32, Global>,
 fn time_builders<C: Clock, W: Write>(
     bench: &mut Bench<C, W>,
     random: &[u32],
+    timed: &Timed,
     rounds: u64,
 ) -> Result<(), Failure> {
-    let alloc = bench.alloc();
-    let count = random.len();
-    let rising = rising(alloc, count.min(u32::MAX as usize) as u32)?;
-    let same = vec![in alloc; 5u32; count]?;
     time_dedup(bench, "set_dedup_random", random, rounds)?;
-    time_dedup(bench, "set_dedup_rising", &rising, rounds)?;
-    time_dedup(bench, "set_dedup_same", &same, rounds)?;
-    time_try_vec(bench, "set_try_vec_rising", &rising, rounds)?;
+    time_dedup(bench, "set_dedup_rising", &timed.rising, rounds)?;
+    time_dedup(bench, "set_dedup_same", &timed.same, rounds)?;
+    time_try_vec(bench, "set_try_vec_rising", &timed.rising, rounds)?;
     time_try_vec(bench, "set_try_vec_random", random, rounds)
 }
 
@@ -90,6 +117,7 @@ fn time_lookups<C: Clock, W: Write>(
 }
 
 /// The sum of the places of the numbers modulo 2^64, where one that has none counts 1.
+#[inline(never)]
 fn sum_of_places(set: &Set<u32, Global>, numbers: &[u32]) -> u64 {
     let mut sum = 0u64;
     for number in numbers {
@@ -105,16 +133,15 @@ fn sum_of_places(set: &Set<u32, Global>, numbers: &[u32]) -> u64 {
 /// The lines of the set written and read.
 fn time_codec<C: Clock, W: Write>(
     bench: &mut Bench<C, W>,
-    set: &Set<u32, Global>,
+    timed: &Timed,
     rounds: u64,
 ) -> Result<(), Failure> {
     let alloc = bench.alloc();
-    let entries = set.len();
+    let entries = timed.set.len();
     let work = Work::new("set_write", entries, rounds);
-    bench.line(work, 0, || Ok(written(alloc, set)?.len() as u64))?;
-    let bytes = written(alloc, set)?;
+    bench.line(work, 0, || Ok(written(alloc, &timed.set)?.len() as u64))?;
     let work = Work::new("set_read", entries, rounds);
-    bench.line(work, 0, || count_read(alloc, &bytes))?;
+    bench.line(work, 0, || count_read(alloc, &timed.bytes))?;
     Ok(())
 }
 

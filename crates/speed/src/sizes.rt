@@ -52,7 +52,7 @@ pub fn time_size<C: Clock, W: Write>(
     rounds: u64,
 ) -> Result<(), Failure> {
     let numbers = random(bench.alloc(), size)?;
-    time_sets(bench, &numbers, rounds)?;
+    let _kept = time_sets(bench, &numbers, rounds)?;
     time_bytes(bench, size, rounds)?;
     time_maps(bench, &numbers, rounds)?;
     time_lists(bench, &numbers, rounds)?;

@@ -1,5 +1,5 @@
 //! Lists of items that have a byte form: the length, and then each item.
-ghost use Rattle.std.specs.Prelude.{◌≡◌, ℕ, ◌+◌, ◌<◌, ◌^◌, ◌++◌, ◌∷◌, [], if◌then◌else◌, is_ok, vec_capacity, vec_len, List, length, OnOk, OnErr, IfOk, IfErr};
+ghost use Rattle.std.specs.Prelude.{◌≡◌, ℕ, ◌+◌, ◌<◌, ◌≤◌, ◌++◌, ◌∷◌, [], vec_capacity, vec_len, List, length, OnOk, OnErr, IfOk, IfErr};
 ghost use Rattle.std.specs.List.{AllByRecursion, flat_map};
 ghost use Rattle.std.specs.Cmp.Lexicographic.{pointwise};
 ghost use Rattle.commonware_base.specs.Refusal.{Refuses};
@@ -109,20 +109,15 @@ struct Stated {
     bytes: usize,
 }
 
-/// For how many more items room is made, where so many have it and so many bytes are left: for no
-/// more than are stated, and for no more than the bytes hold, if each takes as many as those that
-/// are read. The first room is for no more than there are bytes, nor than [`MOST_ROOM`].
-fn more_room(held: usize, stated: Stated, left: usize) -> usize {
-    let others = stated.count.saturating_sub(held);
-    if held == 0 {
-        return others.min(stated.bytes).min(MOST_ROOM);
-    }
-    let taken = stated.bytes.saturating_sub(left);
-    let each = (taken / held.saturating_add(1)).max(1);
-    others.min((left / each).saturating_add(1))
+/// How many items are to have room with the first one.
+fn first_room(stated: Stated) -> usize
+    ensures { 1 ≤ result }
+{
+    stated.count.min(stated.bytes).min(MOST_ROOM).max(1)
 }
 
-/// Makes room for another item at least.
+/// Makes room for more items, where so many bytes are left: for no more than are stated, and for
+/// no more than the bytes hold, if each takes as many as those that are read.
 #[cold]
 #[inline(never)]
 fn make_room<T, A: Allocator>(
@@ -133,8 +128,11 @@ fn make_room<T, A: Allocator>(
     ensures items { items.new.items ≡ items.old.items }
     ensures room { OnOk result (vec_len items.new < vec_capacity items.new) }
 {
-    let more = more_room(items.len(), stated, left);
-    items.reserve(more.max(1))
+    let held = items.len();
+    let taken = stated.bytes.saturating_sub(left);
+    let each = (taken / held.saturating_add(1)).max(1);
+    let others = stated.count.saturating_sub(held);
+    items.reserve(others.min((left / each).saturating_add(1)).max(1))
 }
 
 /// The list with another item last, after which so many bytes are left.
@@ -143,6 +141,7 @@ fn make_room<T, A: Allocator>(
 /// length in a register.
 #[inline(always)]
 fn put<T: Drop, A: Allocator>(
+    alloc: A,
     items: Vec<T, A>,
     value: T,
     stated: Stated,
@@ -150,12 +149,14 @@ fn put<T: Drop, A: Allocator>(
 ) -> Result<Vec<T, A>, AllocError>
     ensures { IfOk result (λ v. v.items ≡ items.items ++ value ∷ []) }
 {
-    let mut items = if items.len() == items.capacity() {
+    let mut items = if items.len() < items.capacity() {
+        items
+    } else if items.is_empty() {
+        Vec::with_capacity(alloc, first_room(stated))?
+    } else {
         let mut full = items;
         make_room(&mut full, stated, left)?;
         full
-    } else {
-        items
     };
     items.push_reserved(value);
     Ok(items)
@@ -197,7 +198,7 @@ pub fn read_list<T: Read<A> + Drop, A: Allocator + Copy>(
     for _ in 0..count {
         match T::read_cfg(alloc, &mut here, item) {
             Ok(value) => {
-                let Ok(more) = put(items, value, stated, here.remaining()) else {
+                let Ok(more) = put(alloc, items, value, stated, here.remaining()) else {
                     return Err(Error::Memory);
                 };
                 items = more;

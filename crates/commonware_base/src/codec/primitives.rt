@@ -118,10 +118,10 @@ impl<A: Allocator> Read<A> for u32 {
     ghost read_laws = { λ _ _. word_laws };
 
     fn read_cfg(_alloc: A, src: &mut Source<'_>, _cfg: &()) -> Result<u32, Error> {
-        let rest = src.rest();
-        if rest.len() < 4 {
+        if src.lacks(4) {
             return Err(Error::EndOfBuffer);
         }
+        let rest = src.rest();
         let number = u32::from_be_bytes([rest[0], rest[1], rest[2], rest[3]]);
         src.advance(4);
         Ok(number)

@@ -1,5 +1,5 @@
 //! A byte slice and a position in it.
-ghost use Rattle.std.specs.Prelude.{◌≡◌, ◌+◌, ◌≤◌, length};
+ghost use Rattle.std.specs.Prelude.{◌≡◌, ◌+◌, ◌≤◌, ◌<◌, ◌↔◌, IsTrue, length};
 ghost use Rattle.commonware_base.specs.Text.{AreBytes};
 ghost use Rattle.std.proofs.Props.{props};
 
@@ -37,6 +37,17 @@ impl<'a> Source<'a> {
         ensures { result ≡ length (rest_of self.now) }
     {
         self.bytes.len() - self.position
+    }
+
+    /// Whether fewer bytes are left than so many.
+    ///
+    /// It compares the position with a place that stays the same, and doesn't count what is left:
+    /// so a loop that reads has nothing to subtract.
+    #[inline(always)]
+    pub(crate) fn lacks(&self, count: usize) -> bool
+        ensures { IsTrue result ↔ length (rest_of self.now) < count }
+    {
+        self.bytes.len() < count || self.bytes.len() - count < self.position
     }
 
     /// The bytes that are left.

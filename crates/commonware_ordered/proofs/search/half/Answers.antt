@@ -14,4 +14,4 @@ returns-clause-inside g c =
 pub returns-clause-within : goal.returns-clause-within
 returns-clause-within g c = λ k there h.
     let p = c.requires.within k there h in
-    halved_within c.args.base c.args.size c.args.window k c.reached.result c.if-size-window.false c.requires.window (c.reached.ensures.value k there h) p.0 p.1
+    halved_within c.args.base c.args.size c.args.window k c.reached.result c.if-size-window.false c.requires.twice (c.reached.ensures.value k there h) p.0 p.1

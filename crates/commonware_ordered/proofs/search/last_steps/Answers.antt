@@ -3,7 +3,8 @@ use Rattle.commonware_ordered.proofs.search.last_steps.Goals as goal
 
 pub returns : goal.returns
 returns g c = λ k there h.
-    let p = c.half.ensures.within k there h in
+    let one = c.half-place.ensures.window in
+    let p = c.half-place.ensures.within k there h in
     let low = p.0 in
     let high = p.1 in
     omega arith
