@@ -1,8 +1,8 @@
 -- The words that ask for a command.
 use Rattle.std.specs.Prelude.{◌≡◌, ℕ, ◌<◌, ◌^◌, List, [], ◌∷◌, codes}
 use Rattle.std.specs.Str.Parse.{IsNumeral, digits_value, without_leading_plus}
-use Rattle.speed.specs.declared.command.Command.{Command}
-use Rattle.speed.specs.declared.command.Command.TheVariants.{Time, Plot}
+use Rattle.speed_core.specs.declared.command.Command.{Command}
+use Rattle.speed_core.specs.declared.command.Command.TheVariants.{Time, Plot}
 
 -- the word is digits, which a plus may precede, and in decimal they write n, which is below 2^32
 pub record IsNumber (word : List ℕ) (n : ℕ) : Type 0 where

@@ -1,14 +1,9 @@
 //! Numbers, lines, logarithms and axes, and sessions over streams of memory.
 
-use crate::axis::Axis;
-use crate::bench::Bench;
-use crate::bimaps::time_bimaps;
-use crate::failure::Failure;
-use crate::logarithm::logarithm;
-use crate::numbers::random;
-use crate::program::{failed_read, session};
-use crate::sample::{Sample, parse_line};
-use crate::sizes::time_size;
+use speed_core::logarithm::logarithm;
+use speed_core::{
+    Axis, Bench, Failure, Sample, failed_read, parse_line, random, session, time_bimaps, time_size,
+};
 use std::alloc::Global;
 use std::cell::Cell;
 use std::io;

@@ -1,6 +1,6 @@
 //! What the words after the program's name ask for.
 ghost use Rattle.std.specs.Prelude.{IfNone, IfSome, map, string_bytes};
-ghost use Rattle.speed.specs.Command.{AskForNone, AsksFor, IsAskedFor};
+ghost use Rattle.speed_core.specs.Command.{AskForNone, AsksFor, IsAskedFor};
 
 use std::alloc::Allocator;
 

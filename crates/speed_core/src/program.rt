@@ -2,7 +2,7 @@
 ghost use Rattle.std.specs.Prelude.{◌≡◌, ◌≢◌, ◌≤◌, ◌↔◌, map, string_bytes};
 ghost use Rattle.std.specs.IoError.{error_kind};
 ghost use Rattle.std.specs.declared.io.ErrorKind.TheVariants.{OutOfMemory};
-ghost use Rattle.speed.specs.Command.{AskForNone};
+ghost use Rattle.speed_core.specs.Command.{AskForNone};
 
 use crate::bench::Bench;
 use crate::command::{Command, parse_args};

@@ -1,6 +1,6 @@
 //! Why a run has stopped.
 ghost use Rattle.std.specs.Prelude.{◌≡◌};
-ghost use Rattle.speed.specs.Status.{status_of};
+ghost use Rattle.speed_core.specs.Status.{status_of};
 
 use commonware_utils::ordered;
 use process::WriteFailed;
@@ -36,7 +36,7 @@ impl fmt::Display for Failure {
 
 impl From<AllocError> for Failure {
     ghost use Rattle.std.specs.Prelude.{◌≡◌};
-    ghost use Rattle.speed.specs.declared.failure.Failure.TheVariants.{Memory};
+    ghost use Rattle.speed_core.specs.declared.failure.Failure.TheVariants.{Memory};
 
     ghost from_gives = { λ _ failure. failure ≡ Memory };
 
@@ -47,7 +47,7 @@ impl From<AllocError> for Failure {
 
 impl<T: Drop> From<AllocFailed<T>> for Failure {
     ghost use Rattle.std.specs.Prelude.{◌≡◌};
-    ghost use Rattle.speed.specs.declared.failure.Failure.TheVariants.{Memory};
+    ghost use Rattle.speed_core.specs.declared.failure.Failure.TheVariants.{Memory};
 
     ghost from_gives = { λ _ failure. failure ≡ Memory };
 
@@ -58,7 +58,7 @@ impl<T: Drop> From<AllocFailed<T>> for Failure {
 
 impl From<WriteFailed> for Failure {
     ghost use Rattle.std.specs.Prelude.{◌≡◌};
-    ghost use Rattle.speed.specs.declared.failure.Failure.{Failure};
+    ghost use Rattle.speed_core.specs.declared.failure.Failure.{Failure};
 
     ghost from_gives = { λ _ failure. failure ≡ Failure.Write };
 

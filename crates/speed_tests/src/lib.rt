@@ -1,0 +1,5 @@
+//! Tests of `speed_core`: numbers, lines, logarithms and axes, and sessions over streams of memory.
+#![tactic(auto)]
+
+#[cfg(test)]
+mod tests;
