@@ -43,6 +43,8 @@ fn size(committee: &Set<u32, Global>) -> u32 {
 }
 
 /// The sum of the indices of the numbers modulo 2^64, where one that has none counts 1.
+///
+/// It is a function of its own, so that it shares no registers with the lines around it.
 #[inline(never)]
 fn sum_of_indices(committee: &Set<u32, Global>, numbers: &[u32]) -> u64 {
     let mut sum = 0u64;

@@ -43,6 +43,8 @@ fn time_lookups<C: Clock, W: Write>(
 }
 
 /// The sum of the values of the numbers modulo 2^64, where one that has none counts 1.
+///
+/// It is a function of its own, so that it shares no registers with the lines around it.
 #[inline(never)]
 fn sum_of_values(map: &Map<u32, u32, Global>, numbers: &[u32]) -> u64 {
     let mut sum = 0u64;
