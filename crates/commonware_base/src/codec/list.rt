@@ -49,6 +49,7 @@ impl<T: EncodeSize, A: Allocator> EncodeSize for Vec<T, A> {
 }
 
 /// Appends the bytes of the items. Where memory is refused, some of them may stand there.
+#[inline(always)]
 fn push_items<T: Write<A>, A: Allocator>(
     sink: &mut Vec<u8, A>,
     items: &[T],
@@ -67,6 +68,10 @@ fn push_items<T: Write<A>, A: Allocator>(
 ///
 /// Once the first item is written, room is made for the others, as if each took as many bytes as
 /// the first, but for no more than they take in memory.
+///
+/// It is put in line, and so are its loop and what calls it, so that a loop over a list that the
+/// caller holds keeps the length in a register.
+#[inline(always)]
 fn push_list<T: Write<A>, A: Allocator>(
     sink: &mut Vec<u8, A>,
     items: &[T],
@@ -87,6 +92,7 @@ fn push_list<T: Write<A>, A: Allocator>(
 }
 
 impl<T: Write<A>, A: Allocator> Write<A> for Vec<T, A> {
+    #[inline(always)]
     fn write(&self, sink: &mut Vec<u8, A>) -> Result<(), AllocError> {
         let start = sink.len();
         match push_list(sink, self.as_slice()) {

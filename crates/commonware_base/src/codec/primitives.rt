@@ -102,7 +102,14 @@ impl EncodeSize for u32 {
 
 impl<A: Allocator> Write<A> for u32 {
     fn write(&self, sink: &mut Vec<u8, A>) -> Result<(), AllocError> {
-        sink.extend_from_slice(&self.to_be_bytes())
+        // Four bytes into room that is there, which are one store where the list is at hand.
+        sink.reserve(4)?;
+        let [first, second, third, fourth] = self.to_be_bytes();
+        sink.push_reserved(first);
+        sink.push_reserved(second);
+        sink.push_reserved(third);
+        sink.push_reserved(fourth);
+        Ok(())
     }
 }
 

@@ -34,6 +34,7 @@ impl<T: Ord + EncodeSize, A: Allocator> EncodeSize for Set<T, A> {
 }
 
 impl<T: Ord + Write<A>, A: Allocator> Write<A> for Set<T, A> {
+    #[inline(always)]
     fn write(&self, sink: &mut Vec<u8, A>) -> Result<(), AllocError> {
         self.items.write(sink)
     }
