@@ -34,7 +34,7 @@ pub struct Work<'a> {
 
 impl<'a> Work<'a> {
     /// The work of the call of this name.
-    pub(crate) fn new(name: &'a str, entries: usize, rounds: u64) -> Self
+    pub fn new(name: &'a str, entries: usize, rounds: u64) -> Self
         ensures name { result.name.now ≡ name.now }
         ensures size { (result.entries ≡ entries) × (result.rounds ≡ rounds) }
     {
@@ -58,7 +58,7 @@ impl<C: Clock, W: Write> Bench<C, W> {
     }
 
     /// The heap.
-    pub(crate) fn alloc(&self) -> Global {
+    pub fn alloc(&self) -> Global {
         self.alloc
     }
 
@@ -67,7 +67,7 @@ impl<C: Clock, W: Write> Bench<C, W> {
     ///
     /// A large block is asked for before the clock starts. With such a request the C library
     /// merges the small ones that were given back, as the nodes of a tree, whoever makes it.
-    pub(crate) fn line<F: FnMut() -> Result<u64, Failure>>(
+    pub fn line<F: FnMut() -> Result<u64, Failure>>(
         &mut self,
         work: Work<'_>,
         sum: u64,

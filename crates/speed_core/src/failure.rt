@@ -2,7 +2,6 @@
 ghost use Rattle.std.specs.Prelude.{◌≡◌};
 ghost use Rattle.speed_core.specs.Status.{status_of};
 
-use commonware_utils::ordered;
 use process::WriteFailed;
 use std::alloc::{AllocError, AllocFailed};
 use std::fmt;
@@ -77,15 +76,5 @@ impl Failure {
             Failure::Line(_) => 1,
             Failure::Memory | Failure::Read | Failure::Write | Failure::Clock => 3,
         }
-    }
-}
-
-/// What a collection that was built counts as: its length, or 1 where it was refused for the
-/// entries that it was to have.
-pub(crate) fn count_built(length: Result<usize, ordered::Error>) -> Result<u64, Failure> {
-    match length {
-        Ok(length) => Ok(length as u64),
-        Err(ordered::Error::Memory) => Err(Failure::Memory),
-        Err(_) => Ok(1),
     }
 }

@@ -1,33 +1,25 @@
-//! The library of the program `speed`, which times the calls of the collections, entry by entry,
-//! and draws such times.
+//! The library of the program `speed`, which times calls, entry by entry, and draws such times.
+//!
+//! Which calls it times is a type parameter, a `Timer`: the crate names no collection.
 #![tactic(auto)]
 
 mod axis;
 mod bench;
-mod bimaps;
-mod bytes;
-mod certificates;
-mod codec;
 mod command;
 mod failure;
 mod labels;
-mod lists;
 pub mod logarithm;
-mod maps;
 mod numbers;
 mod plot;
 mod program;
 mod sample;
-mod sets;
-mod sizes;
-mod wide;
+mod timer;
 
 pub use axis::Axis;
-pub use bench::Bench;
-pub use bimaps::time_bimaps;
+pub use bench::{Bench, Work};
 pub use command::Command;
 pub use failure::Failure;
-pub use numbers::random;
+pub use numbers::{random, rising, wide_bytes};
 pub use program::{failed_read, on_host, session};
 pub use sample::{Sample, parse_line};
-pub use sizes::time_size;
+pub use timer::Timer;

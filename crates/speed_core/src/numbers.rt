@@ -1,5 +1,6 @@
 //! The numbers that the collections are built of.
-ghost use Rattle.std.specs.Prelude.{◌≡◌, ◌*◌, ◌/◌, ◌%◌, ◌^◌, IfOk, bit_xor, length};
+ghost use Rattle.std.specs.Prelude.{◌≡◌, ◌*◌, ◌/◌, ◌%◌, ◌^◌, ◌++◌, IfOk, bit_xor, length, replicate};
+ghost use Rattle.std.specs.Int.{to_be_bytes, w32};
 
 use std::alloc::{AllocError, Global};
 
@@ -32,10 +33,19 @@ pub fn random(alloc: Global, count: u32) -> Result<Vec<u32>, AllocError>
 }
 
 /// The first so many multiples of 7, modulo 2^32.
-pub(crate) fn rising(alloc: Global, count: u32) -> Result<Vec<u32>, AllocError>
+pub fn rising(alloc: Global, count: u32) -> Result<Vec<u32>, AllocError>
     ensures { IfOk result (λ numbers. length numbers.items ≡ count) }
 {
     (0..count)
         .map(|index| index.wrapping_add(1).wrapping_mul(7))
         .collect(alloc)
+}
+
+/// The four bytes of the number, the most significant first, and then 28 zeros.
+pub fn wide_bytes(number: u32) -> [u8; 32]
+    ensures { result ≡ to_be_bytes w32 number ++ replicate 28 0 }
+{
+    let mut bytes = [0u8; 32];
+    bytes[..4].copy_from_slice(&number.to_be_bytes());
+    bytes
 }

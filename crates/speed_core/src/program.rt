@@ -8,7 +8,7 @@ use crate::bench::Bench;
 use crate::command::{Command, parse_args};
 use crate::failure::Failure;
 use crate::plot::draw;
-use crate::sizes::time_sizes;
+use crate::timer::Timer;
 use process::{Watched, after_first, say, take_arguments, write_whole};
 use std::alloc::Global;
 use std::io::{ErrorKind, Read, Write};
@@ -21,7 +21,7 @@ use std::{env, io};
 /// It is 0 where all lines or the drawing were written, 1 where a line can't be read, 2 where the
 /// words ask for nothing, and 3 where memory, the clock, the reader or the writer failed. Unless
 /// it is 0, a line on `errors` says why; where `errors` fails, the status is the same.
-pub fn session<C: Clock + Drop, R: Read + Drop, W: Write + Drop, E: Write>(
+pub fn session<T: Timer, C: Clock + Drop, R: Read + Drop, W: Write + Drop, E: Write>(
     alloc: Global,
     words: &[String],
     clock: C,
@@ -36,7 +36,7 @@ pub fn session<C: Clock + Drop, R: Read + Drop, W: Write + Drop, E: Write>(
         say(errors, &"usage: speed <greatest n>, or speed plot");
         return 2;
     };
-    match run(alloc, command, clock, input, output) {
+    match run::<T, _, _, _>(alloc, command, clock, input, output) {
         Ok(()) => 0,
         Err(failure) => {
             say(errors, &failure);
@@ -46,7 +46,7 @@ pub fn session<C: Clock + Drop, R: Read + Drop, W: Write + Drop, E: Write>(
 }
 
 /// Does what the command asks for.
-fn run<C: Clock + Drop, R: Read + Drop, W: Write + Drop>(
+fn run<T: Timer, C: Clock + Drop, R: Read + Drop, W: Write + Drop>(
     alloc: Global,
     command: Command,
     clock: C,
@@ -54,7 +54,7 @@ fn run<C: Clock + Drop, R: Read + Drop, W: Write + Drop>(
     output: W,
 ) -> Result<(), Failure> {
     match command {
-        Command::Time(greatest) => time_sizes(&mut Bench::new(alloc, clock, output), greatest),
+        Command::Time(greatest) => T::time_sizes(&mut Bench::new(alloc, clock, output), greatest),
         Command::Plot => plot(alloc, input, output),
     }
 }
@@ -86,12 +86,19 @@ pub fn failed_read(error: &io::Error) -> Failure
 
 /// The program on its host, with its arguments and its three standard streams. Arguments that
 /// can't be taken count as want of memory.
-pub fn on_host(rt: &HostRuntime) -> ExitCode {
+pub fn on_host<T: Timer>(rt: &HostRuntime) -> ExitCode {
     let mut errors = rt.stderr();
     let Some(arguments) = take_arguments(rt.alloc(), env::args(rt)) else {
         say(&mut errors, &Failure::Memory);
         return ExitCode::from(Failure::Memory.status());
     };
     let words = after_first(&arguments);
-    ExitCode::from(session(rt.alloc(), words, rt, rt.stdin(), rt.stdout(), &mut errors))
+    ExitCode::from(session::<T, _, _, _, _>(
+        rt.alloc(),
+        words,
+        rt,
+        rt.stdin(),
+        rt.stdout(),
+        &mut errors,
+    ))
 }

@@ -1,9 +1,8 @@
 //! Numbers, lines, logarithms and axes, and sessions over streams of memory.
 
+use speed_calls::{Calls, time_bimaps, time_size};
 use speed_core::logarithm::logarithm;
-use speed_core::{
-    Axis, Bench, Failure, Sample, failed_read, parse_line, random, session, time_bimaps, time_size,
-};
+use speed_core::{Axis, Bench, Failure, Sample, failed_read, parse_line, random, session};
 use std::alloc::Global;
 use std::cell::Cell;
 use std::io;
@@ -164,7 +163,14 @@ fn run(alloc: Global, words: &[&str], input: &[u8]) -> Result<(u8, Vec<u8>, Vec<
         texts.push(String::from_str(alloc, word)?)?;
     }
     let (mut output, mut errors) = (Vec::new(alloc), Vec::new(alloc));
-    let status = session(alloc, &texts, new_clock(), input, &mut output, &mut errors);
+    let status = session::<Calls, _, _, _, _>(
+        alloc,
+        &texts,
+        new_clock(),
+        input,
+        &mut output,
+        &mut errors,
+    );
     Ok((status, output, errors))
 }
 
@@ -220,7 +226,7 @@ fn an_output_without_room_ends_a_run(rt: HostRuntime) -> Result<(), Fail> {
     let words = [String::from_str(rt.alloc(), "plot")?];
     let mut errors: Vec<u8> = Vec::new(rt.alloc());
     let output = io::Cursor::new([0u8; 9]);
-    let status = session(
+    let status = session::<Calls, _, _, _, _>(
         rt.alloc(),
         &words,
         new_clock(),

@@ -1,15 +1,13 @@
 //! All lines, size by size.
 
-use crate::bench::Bench;
 use crate::bimaps::time_bimaps;
 use crate::bytes::time_bytes;
 use crate::certificates::time_committees;
-use crate::failure::Failure;
 use crate::lists::time_lists;
 use crate::maps::time_maps;
-use crate::numbers::random;
 use crate::sets::time_sets;
 use crate::wide::time_wide;
+use speed_core::{Bench, Failure, Timer, random};
 use std::io::Write;
 use std::time::Clock;
 
@@ -19,17 +17,21 @@ const SIZES: [(u32, u64); 4] = [(10, 100_000), (1_000, 1_000), (100_000, 10), (1
 /// How many entries one round of a bimap goes over, and how many rounds there are.
 const BIMAPS: [(u32, u64); 3] = [(100, 1_000), (1_000, 30), (10_000, 1)];
 
-/// The lines of every size that is at most the greatest.
-pub(crate) fn time_sizes<C: Clock, W: Write>(
-    bench: &mut Bench<C, W>,
-    greatest: u32,
-) -> Result<(), Failure> {
-    for (size, rounds) in SIZES {
-        if size <= greatest {
-            time_size(bench, size, rounds)?;
+/// The calls of the collections, with committees, certificates and wide items.
+pub struct Calls;
+
+impl Timer for Calls {
+    fn time_sizes<C: Clock, W: Write>(
+        bench: &mut Bench<C, W>,
+        greatest: u32,
+    ) -> Result<(), Failure> {
+        for (size, rounds) in SIZES {
+            if size <= greatest {
+                time_size(bench, size, rounds)?;
+            }
         }
+        time_bimap_sizes(bench, greatest)
     }
-    time_bimap_sizes(bench, greatest)
 }
 
 /// The lines of bimaps of every size that is at most the greatest.

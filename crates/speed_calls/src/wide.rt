@@ -2,12 +2,11 @@
 ghost use Rattle.std.specs.Prelude.{◌≡◌, ◌++◌, replicate};
 ghost use Rattle.commonware_utils.specs.Codec.{word_bytes};
 
-use crate::bench::{Bench, Work};
 use crate::codec::{read, written};
-use crate::failure::Failure;
 use committee_core::Member;
 use commonware_utils::codec::RangeCfg;
 use commonware_utils::ordered::Set;
+use speed_core::{Bench, Failure, Work, wide_bytes};
 use std::alloc::{AllocError, Global};
 use std::io::Write;
 use std::time::Clock;
@@ -36,9 +35,7 @@ pub(crate) fn time_wide<C: Clock, W: Write>(
 fn wide(number: u32) -> Member
     ensures { result ≡ word_bytes number ++ replicate 28 0 }
 {
-    let mut bytes = [0u8; 32];
-    bytes[..4].copy_from_slice(&number.to_be_bytes());
-    Member::new(bytes)
+    Member::new(wide_bytes(number))
 }
 
 /// The set of the items.

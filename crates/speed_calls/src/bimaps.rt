@@ -1,10 +1,9 @@
 //! Bimaps of numbers and numbers.
 
-use crate::bench::{Bench, Work};
-use crate::failure::{Failure, count_built};
-use crate::numbers::random;
+use crate::built::count_built;
 use commonware_utils::TryFromIterator;
 use commonware_utils::ordered::{BiMap, Error};
+use speed_core::{Bench, Failure, Work, random};
 use std::alloc::Global;
 use std::io::Write;
 use std::time::Clock;

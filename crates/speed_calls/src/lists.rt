@@ -1,10 +1,9 @@
 //! Lists that are never empty.
 
-use crate::bench::{Bench, Work};
 use crate::codec::{read, written};
-use crate::failure::Failure;
 use commonware_utils::codec::RangeCfg;
 use commonware_utils::vec::{Error, NonEmptyVec};
+use speed_core::{Bench, Failure, Work};
 use std::alloc::Global;
 use std::io::Write;
 use std::time::Clock;

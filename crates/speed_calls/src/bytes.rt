@@ -1,9 +1,8 @@
 //! Lists of bytes, written and read.
 
-use crate::bench::{Bench, Work};
 use crate::codec::{read, written};
-use crate::failure::Failure;
 use commonware_utils::codec::RangeCfg;
+use speed_core::{Bench, Failure, Work};
 use std::alloc::{AllocError, Global};
 use std::io::Write;
 use std::time::Clock;

@@ -1,10 +1,9 @@
 //! Maps of numbers to numbers.
 
-use crate::bench::{Bench, Work};
 use crate::codec::{read, written};
-use crate::failure::Failure;
 use commonware_utils::codec::RangeCfg;
 use commonware_utils::ordered::Map;
+use speed_core::{Bench, Failure, Work};
 use std::alloc::{AllocError, Global};
 use std::io::Write;
 use std::time::Clock;

@@ -1,0 +1,14 @@
+//! What a collection that was built counts as.
+
+use commonware_utils::ordered;
+use speed_core::Failure;
+
+/// What a collection that was built counts as: its length, or 1 where it was refused for the
+/// entries that it was to have.
+pub(crate) fn count_built(length: Result<usize, ordered::Error>) -> Result<u64, Failure> {
+    match length {
+        Ok(length) => Ok(length as u64),
+        Err(ordered::Error::Memory) => Err(Failure::Memory),
+        Err(_) => Ok(1),
+    }
+}
