@@ -3,6 +3,8 @@
 #![tactic(auto)]
 
 #[cfg(test)]
+mod accused;
+#[cfg(test)]
 mod certificates;
 #[cfg(test)]
 mod conflicts;

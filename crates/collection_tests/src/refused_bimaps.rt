@@ -134,28 +134,39 @@ fn a_map_is_no_bimap_without_memory(rt: HostRuntime) -> Result<(), Fail> {
     Ok(())
 }
 
-/// A map without pairs is taken without memory too.
+/// Whether {1: 30, 2: 20, 3: 10} is looked up.
+fn is_looked_up(bimap: &BiMap<u8, u8, Heap<'_>>) -> bool {
+    bimap.get_key(&10) == Some(&3)
+        && bimap.get_value(&3) == Some(&10)
+        && bimap.position(&3) == Some(2)
+        && bimap.value(0) == Some(&30)
+        && bimap.iter_pairs().next_back() == Some((&3, &10))
+}
+
 #[test]
 fn bimaps_are_looked_up_without_memory(rt: HostRuntime) -> Result<(), Fail> {
     let heap = Refusing::all_after(rt.alloc(), u64::MAX);
     let (bimap, other) = (three(&heap)?, three(&heap)?);
     heap.restart(0);
-    assert!(rt;
-        bimap.get_key(&10) == Some(&3)
-            && bimap.get_value(&3) == Some(&10)
-            && bimap.position(&3) == Some(2)
-            && bimap.value(0) == Some(&30)
-            && bimap == other
-            && bimap.iter_pairs().next_back() == Some((&3, &10))
-    );
+    assert!(rt; is_looked_up(&bimap) && bimap == other && !heap.has_refused());
+    Ok(())
+}
+
+#[test]
+fn bimaps_are_given_up_without_memory(rt: HostRuntime) -> Result<(), Fail> {
+    let heap = Refusing::all_after(rt.alloc(), u64::MAX);
+    let (bimap, other) = (three(&heap)?, three(&heap)?);
+    heap.restart(0);
+    assert!(rt; bimap.into_keys().as_slice() == [1, 2, 3].as_slice());
+    assert!(rt; other.into_iter().next() == Some((1, 30)) && !heap.has_refused());
+    Ok(())
+}
+
+#[test]
+fn a_map_without_pairs_is_a_bimap_without_memory(rt: HostRuntime) -> Result<(), Fail> {
+    let heap = Refusing::all_after(rt.alloc(), 0);
     let none: BiMap<u8, u8, Heap<'_>> = BiMap::empty(&heap);
     let from_none = BiMap::try_from_map(Map::empty(&heap))?;
-    assert!(rt;
-        bimap.into_keys().as_slice() == [1, 2, 3].as_slice()
-            && other.into_iter().next() == Some((1, 30))
-            && none.is_empty()
-            && from_none == none
-            && !heap.has_refused()
-    );
+    assert!(rt; none.is_empty() && from_none == none && !heap.has_refused());
     Ok(())
 }

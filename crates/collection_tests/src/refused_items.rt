@@ -1,7 +1,7 @@
 //! Collections whose items take memory of their own, with each request refused in turn, so that
 //! the refusal falls on an item too: what was lent is as it was.
 use commonware_utils::NZUsize;
-use commonware_utils::ordered::{self, BiMap, Map, MapError, Set};
+use commonware_utils::ordered::{BiMap, Map, MapError, Set};
 use commonware_utils::vec::{Bounded, NonEmptyVec};
 use std::alloc::AllocError;
 use test_equipment::walk::{Heap, Outcome, Refusable, asks_for, full, refused};
@@ -32,11 +32,9 @@ fn items_of<'a>(heap: Heap<'a>, texts: &[&[u8]; 3]) -> Result<[Item<'a>; 3], All
 
 /// The items of these texts, each with a clone of itself.
 fn pairs_of<'a>(heap: Heap<'a>, texts: &[&[u8]; 3]) -> Result<[Pair<'a>; 3], AllocError> {
-    Ok([
-        (item(heap, texts[0])?, item(heap, texts[0])?),
-        (item(heap, texts[1])?, item(heap, texts[1])?),
-        (item(heap, texts[2])?, item(heap, texts[2])?),
-    ])
+    let [a, b, c] = items_of(heap, texts)?;
+    let [d, e, f] = items_of(heap, texts)?;
+    Ok([(a, d), (b, e), (c, f)])
 }
 
 /// Whether the items have these texts.
@@ -59,6 +57,11 @@ fn pairs_are(pairs: &[Pair<'_>], texts: &[&[u8]]) -> bool {
     pairs.len() == texts.len()
 }
 
+/// Whether the set has the texts in order.
+fn is_in_order(set: &Set<Item<'_>, Heap<'_>>) -> bool {
+    are(set.as_slice(), &IN_ORDER)
+}
+
 /// A call that clones the items of a slice or an array.
 #[derive(Clone, Copy, Debug)]
 enum Build {
@@ -72,13 +75,8 @@ enum Build {
 /// memory.
 fn built<'a>(call: Build, heap: Heap<'a>, items: &[Item<'a>; 3]) -> Option<bool> {
     match call {
-        Build::SetOfSlice | Build::SetOfArray => {
-            let set: Result<Set<Item<'a>, Heap<'a>>, ordered::Error> = match call {
-                Build::SetOfSlice => Set::try_from_slice(heap, items),
-                _ => Set::try_from_array_ref(heap, items),
-            };
-            Some(are(set.ok()?.as_slice(), &IN_ORDER))
-        }
+        Build::SetOfSlice => Some(is_in_order(&Set::try_from_slice(heap, items).ok()?)),
+        Build::SetOfArray => Some(is_in_order(&Set::try_from_array_ref(heap, items).ok()?)),
         Build::ListOfSlice => {
             let list = NonEmptyVec::try_from_slice(heap, items).ok()?;
             Some(are(list.as_slice(), &TEXTS))
@@ -118,27 +116,28 @@ type Items<'a> = Map<Item<'a>, Item<'a>, Heap<'a>>;
 
 type ItemsBothWays<'a> = BiMap<Item<'a>, Item<'a>, Heap<'a>>;
 
+/// Whether the keys and the values of the map have the texts in order.
+fn map_is_in_order(map: &Items<'_>) -> bool {
+    is_in_order(map.keys()) && are(map.values(), &IN_ORDER)
+}
+
+/// The same of a bimap.
+fn bimap_is_in_order(bimap: &ItemsBothWays<'_>) -> bool {
+    is_in_order(bimap.keys()) && are(bimap.values(), &IN_ORDER)
+}
+
 /// What the call answers for the pairs, as whether it is right. `None` if it was refused for
 /// memory.
 fn built_of_pairs<'a>(call: BuildPairs, heap: Heap<'a>, pairs: &[Pair<'a>; 3]) -> Option<bool> {
-    match call {
-        BuildPairs::MapOfSlice | BuildPairs::MapOfArray => {
-            let map: Result<Items<'a>, ordered::Error> = match call {
-                BuildPairs::MapOfSlice => Map::try_from_slice(heap, pairs),
-                _ => Map::try_from_array_ref(heap, pairs),
-            };
-            let map = map.ok()?;
-            Some(are(map.keys().as_slice(), &IN_ORDER) && are(map.values(), &IN_ORDER))
+    let right = match call {
+        BuildPairs::MapOfSlice => map_is_in_order(&Map::try_from_slice(heap, pairs).ok()?),
+        BuildPairs::MapOfArray => map_is_in_order(&Map::try_from_array_ref(heap, pairs).ok()?),
+        BuildPairs::BiMapOfSlice => bimap_is_in_order(&BiMap::try_from_slice(heap, pairs).ok()?),
+        BuildPairs::BiMapOfArray => {
+            bimap_is_in_order(&BiMap::try_from_array_ref(heap, pairs).ok()?)
         }
-        BuildPairs::BiMapOfSlice | BuildPairs::BiMapOfArray => {
-            let bimap: Result<ItemsBothWays<'a>, ordered::Error> = match call {
-                BuildPairs::BiMapOfSlice => BiMap::try_from_slice(heap, pairs),
-                _ => BiMap::try_from_array_ref(heap, pairs),
-            };
-            let bimap = bimap.ok()?;
-            Some(are(bimap.keys().as_slice(), &IN_ORDER) && are(bimap.values(), &IN_ORDER))
-        }
-    }
+    };
+    Some(right)
 }
 
 impl Refusable for BuildPairs {
@@ -227,7 +226,7 @@ impl Refusable for MapValues {
                 .map_err(MapError::from),
             MapValues::Tried => map.try_map_values(|_, value| Ok(length(value))),
         };
-        let unchanged = are(map.keys().as_slice(), &IN_ORDER) && are(map.values(), &IN_ORDER);
+        let unchanged = map_is_in_order(&map);
         match lengths {
             Ok(lengths) => full(unchanged && lengths.values() == [1, 3, 2].as_slice()),
             Err(_) => refused(unchanged && calls == if granted == 0 { 0 } else { 3 }),

@@ -200,12 +200,10 @@ fn each_request_is_refused_in_turn(rt: HostRuntime) {
     }
 }
 
-#[test]
-fn a_list_gets_shorter_without_memory(rt: HostRuntime) -> Result<(), Fail> {
-    let heap = Refusing::all_after(rt.alloc(), u64::MAX);
-    let mut list = non_empty_vec!(&heap => 1u8, 2, 3, 4, 5, 6)?;
-    heap.restart(0);
-    assert!(rt; list.remove(1) == Some(2) && list.pop() == Some(6));
+/// Takes four of six items away, and answers whether the two that came back are right and no
+/// closure was called.
+fn shorten(list: &mut List<'_>) -> Result<bool, Error> {
+    let back = (list.remove(1), list.pop());
     list.resize(NZUsize!(4), 0)?;
     list.resize(NZUsize!(3), 0)?;
     let mut called = false;
@@ -217,18 +215,37 @@ fn a_list_gets_shorter_without_memory(rt: HostRuntime) -> Result<(), Fail> {
         called = true;
         0
     })?;
-    assert!(rt; list.as_slice() == [1, 3].as_slice() && !called && list.is_writable());
+    Ok(back == (Some(2), Some(6)) && !called)
+}
+
+#[test]
+fn a_list_gets_shorter_without_memory(rt: HostRuntime) -> Result<(), Fail> {
+    let heap = Refusing::all_after(rt.alloc(), u64::MAX);
+    let mut list = non_empty_vec!(&heap => 1u8, 2, 3, 4, 5, 6)?;
+    heap.restart(0);
+    assert!(rt; shorten(&mut list)? && list.as_slice() == [1, 3].as_slice());
+    assert!(rt; list.is_writable() && !heap.has_refused());
+    Ok(())
+}
+
+#[test]
+fn a_list_is_changed_and_given_up_without_memory(rt: HostRuntime) -> Result<(), Fail> {
+    let heap = Refusing::all_after(rt.alloc(), u64::MAX);
+    let mut list = non_empty_vec!(&heap => 1u8, 3)?;
+    heap.restart(0);
     list.mutate(|items| items.reverse());
     *list.first_mut() = 7;
     assert!(rt; list.len().get() == 2 && *list.last() == 1 && list[0] == 7);
     let items = NonEmptyVec::from_unchecked(list.into_vec()).into_vec();
-    let again = NonEmptyVec::try_from(items)?;
-    let bytes: Vec<u8, Heap<'_>> = again.into();
-    let none: Vec<u8, Heap<'_>> = Vec::new(&heap);
-    assert!(rt;
-        bytes.as_slice() == [7, 1].as_slice()
-            && NonEmptyVec::try_from(none).err() == Some(Error::Empty)
-            && !heap.has_refused()
-    );
+    let bytes: Vec<u8, Heap<'_>> = NonEmptyVec::try_from(items)?.into();
+    assert!(rt; bytes.as_slice() == [7, 1].as_slice() && !heap.has_refused());
     Ok(())
+}
+
+#[test]
+fn a_list_of_nothing_is_refused_without_memory(rt: HostRuntime) {
+    let heap = Refusing::all_after(rt.alloc(), 0);
+    let none: Vec<u8, Heap<'_>> = Vec::new(&heap);
+    let refusal = NonEmptyVec::try_from(none).err();
+    assert!(rt; refusal == Some(Error::Empty) && !heap.has_refused());
 }

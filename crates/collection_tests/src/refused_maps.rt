@@ -107,22 +107,19 @@ fn each_request_is_refused_in_turn(rt: HostRuntime) {
     assert!(rt; asks_for(rt.alloc(), &IntoPairs, 1));
 }
 
-#[test]
-fn maps_are_looked_up_and_given_up_without_memory(rt: HostRuntime) -> Result<(), Fail> {
-    let heap = Refusing::all_after(rt.alloc(), u64::MAX);
-    let mut map = Map::try_from_slice(&heap, &PAIRS)?;
-    let keys = Set::from_iter_dedup(&heap, [1u32, 3, 5])?;
-    let values = vec![in &heap; 10u8, 31, 50]?;
-    heap.restart(0);
-    assert!(rt;
-        map.len() == 4
-            && !map.is_empty()
-            && map.is_writable()
-            && (map.get(2), map.value(3), map.position(&3)) == (Some(&5), Some(&90), Some(1))
-            && map.keys().as_slice() == [1, 3, 5, 9].as_slice()
-            && map.iter().next() == Some(&1)
-            && map.iter_pairs().next_back() == Some((&9, &90))
-    );
+/// Whether the map of the pairs is looked up.
+fn is_looked_up(map: &Map<u32, u8, Heap<'_>>) -> bool {
+    map.len() == 4
+        && !map.is_empty()
+        && map.is_writable()
+        && (map.get(2), map.value(3), map.position(&3)) == (Some(&5), Some(&90), Some(1))
+        && map.keys().as_slice() == [1, 3, 5, 9].as_slice()
+        && map.iter().next() == Some(&1)
+        && map.iter_pairs().next_back() == Some((&9, &90))
+}
+
+/// Halves the values, writes 31 for 3, doubles the values and takes the last pair away.
+fn change(map: &mut Map<u32, u8, Heap<'_>>) {
     for value in map.values_mut() {
         *value /= 2;
     }
@@ -133,19 +130,37 @@ fn maps_are_looked_up_and_given_up_without_memory(rt: HostRuntime) -> Result<(),
         *value = value.saturating_mul(2);
     }
     map.truncate(3);
-    let parts = Map::from_parts(keys, values).ok_or("uneven")?;
-    assert!(rt;
-        map.values() == [10, 62, 50].as_slice()
-            && map.get_value(&3) == Some(&62)
-            && parts != map
-            && parts.into_iter().next_back() == Some((5, 50))
-    );
-    let none: Map<u32, u8, Heap<'_>> = Map::empty(&heap);
-    assert!(rt;
-        map.into_keys().as_slice() == [1, 3, 5].as_slice()
-            && none.is_empty()
-            && Map::<u32, u8, Heap<'_>>::max_encode_size(128, 1) == 644
-            && !heap.has_refused()
-    );
+}
+
+#[test]
+fn maps_are_looked_up_and_changed_without_memory(rt: HostRuntime) -> Result<(), Fail> {
+    let heap = Refusing::all_after(rt.alloc(), u64::MAX);
+    let mut map = Map::try_from_slice(&heap, &PAIRS)?;
+    heap.restart(0);
+    assert!(rt; is_looked_up(&map));
+    change(&mut map);
+    assert!(rt; map.values() == [10, 62, 50].as_slice() && map.get_value(&3) == Some(&62));
+    assert!(rt; map.into_keys().as_slice() == [1, 3, 5].as_slice() && !heap.has_refused());
     Ok(())
+}
+
+#[test]
+fn maps_of_parts_take_no_memory(rt: HostRuntime) -> Result<(), Fail> {
+    let heap = Refusing::all_after(rt.alloc(), u64::MAX);
+    let map = Map::try_from_slice(&heap, &PAIRS)?;
+    let keys = Set::from_iter_dedup(&heap, [1u32, 3, 5])?;
+    let values = vec![in &heap; 10u8, 31, 50]?;
+    heap.restart(0);
+    let parts = Map::from_parts(keys, values).ok_or("uneven")?;
+    assert!(rt; parts != map);
+    assert!(rt; parts.into_iter().next_back() == Some((5, 50)) && !heap.has_refused());
+    Ok(())
+}
+
+#[test]
+fn a_map_of_nothing_takes_no_memory(rt: HostRuntime) {
+    let heap = Refusing::all_after(rt.alloc(), 0);
+    let none: Map<u32, u8, Heap<'_>> = Map::empty(&heap);
+    let most = Map::<u32, u8, Heap<'_>>::max_encode_size(128, 1);
+    assert!(rt; none.is_empty() && most == 644 && !heap.has_refused());
 }

@@ -59,6 +59,14 @@ fn each_request_is_refused_in_turn(rt: HostRuntime) {
     assert!(rt; asks_for(rt.alloc(), &Pushes, 1) && asks_for(rt.alloc(), &Clones, 1));
 }
 
+/// Whether a full queue of 1, 2, 3 takes 4 and 5 for the first two, and gives the third.
+fn takes_two(queue: &mut Bounded<u8, Heap<'_>>) -> bool {
+    queue.push(4) == Ok(Some(1))
+        && queue.push(5) == Ok(Some(2))
+        && queue.pop_front() == Some(3)
+        && queue.capacity().get() == 3
+}
+
 #[test]
 fn a_full_queue_takes_no_memory(rt: HostRuntime) {
     let heap = Refusing::all_after(rt.alloc(), u64::MAX);
@@ -67,14 +75,16 @@ fn a_full_queue_takes_no_memory(rt: HostRuntime) {
         let _ = queue.push(item);
     }
     heap.restart(0);
-    assert!(rt;
-        queue.push(4) == Ok(Some(1))
-            && queue.push(5) == Ok(Some(2))
-            && queue.pop_front() == Some(3)
-            && queue.capacity().get() == 3
-    );
-    let empty: Bounded<u8, Heap<'_>> = Bounded::new(&heap, NZUsize!(9));
-    assert!(rt; empty != queue && empty.into_inner().is_empty());
+    assert!(rt; takes_two(&mut queue));
     let items: VecDeque<u8, Heap<'_>> = queue.into();
     assert!(rt; items.iter().eq([4, 5].iter()) && !heap.has_refused());
+}
+
+#[test]
+fn an_empty_queue_takes_no_memory(rt: HostRuntime) {
+    let heap = Refusing::all_after(rt.alloc(), 0);
+    let empty: Bounded<u8, Heap<'_>> = Bounded::new(&heap, NZUsize!(9));
+    let other: Bounded<u8, Heap<'_>> = Bounded::new(&heap, NZUsize!(3));
+    assert!(rt; empty != other && !heap.has_refused());
+    assert!(rt; empty.into_inner().is_empty());
 }

@@ -75,34 +75,50 @@ fn each_request_is_refused_in_turn(rt: HostRuntime) {
     }
 }
 
+/// Whether {1, 3, 5} is read by its places.
+fn is_read(set: &Set<u32, Heap<'_>>) -> bool {
+    set.len() == 3
+        && set[0] == 1
+        && set.slice(1..3) == [3, 5].as_slice()
+        && set.get(1) == Some(&3)
+        && set.position(&5) == Some(2)
+        && set.iter().next_back() == Some(&5)
+}
+
+/// Whether {1, 3, 5} is a committee of three.
+fn is_committee(set: &Set<u32, Heap<'_>>) -> bool {
+    set.len() == 3
+        && set.key(Participant::new(1)) == Some(&3)
+        && set.index(&5) == Some(Participant::new(2))
+        && (set.quorum::<N3f1>(), set.max_faults::<N5f1>()) == (3, 0)
+}
+
 #[test]
-fn sets_are_read_and_given_up_without_memory(rt: HostRuntime) -> Result<(), Fail> {
+fn sets_are_read_without_memory(rt: HostRuntime) -> Result<(), Fail> {
+    let heap = Refusing::all_after(rt.alloc(), u64::MAX);
+    let set = Set::from_iter_dedup(&heap, [5u32, 1, 3])?;
+    heap.restart(0);
+    assert!(rt; is_read(&set) && is_committee(&set) && !heap.has_refused());
+    Ok(())
+}
+
+#[test]
+fn sets_are_compared_and_given_up_without_memory(rt: HostRuntime) -> Result<(), Fail> {
     let heap = Refusing::all_after(rt.alloc(), u64::MAX);
     let set = Set::from_iter_dedup(&heap, [5u32, 1, 3])?;
     let other = Set::from_iter_dedup(&heap, [5u32, 1])?;
     heap.restart(0);
-    assert!(rt;
-        set.position(&5) == Some(2)
-            && set.len() == 3
-            && set[0] == 1
-            && set.slice(1..3) == [3, 5].as_slice()
-            && set.get(1) == Some(&3)
-            && set.iter().next_back() == Some(&5)
-    );
     assert!(rt; set < other && set != other && set.is_writable());
-    assert!(rt;
-        set.key(Participant::new(1)) == Some(&3)
-            && set.index(&5) == Some(Participant::new(2))
-            && (set.quorum::<N3f1>(), set.max_faults::<N5f1>()) == (3, 0)
-    );
     let items: Vec<u32, Heap<'_>> = set.into();
-    let none: Set<u32, Heap<'_>> = Set::empty(&heap);
-    assert!(rt;
-        items.as_slice() == [1, 3, 5].as_slice()
-            && other.into_iter().next_back() == Some(5)
-            && none.is_empty()
-            && Set::<u32, Heap<'_>>::max_encode_size(128) == 514
-            && !heap.has_refused()
-    );
+    assert!(rt; items.as_slice() == [1, 3, 5].as_slice());
+    assert!(rt; other.into_iter().next_back() == Some(5) && !heap.has_refused());
     Ok(())
+}
+
+#[test]
+fn a_set_of_nothing_takes_no_memory(rt: HostRuntime) {
+    let heap = Refusing::all_after(rt.alloc(), 0);
+    let none: Set<u32, Heap<'_>> = Set::empty(&heap);
+    let most = Set::<u32, Heap<'_>>::max_encode_size(128);
+    assert!(rt; none.is_empty() && most == 514 && !heap.has_refused());
 }

@@ -1,4 +1,5 @@
-//! Tests of the program over scripted devices, and with each request for memory refused in turn.
+//! Tests of the programs over scripted devices, and with each request for memory refused in turn:
+//! of the program `committee`, and in a file each of `judge` and `speed`.
 #![tactic(auto)]
 
 #[cfg(test)]
@@ -16,6 +17,8 @@ mod every_bound;
 #[cfg(test)]
 mod failing_devices;
 #[cfg(test)]
+mod judge;
+#[cfg(test)]
 mod long_inputs;
 #[cfg(test)]
 mod refused_programs;
@@ -25,6 +28,8 @@ mod runs;
 mod session_trial;
 #[cfg(test)]
 mod sessions;
+#[cfg(test)]
+mod speed;
 #[cfg(test)]
 mod standard_error;
 #[cfg(test)]

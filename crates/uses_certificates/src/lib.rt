@@ -3,7 +3,5 @@
 #![tactic(auto)]
 
 mod double_signers;
-#[cfg(test)]
-mod tests;
 
 pub use double_signers::{accused, conflict_n3f1, conflict_n5f1};

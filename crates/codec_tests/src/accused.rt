@@ -1,10 +1,10 @@
-//! Certificates of committees of four and of six members.
-use crate::{accused, conflict_n3f1, conflict_n5f1};
+//! Certificates of committees of four and of six members, as a user of both models calls them.
 use committee_certificates::{Certificate, ConflictError};
 use commonware_utils::Participant;
 use commonware_utils::ordered::Set;
 use std::alloc::{AllocError, Global};
 use std::test::Fail;
+use uses_certificates::{accused, conflict_n3f1, conflict_n5f1};
 
 /// The participants of these indices.
 fn participants(alloc: Global, indices: &[u32]) -> Result<Set<Participant, Global>, AllocError> {
