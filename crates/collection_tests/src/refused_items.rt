@@ -32,9 +32,11 @@ fn items_of<'a>(heap: Heap<'a>, texts: &[&[u8]; 3]) -> Result<[Item<'a>; 3], All
 
 /// The items of these texts, each with a clone of itself.
 fn pairs_of<'a>(heap: Heap<'a>, texts: &[&[u8]; 3]) -> Result<[Pair<'a>; 3], AllocError> {
-    let [a, b, c] = items_of(heap, texts)?;
-    let [d, e, f] = items_of(heap, texts)?;
-    Ok([(a, d), (b, e), (c, f)])
+    Ok([
+        (item(heap, texts[0])?, item(heap, texts[0])?),
+        (item(heap, texts[1])?, item(heap, texts[1])?),
+        (item(heap, texts[2])?, item(heap, texts[2])?),
+    ])
 }
 
 /// Whether the items have these texts.
