@@ -1,4 +1,5 @@
-//! Tests of the collections with each request for memory refused in turn.
+//! Tests of the collections with each request for memory refused in turn, and of the equipment that
+//! refuses it: its heap, its reader and its writer.
 #![tactic(auto)]
 
 #[cfg(test)]
@@ -26,4 +27,8 @@ mod refused_unions;
 #[cfg(test)]
 mod refused_value_maps;
 #[cfg(test)]
+mod refusing_heaps;
+#[cfg(test)]
 mod repeat_or_refusal;
+#[cfg(test)]
+mod scripted_devices;

@@ -5,9 +5,6 @@ use std::alloc::Allocator;
 use std::io;
 use std::io::{Read, Write};
 
-#[cfg(test)]
-mod tests;
-
 /// What a [`ScriptedReader`] does at the one call of `read` at which it goes wrong.
 #[derive(Clone, Copy, Debug, PartialEq, Eq)]
 pub enum ReadFault {

@@ -3,9 +3,6 @@
 use std::alloc::{AllocError, Allocator};
 use std::cell::Cell;
 
-#[cfg(test)]
-mod tests;
-
 /// Passes every request on to another allocator, but refuses one of them, or all from one on, or
 /// each one for more than so many bytes.
 ///

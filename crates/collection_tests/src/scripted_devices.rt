@@ -1,6 +1,7 @@
-use crate::{ReadFault, ScriptedReader, ScriptedWriter, WriteFault};
+//! The reader and the writer of these tests: they do what their script says, call by call.
 use std::io::{ErrorKind, Read, Write};
 use std::test::Fail;
+use test_equipment::{ReadFault, ScriptedReader, ScriptedWriter, WriteFault};
 
 /// What a call answers: how many bytes, or the kind of its error.
 type Answer = Result<usize, ErrorKind>;

@@ -1,5 +1,6 @@
-use crate::Refusing;
+//! The heap of these tests: which requests it refuses, and that it says so.
 use std::alloc::Global;
+use test_equipment::Refusing;
 
 #[test]
 fn one_request_alone_is_refused(rt: HostRuntime) {
