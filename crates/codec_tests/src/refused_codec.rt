@@ -11,7 +11,6 @@ use commonware_utils::ordered::{BiMap, Map, Set};
 use commonware_utils::vec::NonEmptyVec;
 use std::alloc::Allocator;
 use std::num::NonZeroUsize;
-use std::test::Fail;
 use test_equipment::Refusing;
 use test_equipment::walk::{Heap, Outcome, Refusable, asks_for, full, refused, requests};
 
@@ -255,13 +254,12 @@ impl<'b> Refusable for LongRead<'b> {
 
 /// A list of 1,024 items of one byte takes one request.
 #[test]
-fn a_list_takes_one_request(rt: HostRuntime) -> Result<(), Fail> {
-    let mut bytes = b"\x80\x08".to_vec(rt.alloc())?;
+fn a_list_takes_one_request(rt: HostRuntime) {
+    let mut bytes = b"\x80\x08".to_vec(rt.alloc()).expect(&rt, "memory");
     for _ in 0..1024 {
-        bytes.push(0x55u8)?;
+        bytes.push(0x55u8).expect(&rt, "memory");
     }
     assert!(rt; requests(rt.alloc(), &LongRead(&bytes)) == Some(1));
-    Ok(())
 }
 
 #[test]
@@ -277,14 +275,14 @@ fn each_request_is_refused_in_turn(rt: HostRuntime) {
 
 /// A varint is written into a sink with room for it, for a part of it and for none.
 #[test]
-fn a_refused_varint_leaves_the_sink(rt: HostRuntime) -> Result<(), Fail> {
+fn a_refused_varint_leaves_the_sink(rt: HostRuntime) {
     let heap = Refusing::after(rt.alloc(), u64::MAX);
     let mut refusals = 0u32;
     for length in 0..64usize {
         heap.restart(u64::MAX);
         let mut sink = Vec::new(&heap);
         for _ in 0..length {
-            sink.push(0xaau8)?;
+            sink.push(0xaau8).expect(&rt, "memory");
         }
         heap.restart(0);
         let written = UInt(300).write(&mut sink);
@@ -294,5 +292,4 @@ fn a_refused_varint_leaves_the_sink(rt: HostRuntime) -> Result<(), Fail> {
         refusals = refusals.saturating_add(refused as u32);
     }
     assert!(rt; refusals > 2, "{refusals}");
-    Ok(())
 }

@@ -10,7 +10,6 @@ use commonware_utils::ordered::{BiMap, Map, Set};
 use commonware_utils::vec::NonEmptyVec;
 use std::alloc::{AllocError, Allocator, Global};
 use std::num::NonZeroUsize;
-use std::test::Fail;
 use test_equipment::Refusing;
 use test_equipment::walk::Heap;
 
@@ -97,13 +96,13 @@ const SHORT: [(Form, &[u8], &[u8]); 10] = [
 ];
 
 #[test]
-fn a_stated_length_alone_makes_no_room(rt: HostRuntime) -> Result<(), Fail> {
+fn a_stated_length_alone_makes_no_room(rt: HostRuntime) {
     for (form, before, after) in SHORT {
         for stated in STATED {
             let heap = Refusing::above(rt.alloc(), MOST_BYTES);
-            let mut bytes = before.to_vec(rt.alloc())?;
-            bytes.extend_from_slice(stated)?;
-            bytes.extend_from_slice(after)?;
+            let mut bytes = before.to_vec(rt.alloc()).expect(&rt, "memory");
+            bytes.extend_from_slice(stated).expect(&rt, "memory");
+            bytes.extend_from_slice(after).expect(&rt, "memory");
             let outcome = form.read(&heap, &bytes);
             assert!(rt;
                 outcome == (Some(Error::EndOfBuffer), 0) && !heap.has_refused(),
@@ -111,7 +110,6 @@ fn a_stated_length_alone_makes_no_room(rt: HostRuntime) -> Result<(), Fail> {
             );
         }
     }
-    Ok(())
 }
 
 /// With as little memory at once, what is not short is accepted.
@@ -169,11 +167,13 @@ const ROOMS: [(&[u8], usize, usize, usize); 7] = [
 
 /// Room goes by the bytes that are there, whatever length is stated.
 #[test]
-fn room_goes_by_the_bytes_that_are_there(rt: HostRuntime) -> Result<(), Fail> {
+fn room_goes_by_the_bytes_that_are_there(rt: HostRuntime) {
     for form in [Form::Numbers, Form::NumberSet, Form::SomeNumbers] {
         for stated in STATED {
             for (number, times, faulty, room) in ROOMS {
-                let bytes = numbers(rt.alloc(), stated, number, times, faulty)?;
+                let bytes = numbers(rt.alloc(), stated, number, times, faulty).expect(
+                    &rt, "memory",
+                );
                 let heap = Refusing::above(rt.alloc(), room * NUMBER);
                 let outcome = form.read(&heap, &bytes);
                 assert!(rt;
@@ -189,5 +189,4 @@ fn room_goes_by_the_bytes_that_are_there(rt: HostRuntime) -> Result<(), Fail> {
             }
         }
     }
-    Ok(())
 }

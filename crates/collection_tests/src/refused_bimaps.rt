@@ -2,7 +2,6 @@
 //! calls that take none.
 use commonware_utils::ordered::{BiMap, Error, Map};
 use commonware_utils::{TryCollect, TryFromIterator};
-use std::test::Fail;
 use test_equipment::Refusing;
 use test_equipment::walk::{Heap, Outcome, Refusable, asks_for, full, refused};
 
@@ -126,12 +125,11 @@ fn each_request_is_refused_in_turn(rt: HostRuntime) {
 
 /// The map is there; the set in which its values are looked up is refused.
 #[test]
-fn a_map_is_no_bimap_without_memory(rt: HostRuntime) -> Result<(), Fail> {
+fn a_map_is_no_bimap_without_memory(rt: HostRuntime) {
     let heap = Refusing::all_after(rt.alloc(), u64::MAX);
-    let map = Map::try_from_iter(&heap, [(1u8, 10u8), (2, 20)])?;
+    let map = Map::try_from_iter(&heap, [(1u8, 10u8), (2, 20)]).expect(&rt, "memory");
     heap.restart(0);
     assert!(rt; BiMap::try_from_map(map).err() == Some(Error::Memory) && heap.has_refused());
-    Ok(())
 }
 
 /// Whether {1: 30, 2: 20, 3: 10} is looked up.
@@ -144,29 +142,32 @@ fn is_looked_up(bimap: &BiMap<u8, u8, Heap<'_>>) -> bool {
 }
 
 #[test]
-fn bimaps_are_looked_up_without_memory(rt: HostRuntime) -> Result<(), Fail> {
+fn bimaps_are_looked_up_without_memory(rt: HostRuntime) {
     let heap = Refusing::all_after(rt.alloc(), u64::MAX);
-    let (bimap, other) = (three(&heap)?, three(&heap)?);
+    let (bimap, other) = (
+        three(&heap).expect(&rt, "memory"),
+        three(&heap).expect(&rt, "memory"),
+    );
     heap.restart(0);
     assert!(rt; is_looked_up(&bimap) && bimap == other && !heap.has_refused());
-    Ok(())
 }
 
 #[test]
-fn bimaps_are_given_up_without_memory(rt: HostRuntime) -> Result<(), Fail> {
+fn bimaps_are_given_up_without_memory(rt: HostRuntime) {
     let heap = Refusing::all_after(rt.alloc(), u64::MAX);
-    let (bimap, other) = (three(&heap)?, three(&heap)?);
+    let (bimap, other) = (
+        three(&heap).expect(&rt, "memory"),
+        three(&heap).expect(&rt, "memory"),
+    );
     heap.restart(0);
     assert!(rt; bimap.into_keys().as_slice() == [1, 2, 3].as_slice());
     assert!(rt; other.into_iter().next() == Some((1, 30)) && !heap.has_refused());
-    Ok(())
 }
 
 #[test]
-fn a_map_without_pairs_is_a_bimap_without_memory(rt: HostRuntime) -> Result<(), Fail> {
+fn a_map_without_pairs_is_a_bimap_without_memory(rt: HostRuntime) {
     let heap = Refusing::all_after(rt.alloc(), 0);
     let none: BiMap<u8, u8, Heap<'_>> = BiMap::empty(&heap);
-    let from_none = BiMap::try_from_map(Map::empty(&heap))?;
+    let from_none = BiMap::try_from_map(Map::empty(&heap)).expect(&rt, "memory");
     assert!(rt; none.is_empty() && from_none == none && !heap.has_refused());
-    Ok(())
 }

@@ -3,7 +3,6 @@
 use crate::builders::{BUILDERS, Builder};
 use crate::{refused_maps, refused_sets};
 use commonware_utils::ordered::{Error, Set};
-use std::test::Fail;
 use test_equipment::Refusing;
 use test_equipment::walk::{Heap, Outcome, Refusable, asks_for, full, refused};
 
@@ -98,16 +97,15 @@ fn each_request_of_a_map_is_refused_in_turn(rt: HostRuntime) {
 }
 
 #[test]
-fn a_list_that_is_a_set_is_taken_without_memory(rt: HostRuntime) -> Result<(), Fail> {
+fn a_list_that_is_a_set_is_taken_without_memory(rt: HostRuntime) {
     for count in [0, 1, 2, 40] {
         let heap = Refusing::all_after(rt.alloc(), u64::MAX);
-        let items: Vec<u32, Heap<'_>> = (0..count).collect(&heap)?;
+        let items: Vec<u32, Heap<'_>> = (0..count).collect(&heap).expect(&rt, "memory");
         heap.restart(0);
-        let set = Set::try_from_vec(items)?;
+        let set = Set::try_from_vec(items).expect(&rt, "memory");
         assert!(rt;
             set.iter().copied().eq(0..count) && !heap.has_refused(),
             "{count}"
         );
     }
-    Ok(())
 }

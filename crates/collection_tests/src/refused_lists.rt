@@ -4,7 +4,6 @@
 use commonware_utils::codec::EncodeSize;
 use commonware_utils::vec::{Error, Mutate, NonEmptyVec};
 use commonware_utils::{NZUsize, TryCollect, TryFromIterator, non_empty_vec};
-use std::test::Fail;
 use test_equipment::Refusing;
 use test_equipment::walk::{Heap, Outcome, Refusable, asks_for, full, refused};
 
@@ -222,27 +221,25 @@ fn shorten(list: &mut List<'_>) -> Result<bool, Error> {
 }
 
 #[test]
-fn a_list_gets_shorter_without_memory(rt: HostRuntime) -> Result<(), Fail> {
+fn a_list_gets_shorter_without_memory(rt: HostRuntime) {
     let heap = Refusing::all_after(rt.alloc(), u64::MAX);
-    let mut list = non_empty_vec!(&heap => 1u8, 2, 3, 4, 5, 6)?;
+    let mut list = non_empty_vec!(&heap => 1u8, 2, 3, 4, 5, 6).expect(&rt, "memory");
     heap.restart(0);
-    assert!(rt; shorten(&mut list)? && list.as_slice() == [1, 3].as_slice());
+    assert!(rt; shorten(&mut list).expect(&rt, "memory") && list.as_slice() == [1, 3].as_slice());
     assert!(rt; list.is_writable() && !heap.has_refused());
-    Ok(())
 }
 
 #[test]
-fn a_list_is_changed_and_given_up_without_memory(rt: HostRuntime) -> Result<(), Fail> {
+fn a_list_is_changed_and_given_up_without_memory(rt: HostRuntime) {
     let heap = Refusing::all_after(rt.alloc(), u64::MAX);
-    let mut list = non_empty_vec!(&heap => 1u8, 3)?;
+    let mut list = non_empty_vec!(&heap => 1u8, 3).expect(&rt, "memory");
     heap.restart(0);
     list.mutate(|items| items.reverse());
     *list.first_mut() = 7;
     assert!(rt; list.len().get() == 2 && *list.last() == 1 && list[0] == 7);
     let items = NonEmptyVec::from_unchecked(list.into_vec()).into_vec();
-    let bytes: Vec<u8, Heap<'_>> = NonEmptyVec::try_from(items)?.into();
+    let bytes: Vec<u8, Heap<'_>> = NonEmptyVec::try_from(items).expect(&rt, "memory").into();
     assert!(rt; bytes.as_slice() == [7, 1].as_slice() && !heap.has_refused());
-    Ok(())
 }
 
 #[test]

@@ -4,7 +4,6 @@ use crate::builders::{BUILDERS, Builder};
 use commonware_utils::codec::EncodeSize;
 use commonware_utils::ordered::{Error, Map, Set};
 use commonware_utils::{TryCollect, TryFromIterator};
-use std::test::Fail;
 use test_equipment::Refusing;
 use test_equipment::walk::{Heap, Outcome, Refusable, asks_for, full, refused};
 
@@ -133,28 +132,26 @@ fn change(map: &mut Map<u32, u8, Heap<'_>>) {
 }
 
 #[test]
-fn maps_are_looked_up_and_changed_without_memory(rt: HostRuntime) -> Result<(), Fail> {
+fn maps_are_looked_up_and_changed_without_memory(rt: HostRuntime) {
     let heap = Refusing::all_after(rt.alloc(), u64::MAX);
-    let mut map = Map::try_from_slice(&heap, &PAIRS)?;
+    let mut map = Map::try_from_slice(&heap, &PAIRS).expect(&rt, "memory");
     heap.restart(0);
     assert!(rt; is_looked_up(&map));
     change(&mut map);
     assert!(rt; map.values() == [10, 62, 50].as_slice() && map.get_value(&3) == Some(&62));
     assert!(rt; map.into_keys().as_slice() == [1, 3, 5].as_slice() && !heap.has_refused());
-    Ok(())
 }
 
 #[test]
-fn maps_of_parts_take_no_memory(rt: HostRuntime) -> Result<(), Fail> {
+fn maps_of_parts_take_no_memory(rt: HostRuntime) {
     let heap = Refusing::all_after(rt.alloc(), u64::MAX);
-    let map = Map::try_from_slice(&heap, &PAIRS)?;
-    let keys = Set::from_iter_dedup(&heap, [1u32, 3, 5])?;
-    let values = vec![in &heap; 10u8, 31, 50]?;
+    let map = Map::try_from_slice(&heap, &PAIRS).expect(&rt, "memory");
+    let keys = Set::from_iter_dedup(&heap, [1u32, 3, 5]).expect(&rt, "memory");
+    let values = vec![in &heap; 10u8, 31, 50].expect(&rt, "memory");
     heap.restart(0);
-    let parts = Map::from_parts(keys, values).ok_or("uneven")?;
+    let parts = Map::from_parts(keys, values).expect(&rt, "uneven");
     assert!(rt; parts != map);
     assert!(rt; parts.into_iter().next_back() == Some((5, 50)) && !heap.has_refused());
-    Ok(())
 }
 
 #[test]

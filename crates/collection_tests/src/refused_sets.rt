@@ -4,7 +4,6 @@ use crate::builders::{BUILDERS, Builder};
 use commonware_utils::codec::EncodeSize;
 use commonware_utils::ordered::{Error, Quorum, Set};
 use commonware_utils::{N3f1, N5f1, Participant, TryCollect, TryFromIterator};
-use std::test::Fail;
 use test_equipment::Refusing;
 use test_equipment::walk::{Heap, Outcome, Refusable, asks_for, full, refused};
 
@@ -94,25 +93,23 @@ fn is_committee(set: &Set<u32, Heap<'_>>) -> bool {
 }
 
 #[test]
-fn sets_are_read_without_memory(rt: HostRuntime) -> Result<(), Fail> {
+fn sets_are_read_without_memory(rt: HostRuntime) {
     let heap = Refusing::all_after(rt.alloc(), u64::MAX);
-    let set = Set::from_iter_dedup(&heap, [5u32, 1, 3])?;
+    let set = Set::from_iter_dedup(&heap, [5u32, 1, 3]).expect(&rt, "memory");
     heap.restart(0);
     assert!(rt; is_read(&set) && is_committee(&set) && !heap.has_refused());
-    Ok(())
 }
 
 #[test]
-fn sets_are_compared_and_given_up_without_memory(rt: HostRuntime) -> Result<(), Fail> {
+fn sets_are_compared_and_given_up_without_memory(rt: HostRuntime) {
     let heap = Refusing::all_after(rt.alloc(), u64::MAX);
-    let set = Set::from_iter_dedup(&heap, [5u32, 1, 3])?;
-    let other = Set::from_iter_dedup(&heap, [5u32, 1])?;
+    let set = Set::from_iter_dedup(&heap, [5u32, 1, 3]).expect(&rt, "memory");
+    let other = Set::from_iter_dedup(&heap, [5u32, 1]).expect(&rt, "memory");
     heap.restart(0);
     assert!(rt; set < other && set != other && set.is_writable());
     let items: Vec<u32, Heap<'_>> = set.into();
     assert!(rt; items.as_slice() == [1, 3, 5].as_slice());
     assert!(rt; other.into_iter().next_back() == Some(5) && !heap.has_refused());
-    Ok(())
 }
 
 #[test]

@@ -5,7 +5,6 @@ use commonware_utils::TryFromIterator;
 use commonware_utils::ordered::{Error, Map, Set};
 use std::alloc::{AllocError, Global};
 use std::cell::Cell;
-use std::test::Fail;
 use test_equipment::Refusing;
 use test_equipment::walk::{Heap, Outcome, Refusable, full, refused, requests};
 
@@ -64,9 +63,9 @@ fn a_refusal_before_the_first_repeat_is_told(rt: HostRuntime) {
 
 /// The item that is repeated is the last, one of those in the midst, or the first.
 #[test]
-fn a_refusal_before_a_late_repeat_is_told(rt: HostRuntime) -> Result<(), Fail> {
+fn a_refusal_before_a_late_repeat_is_told(rt: HostRuntime) {
     for last in [MANY - 1, 50, 1] {
-        let items = items_of(rt.alloc(), &[1, 2], &[last])?;
+        let items = items_of(rt.alloc(), &[1, 2], &[last]).expect(&rt, "memory");
         for kind in KINDS {
             for tells in [false, true] {
                 let asked = Cell::new(0);
@@ -81,12 +80,11 @@ fn a_refusal_before_a_late_repeat_is_told(rt: HostRuntime) -> Result<(), Fail> {
             }
         }
     }
-    Ok(())
 }
 
 #[test]
-fn a_repeat_before_the_first_refusal_is_told(rt: HostRuntime) -> Result<(), Fail> {
-    let items = items_of(rt.alloc(), &[5, 5], &[])?;
+fn a_repeat_before_the_first_refusal_is_told(rt: HostRuntime) {
+    let items = items_of(rt.alloc(), &[5, 5], &[]).expect(&rt, "memory");
     for kind in KINDS {
         for tells in [false, true] {
             let asked = Cell::new(0);
@@ -98,7 +96,6 @@ fn a_repeat_before_the_first_refusal_is_told(rt: HostRuntime) -> Result<(), Fail
             );
         }
     }
-    Ok(())
 }
 
 /// Items of which two of the first few are equal.
@@ -133,11 +130,11 @@ const STARTS: [&[u32]; 6] = [
 ];
 
 #[test]
-fn no_room_is_made_for_what_follows_a_repeat(rt: HostRuntime) -> Result<(), Fail> {
+fn no_room_is_made_for_what_follows_a_repeat(rt: HostRuntime) {
     for start in STARTS {
         for kind in KINDS {
             for tells in [false, true] {
-                let items = items_of(rt.alloc(), start, &[])?;
+                let items = items_of(rt.alloc(), start, &[]).expect(&rt, "memory");
                 let asked = requests(rt.alloc(), &Repeated { kind, items, tells });
                 assert!(rt;
                     matches!(asked, Some(1..=FEW)),
@@ -146,13 +143,12 @@ fn no_room_is_made_for_what_follows_a_repeat(rt: HostRuntime) -> Result<(), Fail
             }
         }
     }
-    Ok(())
 }
 
 #[test]
-fn no_item_is_asked_for_after_a_repeat(rt: HostRuntime) -> Result<(), Fail> {
+fn no_item_is_asked_for_after_a_repeat(rt: HostRuntime) {
     for start in STARTS {
-        let items = items_of(rt.alloc(), start, &[])?;
+        let items = items_of(rt.alloc(), start, &[]).expect(&rt, "memory");
         for kind in KINDS {
             for tells in [false, true] {
                 let asked = Cell::new(0);
@@ -165,5 +161,4 @@ fn no_item_is_asked_for_after_a_repeat(rt: HostRuntime) -> Result<(), Fail> {
             }
         }
     }
-    Ok(())
 }

@@ -11,7 +11,7 @@ const BROKEN: Answer = Err(ErrorKind::BrokenPipe);
 const INTERRUPTED: Answer = Err(ErrorKind::Interrupted);
 
 #[test]
-fn a_reader_ends_or_fails_after_its_bytes(rt: HostRuntime) -> Result<(), Fail> {
+fn a_reader_ends_or_fails_after_its_bytes(rt: HostRuntime) {
     for failure in [
         None,
         Some(ErrorKind::BrokenPipe),
@@ -22,7 +22,10 @@ fn a_reader_ends_or_fails_after_its_bytes(rt: HostRuntime) -> Result<(), Fail> {
             input = input.failing(kind);
         }
         let mut buf = [0; 9];
-        let given = (input.read(&mut buf)?, input.read(&mut buf)?);
+        let given = (
+            input.read(&mut buf).expect(&rt, "memory"),
+            input.read(&mut buf).expect(&rt, "memory"),
+        );
         for _ in 0..2 {
             let right = match input.read(&mut buf) {
                 Ok(given) => given == 0 && failure.is_none(),
@@ -32,7 +35,6 @@ fn a_reader_ends_or_fails_after_its_bytes(rt: HostRuntime) -> Result<(), Fail> {
         }
         assert!(rt; given == (2, 1) && input.calls == 4, "{failure:?}");
     }
-    Ok(())
 }
 
 /// Of a reader of four bytes, two a call: the call that goes wrong, how, and what each call
@@ -145,13 +147,12 @@ fn a_writer_goes_wrong_at_one_call_or_from_it_on(rt: HostRuntime) {
 }
 
 #[test]
-fn a_writer_that_takes_no_byte_takes_none_when_it_goes_wrong(rt: HostRuntime) -> Result<(), Fail> {
+fn a_writer_that_takes_no_byte_takes_none_when_it_goes_wrong(rt: HostRuntime) {
     let mut output = ScriptedWriter::new(rt.alloc(), 0).with_fault(0, WriteFault::TakesOneByte);
     for _ in 0..2 {
-        let taken = output.write(b"abc")?;
+        let taken = output.write(b"abc").expect(&rt, "memory");
         assert!(rt; taken == 0 && output.taken.is_empty());
     }
-    Ok(())
 }
 
 #[test]

@@ -36,7 +36,6 @@ use std::alloc::{AllocError, Allocator};
 use std::cmp::Ordering;
 use std::fmt::{Debug, Display};
 use std::hash::{DefaultHasher, Hash, Hasher};
-use std::test::Fail;
 
 /// What the reader answers for the bytes, and how many of them it took.
 fn read<T: Read<A>, A: Allocator + Copy>(
@@ -69,17 +68,12 @@ fn refuses<T: Read<A> + Drop, A: Allocator + Copy>(
 }
 
 /// Whether the value is written as these bytes, and its size is their number.
-fn is_written_as<T: Write<A>, A: Allocator>(
-    alloc: A,
-    value: &T,
-    bytes: &[u8],
-) -> Result<bool, AllocError> {
+fn is_written_as<T: Write<A>, A: Allocator>(alloc: A, value: &T, bytes: &[u8]) -> bool {
     let mut sink = Vec::new(alloc);
-    if !value.is_writable() {
-        return Ok(false);
-    }
-    value.write(&mut sink)?;
-    Ok(sink.as_slice() == bytes && value.encode_size() == bytes.len())
+    value.is_writable()
+        && value.write(&mut sink).is_ok()
+        && sink.as_slice() == bytes
+        && value.encode_size() == bytes.len()
 }
 
 /// What the reader answers for lists of bytes that are written one after the other.
@@ -103,35 +97,23 @@ fn comes_back<T: Read<A> + Write<A> + PartialEq + Drop, A: Allocator + Copy>(
     alloc: A,
     value: &T,
     cfg: &T::Cfg,
-) -> Result<bool, AllocError> {
+) -> bool {
     let mut sink = Vec::new(alloc);
-    if !value.is_writable() {
-        return Ok(false);
+    if !value.is_writable() || value.write(&mut sink).is_err() {
+        return false;
     }
-    value.write(&mut sink)?;
     let (again, taken) = read::<T, A>(alloc, &sink, cfg);
-    match again {
-        Ok(again) => Ok(again == *value && taken == sink.len()),
-        Err(_) => Ok(false),
-    }
+    again.is_ok_and(|again| again == *value && taken == sink.len())
 }
 
 /// Whether the value has this text.
-fn is_shown_as<T: Display, A: Allocator + Copy>(
-    alloc: A,
-    value: &T,
-    text: &str,
-) -> Result<bool, Fail> {
-    Ok(format!(in alloc; "{value}")?.as_str() == text)
+fn is_shown_as<T: Display, A: Allocator + Copy>(alloc: A, value: &T, text: &str) -> bool {
+    format!(in alloc; "{value}").is_ok_and(|shown| shown.as_str() == text)
 }
 
 /// Whether the value has this text for one who looks for faults.
-fn is_debugged_as<T: Debug, A: Allocator + Copy>(
-    alloc: A,
-    value: &T,
-    text: &str,
-) -> Result<bool, Fail> {
-    Ok(format!(in alloc; "{value:?}")?.as_str() == text)
+fn is_debugged_as<T: Debug, A: Allocator + Copy>(alloc: A, value: &T, text: &str) -> bool {
+    format!(in alloc; "{value:?}").is_ok_and(|shown| shown.as_str() == text)
 }
 
 /// The value's hash by the standard hasher.

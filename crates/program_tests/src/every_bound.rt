@@ -5,7 +5,6 @@ use committee_core::{Command, Watched, run};
 use std::alloc::{AllocError, Global};
 use std::io::ErrorKind;
 use std::num::NonZeroU32;
-use std::test::Fail;
 
 /// Two sub-sets of `n` positions: the first `first` and the last `last` of them.
 #[derive(Drop)]
@@ -100,10 +99,10 @@ fn is_reported(alloc: Global, n: NonZeroU32) -> Result<bool, AllocError> {
 
 /// The first numbers, and then each power of two with its neighbours.
 #[test]
-fn many_numbers_are_reported(rt: HostRuntime) -> Result<(), Fail> {
+fn many_numbers_are_reported(rt: HostRuntime) {
     for first in 1..=300u32 {
         if let Some(n) = NonZeroU32::new(first) {
-            assert!(rt; is_reported(rt.alloc(), n)?, "{n}");
+            assert!(rt; is_reported(rt.alloc(), n) == Ok(true), "{n}");
         }
     }
     for exponent in 0..=32u32 {
@@ -113,9 +112,8 @@ fn many_numbers_are_reported(rt: HostRuntime) -> Result<(), Fail> {
                 continue;
             };
             if let Some(n) = NonZeroU32::new(near) {
-                assert!(rt; is_reported(rt.alloc(), n)?, "{n}");
+                assert!(rt; is_reported(rt.alloc(), n) == Ok(true), "{n}");
             }
         }
     }
-    Ok(())
 }

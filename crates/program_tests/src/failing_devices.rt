@@ -30,17 +30,16 @@ fn run_at<'a>(bytes: &'a [u8], report: &'a str, pace: Pace) -> Run<'a> {
 }
 
 #[test]
-fn a_report_takes_several_calls(rt: HostRuntime) -> Result<(), Fail> {
+fn a_report_takes_several_calls(rt: HostRuntime) {
     let alloc = rt.alloc();
-    let (bytes, report) = committee_of_256(alloc)?;
+    let (bytes, report) = committee_of_256(alloc).expect(&rt, "memory");
     assert!(rt; (bytes.len(), report.len()) == (8194, 17631));
     for pace in PACES {
         assert!(rt;
-            is_right(alloc, &run_at(&bytes, &report, pace))?,
+            is_right(alloc, &run_at(&bytes, &report, pace)) == Ok(true),
             "{pace:?}"
         );
     }
-    Ok(())
 }
 
 const READ_FAULTS: [ReadFault; 4] = [
@@ -70,19 +69,21 @@ fn with_read_fault(whole: Run<'_>, at: u32, way: ReadFault) -> Run<'_> {
 }
 
 #[test]
-fn a_reader_goes_wrong_at_each_call(rt: HostRuntime) -> Result<(), Fail> {
+fn a_reader_goes_wrong_at_each_call(rt: HostRuntime) {
     let alloc = rt.alloc();
-    let (bytes, report) = committee_of_256(alloc)?;
+    let (bytes, report) = committee_of_256(alloc).expect(&rt, "memory");
     for pace in PACES {
         let whole = run_at(&bytes, &report, pace);
         for way in READ_FAULTS {
             for at in 0..=whole.reads {
                 let wanted = with_read_fault(whole, at, way);
-                assert!(rt; is_right(alloc, &wanted)?, "{pace:?} {at} {way:?}");
+                assert!(rt;
+                    is_right(alloc, &wanted) == Ok(true),
+                    "{pace:?} {at} {way:?}"
+                );
             }
         }
     }
-    Ok(())
 }
 
 /// The run where the reader fails at this call and would at each later one.
@@ -97,19 +98,21 @@ fn with_broken_reader(whole: Run<'_>, at: u32, kind: ErrorKind) -> Run<'_> {
 }
 
 #[test]
-fn a_reader_breaks_at_each_call(rt: HostRuntime) -> Result<(), Fail> {
+fn a_reader_breaks_at_each_call(rt: HostRuntime) {
     let alloc = rt.alloc();
-    let (bytes, report) = committee_of_256(alloc)?;
+    let (bytes, report) = committee_of_256(alloc).expect(&rt, "memory");
     for pace in PACES {
         let whole = run_at(&bytes, &report, pace);
         for kind in [ErrorKind::BrokenPipe, ErrorKind::Interrupted] {
             for at in 0..whole.reads {
                 let wanted = with_broken_reader(whole, at, kind);
-                assert!(rt; is_right(alloc, &wanted)?, "{pace:?} {at} {kind:?}");
+                assert!(rt;
+                    is_right(alloc, &wanted) == Ok(true),
+                    "{pace:?} {at} {kind:?}"
+                );
             }
         }
     }
-    Ok(())
 }
 
 const WRITE_FAULTS: [WriteFault; 6] = [
@@ -143,31 +146,32 @@ fn with_write_fault(whole: Run<'_>, at: u32, way: WriteFault) -> Run<'_> {
 }
 
 #[test]
-fn a_writer_goes_wrong_at_each_call(rt: HostRuntime) -> Result<(), Fail> {
+fn a_writer_goes_wrong_at_each_call(rt: HostRuntime) {
     let alloc = rt.alloc();
-    let (bytes, report) = committee_of_256(alloc)?;
+    let (bytes, report) = committee_of_256(alloc).expect(&rt, "memory");
     for pace in PACES {
         let whole = run_at(&bytes, &report, pace);
         for way in WRITE_FAULTS {
             for at in 0..=whole.writes {
                 let wanted = with_write_fault(whole, at, way);
-                assert!(rt; is_right(alloc, &wanted)?, "{pace:?} {at} {way:?}");
+                assert!(rt;
+                    is_right(alloc, &wanted) == Ok(true),
+                    "{pace:?} {at} {way:?}"
+                );
             }
         }
     }
-    Ok(())
 }
 
 /// The whole report has been taken by then.
 #[test]
-fn a_flush_fails_after_all_calls(rt: HostRuntime) -> Result<(), Fail> {
+fn a_flush_fails_after_all_calls(rt: HostRuntime) {
     let alloc = rt.alloc();
-    let (bytes, report) = committee_of_256(alloc)?;
+    let (bytes, report) = committee_of_256(alloc).expect(&rt, "memory");
     for pace in PACES {
         for kind in [ErrorKind::BrokenPipe, ErrorKind::Interrupted] {
             let wanted = with_failed_flush(run_at(&bytes, &report, pace), kind);
-            assert!(rt; is_right(alloc, &wanted)?, "{pace:?} {kind:?}");
+            assert!(rt; is_right(alloc, &wanted) == Ok(true), "{pace:?} {kind:?}");
         }
     }
-    Ok(())
 }

@@ -129,31 +129,30 @@ fn stops(alloc: Global, wanted: &Session<'_>, line: &str) -> Result<bool, AllocE
 }
 
 #[test]
-fn lines_and_their_ends(rt: HostRuntime) -> Result<(), Fail> {
+fn lines_and_their_ends(rt: HostRuntime) {
     let one = "accepted 1 0\n";
     let alloc = rt.alloc();
-    assert!(rt; gets(alloc, b"", "", 0)?);
-    assert!(rt; gets(alloc, b"\n\r\n# set<u8> .. 00\n#\n", "", 0)?);
-    assert!(rt; gets(alloc, b"u8 07\n", one, 0)?);
-    assert!(rt; gets(alloc, b"u8 07", one, 0)?);
-    assert!(rt; gets(alloc, b"u8 07\r\n", one, 0)?);
-    assert!(rt; gets(alloc, b"u8 07\r", "unreadable bytes\n", 1)?);
+    assert!(rt; gets(alloc, b"", "", 0) == Ok(true));
+    assert!(rt; gets(alloc, b"\n\r\n# set<u8> .. 00\n#\n", "", 0) == Ok(true));
+    assert!(rt; gets(alloc, b"u8 07\n", one, 0) == Ok(true));
+    assert!(rt; gets(alloc, b"u8 07", one, 0) == Ok(true));
+    assert!(rt; gets(alloc, b"u8 07\r\n", one, 0) == Ok(true));
+    assert!(rt; gets(alloc, b"u8 07\r", "unreadable bytes\n", 1) == Ok(true));
     assert!(rt;
         gets(
             alloc,
             b"u8 07\n\nu8 0\n#\nu8 07",
             "accepted 1 0\nunreadable bytes\naccepted 1 0\n",
             1
-        )?
+        ) == Ok(true)
     );
-    assert!(rt; gets(alloc, TEXT.as_bytes(), ANSWERS, 0)?);
-    Ok(())
+    assert!(rt; gets(alloc, TEXT.as_bytes(), ANSWERS, 0) == Ok(true));
 }
 
 #[test]
-fn lines_that_cannot_be_read(rt: HostRuntime) -> Result<(), Fail> {
+fn lines_that_cannot_be_read(rt: HostRuntime) {
     for line in ["U8 07", " u8 07", "set<u16> .. 00", "u8\t07", "\u{e9}"] {
-        assert!(rt; gets(rt.alloc(), line.as_bytes(), "unreadable type\n", 1)?);
+        assert!(rt; gets(rt.alloc(), line.as_bytes(), "unreadable type\n", 1) == Ok(true));
     }
     for line in [
         "usize",
@@ -169,7 +168,7 @@ fn lines_that_cannot_be_read(rt: HostRuntime) -> Result<(), Fail> {
         "non-empty<u8> ..=0 00",
         "set<non-empty<u8>> 0.. ..0 00",
     ] {
-        assert!(rt; gets(rt.alloc(), line.as_bytes(), "unreadable ranges\n", 1)?);
+        assert!(rt; gets(rt.alloc(), line.as_bytes(), "unreadable ranges\n", 1) == Ok(true));
     }
     for line in [
         "u8",
@@ -182,23 +181,22 @@ fn lines_that_cannot_be_read(rt: HostRuntime) -> Result<(), Fail> {
         "set<u8> .. .. 00",
         "u8 --",
     ] {
-        assert!(rt; gets(rt.alloc(), line.as_bytes(), "unreadable bytes\n", 1)?);
+        assert!(rt; gets(rt.alloc(), line.as_bytes(), "unreadable bytes\n", 1) == Ok(true));
     }
-    Ok(())
 }
 
 #[test]
-fn ranges_and_digits(rt: HostRuntime) -> Result<(), Fail> {
+fn ranges_and_digits(rt: HostRuntime) {
     let alloc = rt.alloc();
-    assert!(rt; gets(alloc, b"usize 5..=2 05", "InvalidLength 5\n", 0)?);
-    assert!(rt; gets(alloc, b"set<u8> 5..=2 00", "InvalidLength 0\n", 0)?);
+    assert!(rt; gets(alloc, b"usize 5..=2 05", "InvalidLength 5\n", 0) == Ok(true));
+    assert!(rt; gets(alloc, b"set<u8> 5..=2 00", "InvalidLength 0\n", 0) == Ok(true));
     assert!(rt;
         gets(
             alloc,
             b"usize ..18446744073709551615 05",
             "accepted 1 0\n",
             0
-        )?
+        ) == Ok(true)
     );
     assert!(rt;
         gets(
@@ -206,55 +204,49 @@ fn ranges_and_digits(rt: HostRuntime) -> Result<(), Fail> {
             b"usize 00000000000000000000005..=5 05",
             "accepted 1 0\n",
             0
-        )?
+        ) == Ok(true)
     );
-    assert!(rt; gets(alloc, b"set<non-empty<u8>> 0.. 1.. 00", "accepted 0 0\n", 0)?);
-    assert!(rt; gets(alloc, b"vec<u8> .. 02fFFf", "accepted 2 0\n", 0)?);
-    assert!(rt; gets(alloc, b"vec<u8> .. -", "EndOfBuffer\n", 0)?);
-    Ok(())
+    assert!(rt; gets(alloc, b"set<non-empty<u8>> 0.. 1.. 00", "accepted 0 0\n", 0) == Ok(true));
+    assert!(rt; gets(alloc, b"vec<u8> .. 02fFFf", "accepted 2 0\n", 0) == Ok(true));
+    assert!(rt; gets(alloc, b"vec<u8> .. -", "EndOfBuffer\n", 0) == Ok(true));
 }
 
 #[test]
-fn lines_of_a_megabyte(rt: HostRuntime) -> Result<(), Fail> {
+fn lines_of_a_megabyte(rt: HostRuntime) {
     let mut text = Vec::new(rt.alloc());
-    text.extend_from_slice(b"vec<u8> .. a0c21e")?;
-    text.resize(1_000_017, b'0')?;
-    text.extend_from_slice(b"\n")?;
-    text.resize(2_000_000, b'x')?;
-    let outcome = held(rt.alloc(), &of(&text, WHOLE))?;
-    assert_eq!(rt; outcome.status, 1);
-    assert_eq!(rt;
-        outcome.written.as_slice(),
-        b"accepted 500000 0\nunreadable type\n".as_slice()
-    );
-    Ok(())
+    text.extend_from_slice(b"vec<u8> .. a0c21e")
+        .expect(&rt, "memory");
+    text.resize(1_000_017, b'0').expect(&rt, "memory");
+    text.extend_from_slice(b"\n").expect(&rt, "memory");
+    text.resize(2_000_000, b'x').expect(&rt, "memory");
+    let outcome = held(rt.alloc(), &of(&text, WHOLE)).expect(&rt, "memory");
+    assert!(rt; outcome.status == 1);
+    assert!(rt; outcome.written.as_slice() == b"accepted 500000 0\nunreadable type\n".as_slice());
 }
 
 #[test]
-fn each_piece_is_answered_before_the_next(rt: HostRuntime) -> Result<(), Fail> {
-    let outcome = held(rt.alloc(), &of(b"u8 07\nu8 08\nu8 09\n", 6))?;
-    assert_eq!(rt; outcome.reads, 4);
-    assert_eq!(rt; outcome.flushes, 4);
-    Ok(())
+fn each_piece_is_answered_before_the_next(rt: HostRuntime) {
+    let outcome = held(rt.alloc(), &of(b"u8 07\nu8 08\nu8 09\n", 6)).expect(&rt, "memory");
+    assert!(rt; outcome.reads == 4);
+    assert!(rt; outcome.flushes == 4);
 }
 
 #[test]
-fn readers_that_fail(rt: HostRuntime) -> Result<(), Fail> {
+fn readers_that_fail(rt: HostRuntime) {
     for at in 0..8 {
         let mut wanted = of(TEXT.as_bytes(), 10);
         wanted.read_fault = Some((at, ReadFault::Fails(ErrorKind::Interrupted)));
-        assert!(rt; stops(rt.alloc(), &wanted, "failed: read\n")?);
+        assert!(rt; stops(rt.alloc(), &wanted, "failed: read\n") == Ok(true));
     }
     let mut wanted = of(TEXT.as_bytes(), 10);
     wanted.read_fault = Some((8, ReadFault::Fails(ErrorKind::Interrupted)));
-    let outcome = held(rt.alloc(), &wanted)?;
-    assert_eq!(rt; outcome.status, 0);
-    assert_eq!(rt; outcome.written.as_slice(), ANSWERS.as_bytes());
-    Ok(())
+    let outcome = held(rt.alloc(), &wanted).expect(&rt, "memory");
+    assert!(rt; outcome.status == 0);
+    assert!(rt; outcome.written.as_slice() == ANSWERS.as_bytes());
 }
 
 #[test]
-fn writers_that_fail(rt: HostRuntime) -> Result<(), Fail> {
+fn writers_that_fail(rt: HostRuntime) {
     let faults = [
         WriteFault::Fails(ErrorKind::Interrupted),
         WriteFault::Breaks(ErrorKind::Other),
@@ -265,13 +257,12 @@ fn writers_that_fail(rt: HostRuntime) -> Result<(), Fail> {
             let mut wanted = of(TEXT.as_bytes(), WHOLE);
             wanted.room = 10;
             wanted.write_fault = Some((at, fault));
-            assert!(rt; stops(rt.alloc(), &wanted, "failed: write\n")?);
+            assert!(rt; stops(rt.alloc(), &wanted, "failed: write\n") == Ok(true));
         }
     }
     let mut wanted = of(TEXT.as_bytes(), WHOLE);
     wanted.flush_failure = Some(ErrorKind::Other);
-    assert!(rt; stops(rt.alloc(), &wanted, "failed: write\n")?);
-    Ok(())
+    assert!(rt; stops(rt.alloc(), &wanted, "failed: write\n") == Ok(true));
 }
 
 #[test]
@@ -285,7 +276,7 @@ fn memory_that_is_refused(rt: HostRuntime) -> Result<(), Fail> {
             assert!(rt; stops(rt.alloc(), &wanted, "failed: out of memory\n")?);
             continue;
         }
-        assert_eq!(rt; outcome.written.as_slice(), ANSWERS.as_bytes());
+        assert!(rt; outcome.written.as_slice() == ANSWERS.as_bytes());
         if !outcome.refused {
             return Ok(());
         }
@@ -294,20 +285,16 @@ fn memory_that_is_refused(rt: HostRuntime) -> Result<(), Fail> {
 }
 
 #[test]
-fn other_words(rt: HostRuntime) -> Result<(), Fail> {
-    let outcome = held(rt.alloc(), &asking(&["types"]))?;
-    assert_eq!(rt; (outcome.status, outcome.reads, outcome.flushes), (0, 0, 1));
+fn other_words(rt: HostRuntime) {
+    let outcome = held(rt.alloc(), &asking(&["types"])).expect(&rt, "memory");
+    assert!(rt; (outcome.status, outcome.reads, outcome.flushes) == (0, 0, 1));
     assert!(rt;
         outcome
             .written
             .starts_with(b"u8\nu32\nvarint\nusize\nparticipant\n")
     );
-    let outcome = held(rt.alloc(), &asking(&["types", "types"]))?;
-    assert_eq!(rt; (outcome.status, outcome.reads, outcome.flushes), (2, 0, 0));
+    let outcome = held(rt.alloc(), &asking(&["types", "types"])).expect(&rt, "memory");
+    assert!(rt; (outcome.status, outcome.reads, outcome.flushes) == (2, 0, 0));
     assert!(rt; outcome.written.is_empty());
-    assert_eq!(rt;
-        outcome.said.as_slice(),
-        b"usage: judge, or judge types\n".as_slice()
-    );
-    Ok(())
+    assert!(rt; outcome.said.as_slice() == b"usage: judge, or judge types\n".as_slice());
 }

@@ -4,7 +4,6 @@ use crate::committees::committee_of;
 use crate::devices::{Input, WHOLE};
 use crate::session_trial::{Session, is_right, two_session};
 use std::alloc::{AllocError, Global};
-use std::test::Fail;
 
 /// How many bytes an input has.
 const LENGTHS: [usize; 9] = [
@@ -63,19 +62,24 @@ fn are_left_over(alloc: Global, committee: &[u8], left: usize) -> Result<bool, A
 }
 
 #[test]
-fn each_byte_after_a_committee_is_left_over(rt: HostRuntime) -> Result<(), Fail> {
+fn each_byte_after_a_committee_is_left_over(rt: HostRuntime) {
     let alloc = rt.alloc();
     for n in [1, 127, 128, 256] {
-        let committee = committee_of(alloc, n)?;
+        let committee = committee_of(alloc, n).expect(&rt, "memory");
         for left in [1, 2, 255, 256, 10_000] {
-            assert!(rt; are_left_over(alloc, &committee, left)?, "{n} {left}");
+            assert!(rt;
+                are_left_over(alloc, &committee, left) == Ok(true),
+                "{n} {left}"
+            );
         }
         for length in LENGTHS {
             let left = length.saturating_sub(committee.len());
-            assert!(rt; are_left_over(alloc, &committee, left)?, "{n} {left}");
+            assert!(rt;
+                are_left_over(alloc, &committee, left) == Ok(true),
+                "{n} {left}"
+            );
         }
     }
-    Ok(())
 }
 
 /// The first bytes of texts, and what is said of them whatever follows.
@@ -94,27 +98,28 @@ const EQUAL_MEMBERS: (&[u8], &str) = (
 );
 
 #[test]
-fn the_first_fault_of_a_long_input_is_told(rt: HostRuntime) -> Result<(), Fail> {
+fn the_first_fault_of_a_long_input_is_told(rt: HostRuntime) {
     let alloc = rt.alloc();
     for (start, said) in EARLY_FAULTS.into_iter().chain([EQUAL_MEMBERS]) {
         for length in LENGTHS {
-            let bytes = input_of(alloc, start, length)?;
-            assert!(rt; is_refused(alloc, &bytes, said)?, "{said} {length}");
+            let bytes = input_of(alloc, start, length).expect(&rt, "memory");
+            assert!(rt;
+                is_refused(alloc, &bytes, said) == Ok(true),
+                "{said} {length}"
+            );
         }
     }
-    Ok(())
 }
 
 /// What settles the answer is read without memory, whatever follows it.
 #[test]
-fn early_faults_want_no_memory(rt: HostRuntime) -> Result<(), Fail> {
+fn early_faults_want_no_memory(rt: HostRuntime) {
     let alloc = rt.alloc();
     for (start, said) in EARLY_FAULTS {
         for length in LENGTHS {
-            let bytes = input_of(alloc, start, length)?;
-            let refused = is_refused_at(alloc, &bytes, said, WHOLE, 0)?;
+            let bytes = input_of(alloc, start, length).expect(&rt, "memory");
+            let refused = is_refused_at(alloc, &bytes, said, WHOLE, 0).expect(&rt, "memory");
             assert!(rt; refused, "{said} {length}");
         }
     }
-    Ok(())
 }

@@ -197,7 +197,7 @@ const FAILED_READS: [(usize, usize, u32); 6] = [
 
 /// Nothing is tried again, and nothing written.
 #[test]
-fn a_failed_read_is_no_end(rt: HostRuntime) -> Result<(), Fail> {
+fn a_failed_read_is_no_end(rt: HostRuntime) {
     for kind in [ErrorKind::BrokenPipe, ErrorKind::Interrupted] {
         for (given, step, reads) in FAILED_READS {
             let input = Input {
@@ -205,14 +205,16 @@ fn a_failed_read_is_no_end(rt: HostRuntime) -> Result<(), Fail> {
                 ..Input::failing(beginning(TWO, given), kind)
             };
             let wanted = with_failed_read(whole_run(), input, reads);
-            assert!(rt; is_right(rt.alloc(), &wanted)?, "{given} {step} {kind:?}");
+            assert!(rt;
+                is_right(rt.alloc(), &wanted) == Ok(true),
+                "{given} {step} {kind:?}"
+            );
         }
     }
-    Ok(())
 }
 
 #[test]
-fn pieces_make_no_difference(rt: HostRuntime) -> Result<(), Fail> {
+fn pieces_make_no_difference(rt: HostRuntime) {
     for (given, taken, reads, writes) in [
         (WHOLE, WHOLE, 2, 1),
         (1, WHOLE, 66, 1),
@@ -227,9 +229,11 @@ fn pieces_make_no_difference(rt: HostRuntime) -> Result<(), Fail> {
         };
         wanted.input.step = given;
         wanted.output.step = taken;
-        assert!(rt; is_right(rt.alloc(), &wanted)?, "{given} {taken}");
+        assert!(rt;
+            is_right(rt.alloc(), &wanted) == Ok(true),
+            "{given} {taken}"
+        );
     }
-    Ok(())
 }
 
 /// How many bytes a writer takes a call, the call that goes wrong and how, and how many bytes it
@@ -247,13 +251,15 @@ const FAILED_WRITES: [(usize, u32, WriteFault, usize); 8] = [
 
 /// Nothing is tried again.
 #[test]
-fn a_writer_fails_at_any_call(rt: HostRuntime) -> Result<(), Fail> {
+fn a_writer_fails_at_any_call(rt: HostRuntime) {
     for (step, at, fault, taken) in FAILED_WRITES {
         let output = Output::failing(step, at, fault);
         let wanted = with_failed_write(whole_run(), output, at.saturating_add(1), taken);
-        assert!(rt; is_right(rt.alloc(), &wanted)?, "{step} {at} {fault:?}");
+        assert!(rt;
+            is_right(rt.alloc(), &wanted) == Ok(true),
+            "{step} {at} {fault:?}"
+        );
     }
-    Ok(())
 }
 
 /// A run that asks for the bounds for `n` members. The reader, which fails at each call, isn't
@@ -269,21 +275,24 @@ fn bounds_run<'a>(n: NonZeroU32, words: &'a [&'a str], report: &'a str) -> Run<'
 }
 
 #[test]
-fn bounds_are_reported_without_a_read(rt: HostRuntime) -> Result<(), Fail> {
-    let ten = NonZeroU32::new(10).ok_or("zero")?;
+fn bounds_are_reported_without_a_read(rt: HostRuntime) {
+    let ten = NonZeroU32::new(10).expect(&rt, "zero");
     for wanted in [
         bounds_run(NonZeroU32::MIN, &["bounds", "1"], ONE),
         bounds_run(ten, &["bounds", "10"], TEN),
         bounds_run(NonZeroU32::MAX, &["bounds", "4294967295"], MOST),
     ] {
-        assert!(rt; is_right(rt.alloc(), &wanted)?, "{:?}", wanted.command);
+        assert!(rt;
+            is_right(rt.alloc(), &wanted) == Ok(true),
+            "{:?}",
+            wanted.command
+        );
     }
-    Ok(())
 }
 
 /// The whole report has been taken by then.
 #[test]
-fn a_failed_flush_is_told(rt: HostRuntime) -> Result<(), Fail> {
+fn a_failed_flush_is_told(rt: HostRuntime) {
     for whole in [
         whole_run(),
         bounds_run(NonZeroU32::MIN, &["bounds", "1"], ONE),
@@ -295,11 +304,10 @@ fn a_failed_flush_is_told(rt: HostRuntime) -> Result<(), Fail> {
         ] {
             let wanted = with_failed_flush(whole, kind);
             assert!(rt;
-                is_right(rt.alloc(), &wanted)?,
+                is_right(rt.alloc(), &wanted) == Ok(true),
                 "{:?} {kind:?}",
                 whole.command
             );
         }
     }
-    Ok(())
 }

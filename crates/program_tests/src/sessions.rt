@@ -21,8 +21,8 @@ const BOUNDS: [(&[&str], &str); 5] = [
 ];
 
 #[test]
-fn reports_are_written(rt: HostRuntime) -> Result<(), Fail> {
-    assert!(rt; is_right(rt.alloc(), &two_session())?);
+fn reports_are_written(rt: HostRuntime) {
+    assert!(rt; is_right(rt.alloc(), &two_session()) == Ok(true));
     for (words, report) in BOUNDS {
         let wanted = Session {
             words,
@@ -30,22 +30,20 @@ fn reports_are_written(rt: HostRuntime) -> Result<(), Fail> {
             written: Some(report),
             ..two_session()
         };
-        assert!(rt; is_right(rt.alloc(), &wanted)?, "{words:?}");
+        assert!(rt; is_right(rt.alloc(), &wanted) == Ok(true), "{words:?}");
     }
-    Ok(())
 }
 
 #[test]
-fn a_committee_has_at_most_256_members(rt: HostRuntime) -> Result<(), Fail> {
+fn a_committee_has_at_most_256_members(rt: HostRuntime) {
     let alloc = rt.alloc();
-    let (bytes, report) = committee_of_256(alloc)?;
+    let (bytes, report) = committee_of_256(alloc).expect(&rt, "memory");
     let wanted = read_session(&bytes, &report);
-    assert!(rt; is_right(alloc, &wanted)?);
-    Ok(())
+    assert!(rt; is_right(alloc, &wanted) == Ok(true));
 }
 
 #[test]
-fn other_bytes_are_refused(rt: HostRuntime) -> Result<(), Fail> {
+fn other_bytes_are_refused(rt: HostRuntime) {
     for (bytes, said) in [
         (b"\x00".as_slice(), "refused: length 0\n"),
         (ONE_AND_A_BYTE, "refused: 1 bytes left over\n"),
@@ -70,9 +68,8 @@ fn other_bytes_are_refused(rt: HostRuntime) -> Result<(), Fail> {
             said,
             ..two_session()
         };
-        assert!(rt; is_right(rt.alloc(), &wanted)?, "{bytes:?}");
+        assert!(rt; is_right(rt.alloc(), &wanted) == Ok(true), "{bytes:?}");
     }
-    Ok(())
 }
 
 /// Words that ask for no command.
@@ -108,7 +105,7 @@ const OTHER_WORDS: [&[&str]; 27] = [
 
 /// The first request for memory is refused, if there is one.
 #[test]
-fn other_words_get_the_usage_line(rt: HostRuntime) -> Result<(), Fail> {
+fn other_words_get_the_usage_line(rt: HostRuntime) {
     for words in OTHER_WORDS {
         let wanted = Session {
             words,
@@ -118,17 +115,16 @@ fn other_words_get_the_usage_line(rt: HostRuntime) -> Result<(), Fail> {
             said: "usage: committee read, or committee bounds <n>\n",
             ..two_session()
         };
-        assert!(rt; is_right(rt.alloc(), &wanted)?, "{words:?}");
+        assert!(rt; is_right(rt.alloc(), &wanted) == Ok(true), "{words:?}");
     }
-    Ok(())
 }
 
 /// Words are looked at without memory.
 #[test]
-fn words_ask_for_a_command(rt: HostRuntime) -> Result<(), Fail> {
+fn words_ask_for_a_command(rt: HostRuntime) {
     let heap = Refusing::all_after(rt.alloc(), u64::MAX);
-    let read = words_of(&heap, READ)?;
-    let bounds = words_of(&heap, &["bounds", "0000000006"])?;
+    let read = words_of(&heap, READ).expect(&rt, "memory");
+    let bounds = words_of(&heap, &["bounds", "0000000006"]).expect(&rt, "memory");
     heap.restart(0);
     assert!(rt;
         parse_args(&read) == Some(Command::Read)
@@ -136,18 +132,17 @@ fn words_ask_for_a_command(rt: HostRuntime) -> Result<(), Fail> {
     );
     for line in OTHER_WORDS {
         heap.restart(u64::MAX);
-        let words = words_of(&heap, line)?;
+        let words = words_of(&heap, line).expect(&rt, "memory");
         heap.restart(0);
         assert!(rt;
             parse_args(&words) == None && !heap.has_refused(),
             "{line:?}"
         );
     }
-    Ok(())
 }
 
 #[test]
-fn failures_give_status_3(rt: HostRuntime) -> Result<(), Fail> {
+fn failures_give_status_3(rt: HostRuntime) {
     let broken = WriteFault::Fails(ErrorKind::BrokenPipe);
     let failed_write = Session {
         status: 3,
@@ -188,13 +183,16 @@ fn failures_give_status_3(rt: HostRuntime) -> Result<(), Fail> {
             ..failed_bounds
         },
     ] {
-        assert!(rt; is_right(rt.alloc(), &wanted)?, "{}", wanted.said);
+        assert!(rt;
+            is_right(rt.alloc(), &wanted) == Ok(true),
+            "{}",
+            wanted.said
+        );
     }
-    Ok(())
 }
 
 #[test]
-fn a_failing_standard_error_changes_no_status(rt: HostRuntime) -> Result<(), Fail> {
+fn a_failing_standard_error_changes_no_status(rt: HostRuntime) {
     let broken = WriteFault::Fails(ErrorKind::BrokenPipe);
     let interrupted = Input::failing(b"", ErrorKind::Interrupted);
     let write: &[&str] = &["write"];
@@ -212,7 +210,9 @@ fn a_failing_standard_error_changes_no_status(rt: HostRuntime) -> Result<(), Fai
             written: Some(written),
             ..two_session()
         };
-        assert!(rt; is_right(rt.alloc(), &wanted)?, "{words:?} {fault:?}");
+        assert!(rt;
+            is_right(rt.alloc(), &wanted) == Ok(true),
+            "{words:?} {fault:?}"
+        );
     }
-    Ok(())
 }

@@ -3,7 +3,7 @@
 use speed_calls::{Calls, time_bimaps, time_size};
 use speed_core::logarithm::logarithm;
 use speed_core::{Axis, Bench, Failure, Sample, failed_read, parse_line, random, session};
-use std::alloc::Global;
+use std::alloc::{AllocError, Global};
 use std::cell::Cell;
 use std::io;
 use std::io::ErrorKind;
@@ -33,24 +33,23 @@ fn new_clock() -> Ticks {
 }
 
 #[test]
-fn random_numbers_have_their_sum(rt: HostRuntime) -> Result<(), Fail> {
+fn random_numbers_have_their_sum(rt: HostRuntime) {
     for (count, sum) in [
         (0, 0),
         (1, 4225635760),
         (10, 19303721494),
         (1000, 2125908229921),
     ] {
-        let numbers = random(rt.alloc(), count)?;
+        let numbers = random(rt.alloc(), count).expect(&rt, "memory");
         let found = numbers
             .iter()
             .fold(0u64, |sum, number| sum.wrapping_add(u64::from(*number)));
         assert!(rt; found == sum, "{count}");
     }
-    Ok(())
 }
 
 #[test]
-fn logarithms_are_rounded_down(rt: HostRuntime) -> Result<(), Fail> {
+fn logarithms_are_rounded_down(rt: HostRuntime) {
     let rows = [
         (1, 0),
         (2, 30),
@@ -62,10 +61,9 @@ fn logarithms_are_rounded_down(rt: HostRuntime) -> Result<(), Fail> {
         (u64::MAX, 1926),
     ];
     for (number, hundredths) in rows {
-        let number = NonZeroU64::new(number).ok_or("no number")?;
+        let number = NonZeroU64::new(number).expect(&rt, "no number");
         assert!(rt; logarithm(number) == hundredths, "{number}");
     }
-    Ok(())
 }
 
 #[test]
@@ -147,17 +145,16 @@ bimap_get_key 10 38607442988 5000000
 ";
 
 #[test]
-fn two_rounds_have_their_check_sums(rt: HostRuntime) -> Result<(), Fail> {
+fn two_rounds_have_their_check_sums(rt: HostRuntime) {
     let mut text: Vec<u8> = Vec::new(rt.alloc());
     let mut bench = Bench::new(rt.alloc(), new_clock(), &mut text);
     let timed = time_size(&mut bench, 10, 2).is_ok() && time_bimaps(&mut bench, 10, 2).is_ok();
     drop(bench);
     assert!(rt; timed && text.as_slice() == LINES.as_bytes());
-    Ok(())
 }
 
 /// The status of a session of these words over an input, and what it writes and says.
-fn run(alloc: Global, words: &[&str], input: &[u8]) -> Result<(u8, Vec<u8>, Vec<u8>), Fail> {
+fn run(alloc: Global, words: &[&str], input: &[u8]) -> Result<(u8, Vec<u8>, Vec<u8>), AllocError> {
     let mut texts = Vec::new(alloc);
     for word in words {
         texts.push(String::from_str(alloc, word)?)?;
@@ -177,29 +174,27 @@ fn run(alloc: Global, words: &[&str], input: &[u8]) -> Result<(u8, Vec<u8>, Vec<
 const USAGE: &[u8] = b"usage: speed <greatest n>, or speed plot\n";
 
 #[test]
-fn other_words_get_the_usage(rt: HostRuntime) -> Result<(), Fail> {
+fn other_words_get_the_usage(rt: HostRuntime) {
     let all: [&[&str]; 4] = [&[], &["10", "plot"], &["-1"], &["4294967296"]];
     for words in all {
-        let (status, output, errors) = run(rt.alloc(), words, b"")?;
+        let (status, output, errors) = run(rt.alloc(), words, b"").expect(&rt, "memory");
         assert!(rt; status == 2 && output.is_empty() && errors.as_slice() == USAGE);
     }
-    Ok(())
 }
 
 #[test]
-fn nothing_is_timed_below_the_least_size(rt: HostRuntime) -> Result<(), Fail> {
-    let (status, output, errors) = run(rt.alloc(), &["9"], b"")?;
+fn nothing_is_timed_below_the_least_size(rt: HostRuntime) {
+    let (status, output, errors) = run(rt.alloc(), &["9"], b"").expect(&rt, "memory");
     assert!(rt; status == 0 && output.is_empty() && errors.is_empty());
-    Ok(())
 }
 
 /// Three lines of two calls.
 const SAMPLES: &[u8] = b"set_read 10 1 1000\nset_read 1000 1 100000\nmap_read 10 1 1000\n";
 
 #[test]
-fn lines_are_drawn(rt: HostRuntime) -> Result<(), Fail> {
-    let (status, output, errors) = run(rt.alloc(), &["plot"], SAMPLES)?;
-    let text = std::str::from_utf8(&output)?;
+fn lines_are_drawn(rt: HostRuntime) {
+    let (status, output, errors) = run(rt.alloc(), &["plot"], SAMPLES).expect(&rt, "memory");
+    let text = std::str::from_utf8(&output).expect(&rt, "memory");
     assert!(rt;
         status == 0
             && errors.is_empty()
@@ -210,20 +205,22 @@ fn lines_are_drawn(rt: HostRuntime) -> Result<(), Fail> {
             && text.contains("y=\"840\" fill=\"hsl(137,60%,50%)\">map_read</text>")
             && text.ends_with("</svg>\n")
     );
-    Ok(())
 }
 
 #[test]
-fn the_first_line_that_cannot_be_read_is_named(rt: HostRuntime) -> Result<(), Fail> {
-    let (status, output, errors) = run(rt.alloc(), &["plot"], b"set_read 10 1 1\n\nset_read\n")?;
+fn the_first_line_that_cannot_be_read_is_named(rt: HostRuntime) {
+    let (status, output, errors) = run(
+        rt.alloc(),
+        &["plot"],
+        b"set_read 10 1 1\n\nset_read\n",
+    ).expect(&rt, "memory");
     assert!(rt; status == 1 && output.is_empty());
     assert!(rt; errors.as_slice() == b"refused: line 2\n".as_slice());
-    Ok(())
 }
 
 #[test]
-fn an_output_without_room_ends_a_run(rt: HostRuntime) -> Result<(), Fail> {
-    let words = [String::from_str(rt.alloc(), "plot")?];
+fn an_output_without_room_ends_a_run(rt: HostRuntime) {
+    let words = [String::from_str(rt.alloc(), "plot").expect(&rt, "memory")];
     let mut errors: Vec<u8> = Vec::new(rt.alloc());
     let output = io::Cursor::new([0u8; 9]);
     let status = session::<Calls, _, _, _, _>(
@@ -235,11 +232,10 @@ fn an_output_without_room_ends_a_run(rt: HostRuntime) -> Result<(), Fail> {
         &mut errors,
     );
     assert!(rt; status == 3 && errors.as_slice() == b"failed: write\n".as_slice());
-    Ok(())
 }
 
 #[test]
-fn reads_that_fail(rt: HostRuntime) -> Result<(), Fail> {
+fn reads_that_fail(rt: HostRuntime) {
     for (kind, failure) in [
         (ErrorKind::OutOfMemory, Failure::Memory),
         (ErrorKind::InvalidData, Failure::Read),
@@ -247,5 +243,4 @@ fn reads_that_fail(rt: HostRuntime) -> Result<(), Fail> {
     ] {
         assert!(rt; failed_read(&io::Error::from(kind)) == failure);
     }
-    Ok(())
 }

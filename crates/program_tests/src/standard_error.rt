@@ -120,17 +120,18 @@ fn is_right(
 }
 
 #[test]
-fn a_line_is_one_write_or_as_many_as_it_needs(rt: HostRuntime) -> Result<(), Fail> {
+fn a_line_is_one_write_or_as_many_as_it_needs(rt: HostRuntime) {
     for row in &LINES {
         let (_, _, _, line, _) = *row;
         let one_a_call = Output { step: 1, ..TAKEN };
         let one_first = Output::failing(WHOLE, 0, WriteFault::TakesOneByte);
         for (errors, calls) in [(TAKEN, 1), (one_a_call, line.len()), (one_first, 2)] {
-            let right = is_right(rt.alloc(), row, errors, line.as_bytes(), calls)?;
+            let right = is_right(rt.alloc(), row, errors, line.as_bytes(), calls).expect(
+                &rt, "memory",
+            );
             assert!(rt; right, "{line} {calls}");
         }
     }
-    Ok(())
 }
 
 /// The ways in which a call takes nothing. After the first three the next call would go well.
@@ -144,7 +145,7 @@ const FAULTS: [WriteFault; 5] = [
 
 /// Each call for a line, one byte a call, goes wrong in turn, and at last one that is never made.
 #[test]
-fn no_write_of_a_line_is_tried_again(rt: HostRuntime) -> Result<(), Fail> {
+fn no_write_of_a_line_is_tried_again(rt: HostRuntime) {
     for fault in FAULTS {
         for row in &LINES {
             let (_, _, _, line, _) = *row;
@@ -152,20 +153,18 @@ fn no_write_of_a_line_is_tried_again(rt: HostRuntime) -> Result<(), Fail> {
                 let calls = (at as usize).saturating_add(1).min(line.len());
                 let taken = beginning(line.as_bytes(), at as usize);
                 let errors = Output::failing(1, at, fault);
-                let right = is_right(rt.alloc(), row, errors, taken, calls)?;
+                let right = is_right(rt.alloc(), row, errors, taken, calls).expect(&rt, "memory");
                 assert!(rt; right, "{line} {fault:?} {at}");
             }
         }
     }
-    Ok(())
 }
 
 #[test]
-fn a_standard_error_that_takes_no_byte_is_called_once(rt: HostRuntime) -> Result<(), Fail> {
+fn a_standard_error_that_takes_no_byte_is_called_once(rt: HostRuntime) {
     let errors = Output { step: 0, ..TAKEN };
     for row in &LINES {
-        let right = is_right(rt.alloc(), row, errors, b"", 1)?;
+        let right = is_right(rt.alloc(), row, errors, b"", 1).expect(&rt, "memory");
         assert!(rt; right, "{row:?}");
     }
-    Ok(())
 }

@@ -2,11 +2,10 @@
 use crate::devices::{Input, Output, TAKEN};
 use committee_core::Watched;
 use std::io::{ErrorKind, Read, Write};
-use std::test::Fail;
 use test_equipment::WriteFault;
 
 #[test]
-fn each_read_reaches_the_reader(rt: HostRuntime) -> Result<(), Fail> {
+fn each_read_reaches_the_reader(rt: HostRuntime) {
     let mut input = Input {
         step: 2,
         ..Input::of(b"abcdef")
@@ -21,38 +20,35 @@ fn each_read_reaches_the_reader(rt: HostRuntime) -> Result<(), Fail> {
         (4, 1, false),
         (4, 0, true),
     ] {
-        let read = input.read(&mut buffer[..room])?;
+        let read = input.read(&mut buffer[..room]).expect(&rt, "memory");
         assert!(rt; (read, input.ended(), input.failed()) == (given, ended, false));
     }
     let mut failing = Input::failing(b"", ErrorKind::Interrupted).reader();
     let refused = failing.read(&mut buffer).is_err();
     assert!(rt; refused && failing.failed() && !failing.ended());
     assert!(rt; input.inner().calls == 6 && failing.inner().calls == 1);
-    Ok(())
 }
 
 #[test]
-fn each_write_reaches_the_writer(rt: HostRuntime) -> Result<(), Fail> {
+fn each_write_reaches_the_writer(rt: HostRuntime) {
     let two = Output { step: 2, ..TAKEN };
     let mut output = Watched::new(two.writer(rt.alloc()));
-    let taken = output.write(b"abc")?;
-    output.flush()?;
-    let none = output.write(b"")?;
+    let taken = output.write(b"abc").expect(&rt, "memory");
+    output.flush().expect(&rt, "memory");
+    let none = output.write(b"").expect(&rt, "memory");
     let device = output.inner();
     assert!(rt; (taken, none, output.failed()) == (2, 0, false));
     assert!(rt;
         (device.calls, device.flushes) == (2, 1) && device.taken.as_slice() == b"ab".as_slice()
     );
-    Ok(())
 }
 
 #[test]
-fn a_failed_write_is_remembered(rt: HostRuntime) -> Result<(), Fail> {
+fn a_failed_write_is_remembered(rt: HostRuntime) {
     let once = Output::failing(9, 0, WriteFault::TakesNothing);
     let mut output = Watched::new(once.writer(rt.alloc()));
     for taken in 0..2 {
-        let answer = output.write(b"a")?;
+        let answer = output.write(b"a").expect(&rt, "memory");
         assert!(rt; answer == taken && output.failed());
     }
-    Ok(())
 }

@@ -3,7 +3,6 @@ use commonware_utils::vec::NonEmptyVec;
 use commonware_utils::{NZU8, NZU16, NZU32, NZU64, NZUsize, non_empty_vec};
 use std::alloc::Global;
 use std::num::NonZeroUsize;
-use std::test::Fail;
 
 #[test]
 fn numbers_that_are_not_zero(rt: HostRuntime) {
@@ -17,27 +16,25 @@ fn numbers_that_are_not_zero(rt: HostRuntime) {
 }
 
 #[test]
-fn lists_of_the_items_written(rt: HostRuntime) -> Result<(), Fail> {
+fn lists_of_the_items_written(rt: HostRuntime) {
     let alloc = rt.alloc();
-    let plain: NonEmptyVec<u8, Global> = non_empty_vec!(alloc => 4, 4, 4)?;
-    let with_a_comma = non_empty_vec!(alloc => 4, 4, 4,)?;
+    let plain: NonEmptyVec<u8, Global> = non_empty_vec!(alloc => 4, 4, 4).expect(&rt, "memory");
+    let with_a_comma = non_empty_vec!(alloc => 4, 4, 4,).expect(&rt, "memory");
     assert!(rt; plain.as_slice() == [4, 4, 4].as_slice() && plain == with_a_comma);
-    let inner = vec![in alloc; 4, 4, 4]?;
+    let inner = vec![in alloc; 4, 4, 4].expect(&rt, "memory");
     assert!(rt; plain == non_empty_vec!(@inner));
-    Ok(())
 }
 
 #[test]
-fn lists_of_one_item_many_times(rt: HostRuntime) -> Result<(), Fail> {
+fn lists_of_one_item_many_times(rt: HostRuntime) {
     let alloc = rt.alloc();
-    let counted: NonEmptyVec<u8, Global> = non_empty_vec!(alloc => 4; 3)?;
-    let by_macro = non_empty_vec!(alloc => 4; NZUsize!(3))?;
+    let counted: NonEmptyVec<u8, Global> = non_empty_vec!(alloc => 4; 3).expect(&rt, "memory");
+    let by_macro = non_empty_vec!(alloc => 4; NZUsize!(3)).expect(&rt, "memory");
     let count = NZUsize!(3);
-    let by_number = non_empty_vec!(alloc => 4; @count)?;
+    let by_number = non_empty_vec!(alloc => 4; @count).expect(&rt, "memory");
     assert!(rt;
         counted.as_slice() == [4, 4, 4].as_slice() && counted == by_macro && by_macro == by_number
     );
-    Ok(())
 }
 
 /// Whether the list has these items.
@@ -46,22 +43,36 @@ fn has(list: &NonEmptyVec<u8, Global>, items: &[u8]) -> bool {
 }
 
 #[test]
-fn lists_of_other_counts(rt: HostRuntime) -> Result<(), Fail> {
+fn lists_of_other_counts(rt: HostRuntime) {
     let alloc = rt.alloc();
     assert!(rt;
-        has(&non_empty_vec!(alloc => 7)?, &[7])
-            && has(&non_empty_vec!(alloc => 7, 8)?, &[7, 8])
-            && has(&non_empty_vec!(alloc => 7, 8, 9, 7, 8)?, &[7, 8, 9, 7, 8])
+        has(&non_empty_vec!(alloc => 7).expect(&rt, "memory"), &[7])
+            && has(
+                &non_empty_vec!(alloc => 7, 8).expect(&rt, "memory"),
+                &[7, 8]
+            )
+            && has(
+                &non_empty_vec!(alloc => 7, 8, 9, 7, 8).expect(&rt, "memory"),
+                &[7, 8, 9, 7, 8]
+            )
     );
     for items in [[7u8].as_slice(), &[7, 7], &[7; 5]] {
-        let whole = Vec::from_slice(alloc, items)?;
-        let count = NonZeroUsize::new(items.len()).ok_or("no items")?;
+        let whole = Vec::from_slice(alloc, items).expect(&rt, "memory");
+        let count = NonZeroUsize::new(items.len()).expect(&rt, "no items");
         assert!(rt;
             has(&non_empty_vec!(@whole), items)
-                && has(&non_empty_vec!(alloc => 7; count.get())?, items)
-                && has(&non_empty_vec!(alloc => 7; NZUsize!(items.len()))?, items)
-                && has(&non_empty_vec!(alloc => 7; @count)?, items)
+                && has(
+                    &non_empty_vec!(alloc => 7; count.get()).expect(&rt, "memory"),
+                    items
+                )
+                && has(
+                    &non_empty_vec!(alloc => 7; NZUsize!(items.len())).expect(&rt, "memory"),
+                    items
+                )
+                && has(
+                    &non_empty_vec!(alloc => 7; @count).expect(&rt, "memory"),
+                    items
+                )
         );
     }
-    Ok(())
 }

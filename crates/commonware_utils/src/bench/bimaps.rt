@@ -7,7 +7,6 @@ use crate::TryFromIterator;
 use crate::codec::{self, RangeCfg, round_trip};
 use crate::ordered::{BiMap, Error, Map, Set, bimap_fault_law};
 use std::alloc::Global;
-use std::test::Fail;
 
 pub(super) const REPEATED: codec::Error = codec::Error::Invalid(
     "BiMap",
@@ -30,21 +29,21 @@ const NO_BIMAPS: [(&[u8], codec::Error); 4] = [
 ];
 
 /// {1: a, 2: b, 3: c}
-fn letters(alloc: Global) -> Result<BiMap<u8, char, Global>, Fail> {
-    Ok(BiMap::try_from_array(alloc, [(2u8, 'b'), (3, 'c'), (1, 'a')])?)
+fn letters(alloc: Global) -> Result<BiMap<u8, char, Global>, Error> {
+    BiMap::try_from_array(alloc, [(2u8, 'b'), (3, 'c'), (1, 'a')])
 }
 
 /// The bimap of these pairs.
-fn bimap_of(alloc: Global, pairs: &[(u8, u8)]) -> Result<BiMap<u8, u8, Global>, Fail> {
-    Ok(BiMap::try_from_slice(alloc, pairs)?)
+fn bimap_of(alloc: Global, pairs: &[(u8, u8)]) -> Result<BiMap<u8, u8, Global>, Error> {
+    BiMap::try_from_slice(alloc, pairs)
 }
 
 /// By every builder.
 #[test]
-fn test_bimap_duplicate_value_error(rt: HostRuntime) -> Result<(), Fail> {
+fn test_bimap_duplicate_value_error(rt: HostRuntime) {
     let alloc = rt.alloc();
     for (pairs, refusal) in LISTS {
-        let list = Vec::from_slice(alloc, &pairs)?;
+        let list = Vec::from_slice(alloc, &pairs).expect(&rt, "memory");
         assert!(rt;
             BiMap::try_from_iter(alloc, pairs).err() == refusal
                 && BiMap::try_from_vec(list).err() == refusal
@@ -53,12 +52,11 @@ fn test_bimap_duplicate_value_error(rt: HostRuntime) -> Result<(), Fail> {
                 && BiMap::try_from_array_ref(alloc, &pairs).err() == refusal
         );
     }
-    Ok(())
 }
 
 #[test]
-fn test_bimap_no_duplicate_values(rt: HostRuntime) -> Result<(), Fail> {
-    let bimap = letters(rt.alloc())?;
+fn test_bimap_no_duplicate_values(rt: HostRuntime) {
+    let bimap = letters(rt.alloc()).expect(&rt, "memory");
     assert!(rt;
         bimap.len() == 3
             && !bimap.is_empty()
@@ -73,12 +71,11 @@ fn test_bimap_no_duplicate_values(rt: HostRuntime) -> Result<(), Fail> {
                 && bimap.position(&key) == Some(place)
         );
     }
-    Ok(())
 }
 
 #[test]
-fn test_bimap_get_key(rt: HostRuntime) -> Result<(), Fail> {
-    let bimap = letters(rt.alloc())?;
+fn test_bimap_get_key(rt: HostRuntime) {
+    let bimap = letters(rt.alloc()).expect(&rt, "memory");
     for (value, key) in [
         ('a', Some(&1)),
         ('b', Some(&2)),
@@ -87,55 +84,57 @@ fn test_bimap_get_key(rt: HostRuntime) -> Result<(), Fail> {
     ] {
         assert!(rt; bimap.get_key(&value) == key);
     }
-    Ok(())
 }
 
 #[test]
-fn test_bimap_try_from_map(rt: HostRuntime) -> Result<(), Fail> {
-    let map = Map::try_from_array(rt.alloc(), [(1u8, 'a'), (2, 'b'), (3, 'c')])?;
-    let bimap = BiMap::try_from_map(map)?;
+fn test_bimap_try_from_map(rt: HostRuntime) {
+    let map = Map::try_from_array(rt.alloc(), [(1u8, 'a'), (2, 'b'), (3, 'c')]).expect(
+        &rt, "memory",
+    );
+    let bimap = BiMap::try_from_map(map).expect(&rt, "memory");
     assert!(rt; bimap.len() == 3 && bimap.get_value(&1) == Some(&'a'));
-    Ok(())
 }
 
 #[test]
-fn test_bimap_try_from_map_duplicate(rt: HostRuntime) -> Result<(), Fail> {
-    let map = Map::try_from_array(rt.alloc(), [(1u8, 'a'), (2, 'b'), (3, 'a')])?;
+fn test_bimap_try_from_map_duplicate(rt: HostRuntime) {
+    let map = Map::try_from_array(rt.alloc(), [(1u8, 'a'), (2, 'b'), (3, 'a')]).expect(
+        &rt, "memory",
+    );
     assert!(rt; BiMap::try_from_map(map).err() == Some(Error::DuplicateValue));
-    Ok(())
 }
 
 #[test]
-fn the_empty_map_is_a_bimap(rt: HostRuntime) -> Result<(), Fail> {
+fn the_empty_map_is_a_bimap(rt: HostRuntime) {
     let none: Map<u8, u8, _> = Map::empty(rt.alloc());
-    assert!(rt; BiMap::try_from_map(none)? == BiMap::empty(rt.alloc()));
-    Ok(())
+    assert!(rt; BiMap::try_from_map(none).expect(&rt, "memory") == BiMap::empty(rt.alloc()));
 }
 
 #[test]
-fn bimaps_are_sets_of_keys(rt: HostRuntime) -> Result<(), Fail> {
-    let bimap = letters(rt.alloc())?;
+fn bimaps_are_sets_of_keys(rt: HostRuntime) {
+    let bimap = letters(rt.alloc()).expect(&rt, "memory");
     let set: &Set<u8, Global> = &bimap;
     let keys: &Set<u8, Global> = bimap.as_ref();
     assert!(rt; set == keys && bimap.keys() == keys && bimap.iter().next_back() == Some(&3));
-    Ok(())
 }
 
 #[test]
-fn bimaps_are_given_up_in_parts(rt: HostRuntime) -> Result<(), Fail> {
-    let bimap = letters(rt.alloc())?;
-    let pairs = bimap.clone()?.into_pairs()?;
+fn bimaps_are_given_up_in_parts(rt: HostRuntime) {
+    let bimap = letters(rt.alloc()).expect(&rt, "memory");
+    let pairs = bimap
+        .clone()
+        .expect(&rt, "memory")
+        .into_pairs()
+        .expect(&rt, "memory");
     assert!(rt;
         pairs.as_slice() == [(1, 'a'), (2, 'b'), (3, 'c')].as_slice()
             && bimap.into_keys().as_slice() == [1, 2, 3].as_slice()
     );
-    Ok(())
 }
 
 /// The lines on bimaps; those on maps stand with the pairs of maps.
 #[test]
-fn test_pair_iterators(rt: HostRuntime) -> Result<(), Fail> {
-    let bimap = bimap_of(rt.alloc(), &[(3, 30), (1, 10), (2, 20)])?;
+fn test_pair_iterators(rt: HostRuntime) {
+    let bimap = bimap_of(rt.alloc(), &[(3, 30), (1, 10), (2, 20)]).expect(&rt, "memory");
     let steps = [
         (false, Some((&1, &10)), 2),
         (true, Some((&3, &30)), 1),
@@ -148,43 +147,51 @@ fn test_pair_iterators(rt: HostRuntime) -> Result<(), Fail> {
             && lends((&bimap).into_iter(), 3, &[(true, Some((&3, &30)), 2)])
             && gives(bimap.into_iter(), 3, &[(true, Some((3, 30)), 2)])
     );
-    Ok(())
 }
 
 #[test]
-fn bimaps_are_shown(rt: HostRuntime) -> Result<(), Fail> {
+fn bimaps_are_shown(rt: HostRuntime) {
     let alloc = rt.alloc();
     for (pairs, text) in [
         ([(2, 10), (1, 20)].as_slice(), "[(1, 20), (2, 10)]"),
         (&[], "[]"),
     ] {
-        assert!(rt; is_shown_as(alloc, &bimap_of(alloc, pairs)?, text)?);
+        assert!(rt; is_shown_as(alloc, &bimap_of(alloc, pairs).expect(&rt, "memory"), text));
     }
-    assert!(rt; is_debugged_as(alloc, &bimap_of(alloc, &[(1, 10)])?, "BiMap([(1, 10)])")?);
-    Ok(())
+    assert!(rt;
+        is_debugged_as(
+            alloc,
+            &bimap_of(alloc, &[(1, 10)]).expect(&rt, "memory"),
+            "BiMap([(1, 10)])"
+        )
+    );
 }
 
 #[test]
-fn equal_bimaps_hash_alike(rt: HostRuntime) -> Result<(), Fail> {
-    let bimap = bimap_of(rt.alloc(), &[(2, 20), (1, 10)])?;
-    assert!(rt; are_equal(&bimap, &bimap.clone()?, true));
+fn equal_bimaps_hash_alike(rt: HostRuntime) {
+    let bimap = bimap_of(rt.alloc(), &[(2, 20), (1, 10)]).expect(&rt, "memory");
+    assert!(rt; are_equal(&bimap, &bimap.clone().expect(&rt, "memory"), true));
     for other in [[(1, 10), (2, 21)], [(1, 10), (3, 20)], [(1, 20), (2, 10)]] {
-        assert!(rt; are_equal(&bimap, &bimap_of(rt.alloc(), &other)?, false));
+        assert!(rt;
+            are_equal(
+                &bimap,
+                &bimap_of(rt.alloc(), &other).expect(&rt, "memory"),
+                false
+            )
+        );
     }
-    Ok(())
 }
 
 #[test]
-fn bimaps_are_written_as_maps(rt: HostRuntime) -> Result<(), Fail> {
+fn bimaps_are_written_as_maps(rt: HostRuntime) {
     let alloc = rt.alloc();
     bimap_fault_law::<u8, u8, _>(alloc, RangeCfg::from(..), &(), &());
-    let two = bimap_of(alloc, &[(2, 10), (1, 20)])?;
-    assert!(rt; is_written_as(alloc, &two, b"\x02\x01\x02\x02\x14\x0a")?);
-    Ok(())
+    let two = bimap_of(alloc, &[(2, 10), (1, 20)]).expect(&rt, "memory");
+    assert!(rt; is_written_as(alloc, &two, b"\x02\x01\x02\x02\x14\x0a"));
 }
 
 /// The list of the bimaps of these pairs.
-fn bimaps_of(alloc: Global, lists: &[&[(u8, u8)]]) -> Result<Vec<BiMap<u8, u8, Global>>, Fail> {
+fn bimaps_of(alloc: Global, lists: &[&[(u8, u8)]]) -> Result<Vec<BiMap<u8, u8, Global>>, Error> {
     let mut bimaps = Vec::new(alloc);
     for pairs in lists {
         bimaps.push(bimap_of(alloc, pairs)?)?;
@@ -193,10 +200,9 @@ fn bimaps_of(alloc: Global, lists: &[&[(u8, u8)]]) -> Result<Vec<BiMap<u8, u8, G
 }
 
 #[test]
-fn bimaps_stand_in_lists(rt: HostRuntime) -> Result<(), Fail> {
-    let bimaps = bimaps_of(rt.alloc(), &[&[], &[(5, 6)]])?;
-    assert!(rt; is_written_as(rt.alloc(), &bimaps, b"\x02\x00\x00\x01\x05\x01\x06")?);
-    Ok(())
+fn bimaps_stand_in_lists(rt: HostRuntime) {
+    let bimaps = bimaps_of(rt.alloc(), &[&[], &[(5, 6)]]).expect(&rt, "memory");
+    assert!(rt; is_written_as(rt.alloc(), &bimaps, b"\x02\x00\x00\x01\x05\x01\x06"));
 }
 
 /// Under any range, and under one that all of them keep.
@@ -209,27 +215,25 @@ fn texts_that_are_no_bimap_are_refused(rt: HostRuntime) {
 
 /// A map that repeats a value is written, and its bytes are refused.
 #[test]
-fn test_bimap_decode_rejects_duplicate_values(rt: HostRuntime) -> Result<(), Fail> {
+fn test_bimap_decode_rejects_duplicate_values(rt: HostRuntime) {
     let alloc = rt.alloc();
     let short = (RangeCfg::from(0..=10), (), ());
-    let map = Map::try_from_array(alloc, [(1u8, 10u8), (2, 20), (3, 10)])?;
+    let map = Map::try_from_array(alloc, [(1u8, 10u8), (2, 20), (3, 10)]).expect(&rt, "memory");
     let bytes = b"\x03\x01\x02\x03\x03\x0a\x14\x0a".as_slice();
     assert!(rt;
-        is_written_as(alloc, &map, bytes)?
+        is_written_as(alloc, &map, bytes)
             && refuses::<BiMap<u8, u8, _>, _>(alloc, &short, &[(bytes, REPEATED)])
     );
-    Ok(())
 }
 
 #[test]
-fn bimaps_are_read_back(rt: HostRuntime) -> Result<(), Fail> {
+fn bimaps_are_read_back(rt: HostRuntime) {
     let alloc = rt.alloc();
     let any = (RangeCfg::from(..), (), ());
     let bytes = b"\x02\x01\x02\x02\x14\x0a\xff";
     let (bimap, taken) = read::<BiMap<u8, u8, _>, _>(alloc, bytes, &any);
-    let bimap = bimap?;
+    let bimap = bimap.expect(&rt, "a value");
     assert!(rt; taken == 6 && bimap.get_key(&10) == Some(&2));
-    let (again, left) = round_trip(alloc, &bimap, b"\xff\x00", &any)?;
+    let (again, left) = round_trip(alloc, &bimap, b"\xff\x00", &any).expect(&rt, "memory");
     assert!(rt; again == bimap && left == 2);
-    Ok(())
 }

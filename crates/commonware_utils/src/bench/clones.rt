@@ -5,7 +5,6 @@ use crate::codec::UInt;
 use crate::ordered::{BiMap, Map, Set};
 use crate::{EqClone, Participant, TryFromIterator, non_empty_vec};
 use std::alloc::{AllocError, Allocator};
-use std::test::Fail;
 
 /// Whether a clone equals its source, which the law says of every type that has it.
 fn clones_equal<T: EqClone>(value: &T) -> Result<bool, AllocError>
@@ -16,7 +15,7 @@ fn clones_equal<T: EqClone>(value: &T) -> Result<bool, AllocError>
 }
 
 #[test]
-fn numbers_and_texts_equal_their_clones(rt: HostRuntime) -> Result<(), Fail> {
+fn numbers_and_texts_equal_their_clones(rt: HostRuntime) {
     let alloc = rt.alloc();
     assert!(rt;
         clones_equal(&1u8) == Ok(true)
@@ -33,48 +32,50 @@ fn numbers_and_texts_equal_their_clones(rt: HostRuntime) -> Result<(), Fail> {
             && clones_equal(&-6isize) == Ok(true)
             && clones_equal(&'c') == Ok(true)
             && clones_equal(&"text") == Ok(true)
-            && clones_equal(&String::from_str(alloc, "text")?) == Ok(true)
+            && clones_equal(&String::from_str(alloc, "text").expect(&rt, "memory")) == Ok(true)
             && clones_equal(&UInt(300)) == Ok(true)
             && clones_equal(&Participant::new(300)) == Ok(true)
     );
-    Ok(())
 }
 
 #[test]
-fn collections_equal_their_clones(rt: HostRuntime) -> Result<(), Fail> {
+fn collections_equal_their_clones(rt: HostRuntime) {
     let alloc = rt.alloc();
-    assert!(rt; clones_equal(&vec![in alloc; 3u8, 1, 2]?)?);
-    let two = Set::from_iter_dedup(alloc, [2u8, 1])?;
-    let nest = Set::from_iter_dedup(alloc, [two, Set::empty(alloc)])?;
-    assert!(rt; clones_equal(&nest)?);
-    let pairs = BiMap::try_from_iter(alloc, [(2u8, 'b'), (1, 'a')])?;
-    assert!(rt; clones_equal(&pairs)?);
-    Ok(())
+    assert!(rt;
+        clones_equal(&vec![in alloc; 3u8, 1, 2].expect(&rt, "memory")).expect(&rt, "memory")
+    );
+    let two = Set::from_iter_dedup(alloc, [2u8, 1]).expect(&rt, "memory");
+    let nest = Set::from_iter_dedup(alloc, [two, Set::empty(alloc)]).expect(&rt, "memory");
+    assert!(rt; clones_equal(&nest).expect(&rt, "memory"));
+    let pairs = BiMap::try_from_iter(alloc, [(2u8, 'b'), (1, 'a')]).expect(&rt, "memory");
+    assert!(rt; clones_equal(&pairs).expect(&rt, "memory"));
 }
 
 #[test]
-fn lists_that_are_never_empty_are_cloned_as_items(rt: HostRuntime) -> Result<(), Fail> {
+fn lists_that_are_never_empty_are_cloned_as_items(rt: HostRuntime) {
     let alloc = rt.alloc();
     let lists = [
-        non_empty_vec!(alloc => 2u8, 1)?,
-        non_empty_vec!(alloc => 2)?,
+        non_empty_vec!(alloc => 2u8, 1).expect(&rt, "memory"),
+        non_empty_vec!(alloc => 2).expect(&rt, "memory"),
     ];
     let [long, short] = &lists;
-    assert!(rt; clones_equal(long)?);
-    let set = Set::try_from_slice(alloc, &lists)?;
+    assert!(rt; clones_equal(long).expect(&rt, "memory"));
+    let set = Set::try_from_slice(alloc, &lists).expect(&rt, "memory");
     assert!(rt; set.len() == 2 && set.get(0) == Some(short) && set.get(1) == Some(long));
-    assert!(rt; clones_equal(&set)?);
-    Ok(())
+    assert!(rt; clones_equal(&set).expect(&rt, "memory"));
 }
 
 #[test]
-fn maps_are_cloned_as_values(rt: HostRuntime) -> Result<(), Fail> {
+fn maps_are_cloned_as_values(rt: HostRuntime) {
     let alloc = rt.alloc();
-    let map = Map::try_from_iter(alloc, [(2u8, 'b'), (1, 'a')])?;
-    assert!(rt; clones_equal(&map)?);
+    let map = Map::try_from_iter(alloc, [(2u8, 'b'), (1, 'a')]).expect(&rt, "memory");
+    assert!(rt; clones_equal(&map).expect(&rt, "memory"));
     let pairs = [(7u8, map)];
-    let bimap = BiMap::try_from_slice(alloc, &pairs)?;
+    let bimap = BiMap::try_from_slice(alloc, &pairs).expect(&rt, "memory");
     let [(_, map)] = &pairs;
-    assert!(rt; bimap.len() == 1 && bimap.get_value(&7) == Some(map) && clones_equal(&bimap)?);
-    Ok(())
+    assert!(rt;
+        bimap.len() == 1
+            && bimap.get_value(&7) == Some(map)
+            && clones_equal(&bimap).expect(&rt, "memory")
+    );
 }

@@ -18,7 +18,6 @@ use crate::ordered::{BiMap, Map, Set};
 use crate::{EqClone, TryFromIterator};
 use std::alloc::{AllocError, Allocator, Global};
 use std::cmp::Ordering;
-use std::test::Fail;
 
 /// A byte. The greater one comes first.
 #[derive(Clone, Copy, Debug, PartialEq, Eq, Hash)]
@@ -129,69 +128,75 @@ fn the_greater_byte_comes_first(rt: HostRuntime) {
 }
 
 #[test]
-fn builders_put_the_greatest_first(rt: HostRuntime) -> Result<(), Fail> {
+fn builders_put_the_greatest_first(rt: HostRuntime) {
     let alloc = rt.alloc();
     let falling = [Descending(3), Descending(2), Descending(1)];
-    let mixed = vec![in alloc; Descending(1), Descending(3), Descending(2)]?;
+    let mixed = vec![in alloc; Descending(1), Descending(3), Descending(2)].expect(&rt, "memory");
     assert!(rt;
-        set_of(alloc, &[1, 3, 1, 2])?.as_slice() == falling.as_slice()
-            && Set::try_from_iter(alloc, mixed.clone()?)?.as_slice() == falling.as_slice()
-            && Set::try_from_slice(alloc, &mixed)?.as_slice() == falling.as_slice()
-            && Set::try_from_vec(mixed)?.as_slice() == falling.as_slice()
+        set_of(alloc, &[1, 3, 1, 2])
+            .expect(&rt, "memory")
+            .as_slice()
+            == falling.as_slice()
+            && Set::try_from_iter(alloc, mixed.clone().expect(&rt, "memory"))
+                .expect(&rt, "memory")
+                .as_slice()
+                == falling.as_slice()
+            && Set::try_from_slice(alloc, &mixed)
+                .expect(&rt, "memory")
+                .as_slice()
+                == falling.as_slice()
+            && Set::try_from_vec(mixed).expect(&rt, "memory").as_slice() == falling.as_slice()
     );
-    Ok(())
 }
 
 #[test]
-fn only_falling_bytes_are_read(rt: HostRuntime) -> Result<(), Fail> {
+fn only_falling_bytes_are_read(rt: HostRuntime) {
     let alloc = rt.alloc();
     let any = (RangeCfg::from(..), ());
-    let set = set_of(alloc, &[1, 2, 3])?;
+    let set = set_of(alloc, &[1, 2, 3]).expect(&rt, "memory");
     let bytes = b"\x03\x03\x02\x01";
     let rows = [
         (b"\x03\x01\x02\x03".as_slice(), UNSORTED),
         (b"\x02\x02\x02", UNSORTED),
     ];
     assert!(rt;
-        is_written_as(alloc, &set, bytes)?
+        is_written_as(alloc, &set, bytes)
             && read::<Set<Descending, _>, _>(alloc, bytes, &any) == (Ok(set), 4)
             && refuses::<Set<Descending, _>, _>(alloc, &any, &rows)
     );
-    Ok(())
 }
 
 #[test]
-fn maps_with_falling_keys_come_back(rt: HostRuntime) -> Result<(), Fail> {
+fn maps_with_falling_keys_come_back(rt: HostRuntime) {
     let alloc = rt.alloc();
     let any = (RangeCfg::from(..), (), ());
     let pairs = [(Descending(1), 10u8), (Descending(2), 20)];
-    let map = Map::try_from_iter(alloc, pairs)?;
-    let bimap = BiMap::try_from_iter(alloc, pairs)?;
+    let map = Map::try_from_iter(alloc, pairs).expect(&rt, "memory");
+    let bimap = BiMap::try_from_iter(alloc, pairs).expect(&rt, "memory");
     assert!(rt;
         map.values() == [20, 10].as_slice()
-            && comes_back(alloc, &map, &any)?
+            && comes_back(alloc, &map, &any)
             && bimap.get_key(&20) == Some(&Descending(2))
-            && comes_back(alloc, &bimap, &any)?
+            && comes_back(alloc, &bimap, &any)
     );
-    Ok(())
 }
 
 /// The sets stand by their items: the one with the greater byte comes first, and the empty one
 /// before all.
 #[test]
-fn sets_of_falling_sets_are_written_and_read(rt: HostRuntime) -> Result<(), Fail> {
+fn sets_of_falling_sets_are_written_and_read(rt: HostRuntime) {
     let alloc = rt.alloc();
     let any = RangeCfg::from(..);
     let mut sets = Vec::new(alloc);
     for bytes in [[1].as_slice(), &[1, 2], &[], &[2]] {
-        sets.push(set_of(alloc, bytes)?)?;
+        sets.push(set_of(alloc, bytes).expect(&rt, "memory"))
+            .expect(&rt, "memory");
     }
-    let nest = Set::from_iter_dedup(alloc, sets)?;
+    let nest = Set::from_iter_dedup(alloc, sets).expect(&rt, "memory");
     let bytes = b"\x04\x00\x01\x02\x02\x02\x01\x01\x01";
     assert!(rt;
-        is_written_as(alloc, &nest, bytes)?
+        is_written_as(alloc, &nest, bytes)
             && read::<Set<Set<Descending, _>, _>, _>(alloc, bytes, &(any, (any, ())))
                 == (Ok(nest), 9)
     );
-    Ok(())
 }

@@ -4,7 +4,6 @@ ghost use Rattle.std.proofs.Common.{arith};
 use super::is_debugged_as;
 use crate::faults::Count;
 use crate::{Faults, N3f1, N5f1};
-use std::test::Fail;
 
 /// n, then f and the quorum of `N3f1`, then f, the quorum and the smaller quorum of `N5f1`.
 const NUMBERS: [(u32, (u32, u32), (u32, u32, u32)); 23] = [
@@ -162,15 +161,14 @@ fn test_bft_model_safety_property(rt: HostRuntime) {
 }
 
 #[test]
-fn models_are_shown_by_their_names(rt: HostRuntime) -> Result<(), Fail> {
+fn models_are_shown_by_their_names(rt: HostRuntime) {
     let (thirds, fifths) = (N3f1, N5f1::default());
     assert!(rt;
-        is_debugged_as(rt.alloc(), &thirds, "N3f1")?
-            && is_debugged_as(rt.alloc(), &fifths, "N5f1")?
+        is_debugged_as(rt.alloc(), &thirds, "N3f1")
+            && is_debugged_as(rt.alloc(), &fifths, "N5f1")
             && thirds == N3f1::default()
-            && fifths == fifths.clone()?
+            && fifths == fifths.clone().expect(&rt, "memory")
     );
-    Ok(())
 }
 
 /// A model under which no participant is faulty.

@@ -2,8 +2,7 @@
 use super::labelled::{Labelled, item};
 use crate::TryFromIterator;
 use crate::ordered::{Error, Map, Set};
-use std::alloc::Global;
-use std::test::Fail;
+use std::alloc::{AllocError, Global};
 
 /// Numbers, which are labelled by the letters in turn, and what stays of them, in order.
 type Row = (&'static [u8], &'static [(u8, char)]);
@@ -103,7 +102,7 @@ fn counts_to(set: &Set<u32, Global>, end: u32) -> bool {
 
 /// Whether of equal items of the row the first one stays, or, where none may be equal, the row is
 /// refused.
-fn is_built(alloc: Global, row: &Row) -> Result<bool, Fail> {
+fn is_built(alloc: Global, row: &Row) -> Result<bool, AllocError> {
     let (numbers, kept) = *row;
     let pairs: Vec<(u8, char)> = numbers.iter().copied().zip(LETTERS.chars()).collect(alloc)?;
     let items = pairs.iter().map(|pair| item(pair.0, pair.1));
@@ -123,70 +122,82 @@ fn is_built(alloc: Global, row: &Row) -> Result<bool, Fail> {
 }
 
 #[test]
-fn rows_are_built_or_refused(rt: HostRuntime) -> Result<(), Fail> {
+fn rows_are_built_or_refused(rt: HostRuntime) {
     for rows in [STRAIGHT.as_slice(), &BROKEN, &AGAIN] {
         for row in rows {
-            assert!(rt; is_built(rt.alloc(), row)?, "{:?}", row.0);
+            assert!(rt;
+                is_built(rt.alloc(), row).expect(&rt, "memory"),
+                "{:?}",
+                row.0
+            );
         }
     }
-    Ok(())
 }
 
 #[test]
-fn many_falling_items_are_put_in_order(rt: HostRuntime) -> Result<(), Fail> {
+fn many_falling_items_are_put_in_order(rt: HostRuntime) {
     let alloc = rt.alloc();
     let falling = || (0..1000u32).rev();
-    let set = Set::from_iter_dedup(alloc, falling().chain(falling()))?;
-    assert!(rt; counts_to(&set, 1000) && counts_to(&Set::try_from_iter(alloc, falling())?, 1000));
+    let set = Set::from_iter_dedup(alloc, falling().chain(falling())).expect(&rt, "memory");
+    assert!(rt;
+        counts_to(&set, 1000)
+            && counts_to(
+                &Set::try_from_iter(alloc, falling()).expect(&rt, "memory"),
+                1000
+            )
+    );
     let repeated = Set::try_from_iter(alloc, falling().chain(falling()));
     assert!(rt; repeated.err() == Some(Error::DuplicateKey));
-    Ok(())
 }
 
 /// 7919 has no divisor in common with 1000, so each number below 1000 comes once.
 #[test]
-fn many_mixed_items_are_put_in_order(rt: HostRuntime) -> Result<(), Fail> {
+fn many_mixed_items_are_put_in_order(rt: HostRuntime) {
     let alloc = rt.alloc();
     let mixed = || (0..1000u32).map(|i| i.wrapping_mul(7919) % 1000);
-    let set = Set::from_iter_dedup(alloc, mixed().chain(mixed()))?;
-    assert!(rt; counts_to(&set, 1000) && counts_to(&Set::try_from_iter(alloc, mixed())?, 1000));
-    let map = Map::try_from_iter(alloc, mixed().map(|i| (i, i / 2)))?;
+    let set = Set::from_iter_dedup(alloc, mixed().chain(mixed())).expect(&rt, "memory");
+    assert!(rt;
+        counts_to(&set, 1000)
+            && counts_to(
+                &Set::try_from_iter(alloc, mixed()).expect(&rt, "memory"),
+                1000
+            )
+    );
+    let map = Map::try_from_iter(alloc, mixed().map(|i| (i, i / 2))).expect(&rt, "memory");
     assert!(rt; counts_to(&map, 1000) && map.values().iter().copied().eq((0..1000).map(|i| i / 2)));
-    Ok(())
 }
 
 #[test]
-fn the_first_label_of_a_number_stays(rt: HostRuntime) -> Result<(), Fail> {
+fn the_first_label_of_a_number_stays(rt: HostRuntime) {
     let items = (0..100u8).map(|i| item(i % 10, char::from(i)));
-    let set = Set::from_iter_dedup(rt.alloc(), items)?;
+    let set = Set::from_iter_dedup(rt.alloc(), items).expect(&rt, "memory");
     let numbers = set.iter().map(|item| item.number);
     let labels = set.iter().map(|item| item.label);
     assert!(rt; numbers.eq(0..10) && labels.eq((0..10u8).map(char::from)));
-    Ok(())
 }
 
 #[test]
-fn the_first_value_of_a_key_stays(rt: HostRuntime) -> Result<(), Fail> {
-    let map = Map::from_iter_dedup(rt.alloc(), (0..100u8).map(|i| (i % 10, i)))?;
+fn the_first_value_of_a_key_stays(rt: HostRuntime) {
+    let map = Map::from_iter_dedup(rt.alloc(), (0..100u8).map(|i| (i % 10, i))).expect(
+        &rt, "memory",
+    );
     assert!(rt;
         map.iter_pairs()
             .map(|(key, value)| (*key, *value))
             .eq((0..10u8).map(|i| (i, i)))
     );
-    Ok(())
 }
 
 /// Of the numbers below 300, 150 are even, and 50 of the others are multiples of three.
 #[test]
-fn two_long_rows_become_one(rt: HostRuntime) -> Result<(), Fail> {
+fn two_long_rows_become_one(rt: HostRuntime) {
     let twos = (0..300u32).filter(|i| *i % 2 == 0).map(|i| (i, 'a'));
     let threes = (0..300u32).filter(|i| *i % 3 == 0).map(|i| (i, 'b'));
-    let map = Map::from_iter_dedup(rt.alloc(), twos.chain(threes))?;
+    let map = Map::from_iter_dedup(rt.alloc(), twos.chain(threes)).expect(&rt, "memory");
     let firsts = |i: &u32| if *i % 2 == 0 { 'a' } else { 'b' };
     assert!(rt;
         map.len() == 200
             && map.iter().all(|i| *i < 300 && (*i % 2 == 0 || *i % 3 == 0))
             && map.iter_pairs().all(|(i, label)| *label == firsts(i))
     );
-    Ok(())
 }

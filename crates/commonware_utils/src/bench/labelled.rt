@@ -14,7 +14,6 @@ use crate::codec::{
 use crate::ordered::{self, BiMap, Set};
 use crate::{EqClone, TryFromIterator};
 use std::alloc::{AllocError, Allocator};
-use std::test::Fail;
 
 /// A number and a label. The number alone is compared, hashed and written; what is read has the
 /// label `r`.
@@ -94,49 +93,47 @@ pub(super) const fn item(number: u8, label: char) -> Labelled {
 }
 
 #[test]
-fn the_first_of_equals_stays(rt: HostRuntime) -> Result<(), Fail> {
+fn the_first_of_equals_stays(rt: HostRuntime) {
     let items = [item(2, 'x'), item(1, 'y'), item(2, 'z')];
-    let set = Set::from_iter_dedup(rt.alloc(), items)?;
+    let set = Set::from_iter_dedup(rt.alloc(), items).expect(&rt, "memory");
     assert!(rt;
         set.len() == 2
             && set.get(0).map(|item| (item.number, item.label)) == Some((1, 'y'))
             && set.get(1).map(|item| (item.number, item.label)) == Some((2, 'x'))
     );
-    Ok(())
 }
 
 #[test]
-fn equal_sets_of_labelled_items_have_equal_bytes(rt: HostRuntime) -> Result<(), Fail> {
+fn equal_sets_of_labelled_items_have_equal_bytes(rt: HostRuntime) {
     let alloc = rt.alloc();
     let any = RangeCfg::from(..);
-    let set = Set::from_iter_dedup(alloc, [item(2, 'x'), item(1, 'y')])?;
+    let set = Set::from_iter_dedup(alloc, [item(2, 'x'), item(1, 'y')]).expect(&rt, "memory");
     let (read_set, taken) = read::<Set<Labelled, _>, _>(alloc, b"\x02\x01\x02", &(any, ()));
-    let read_set = read_set?;
+    let read_set = read_set.expect(&rt, "a value");
     assert!(rt;
         taken == 3 && read_set.get(0).map(|item| item.label) == Some('r') && read_set == set
     );
     for written in [&set, &read_set] {
-        assert!(rt; is_written_as(alloc, written, b"\x02\x01\x02")?);
+        assert!(rt; is_written_as(alloc, written, b"\x02\x01\x02"));
     }
     assert!(rt; Labelled::MAX_ENCODE_SIZE == 1);
-    Ok(())
 }
 
 #[test]
-fn a_labelled_item_is_read_back_equal(rt: HostRuntime) -> Result<(), Fail> {
+fn a_labelled_item_is_read_back_equal(rt: HostRuntime) {
     let item = item(7, 'x');
     assert!(rt; item.is_writable());
-    let (again, left) = round_trip(rt.alloc(), &item, b"\x01\x02", &())?;
+    let (again, left) = round_trip(rt.alloc(), &item, b"\x01\x02", &()).expect(&rt, "memory");
     assert!(rt; again == item && again.label == 'r' && left == 2);
-    Ok(())
 }
 
 #[test]
-fn values_are_equal_whatever_their_labels(rt: HostRuntime) -> Result<(), Fail> {
+fn values_are_equal_whatever_their_labels(rt: HostRuntime) {
     let alloc = rt.alloc();
     let repeated = BiMap::try_from_iter(alloc, [(1u8, item(5, 'x')), (2, item(5, 'y'))]);
     assert!(rt; repeated.err() == Some(ordered::Error::DuplicateValue));
-    let bimap = BiMap::try_from_iter(alloc, [(1u8, item(5, 'x')), (2, item(6, 'x'))])?;
+    let bimap = BiMap::try_from_iter(alloc, [(1u8, item(5, 'x')), (2, item(6, 'x'))]).expect(
+        &rt, "memory",
+    );
     assert!(rt; bimap.get_key(&item(6, 'y')) == Some(&2));
-    Ok(())
 }

@@ -2,7 +2,6 @@
 use crate::TryFromIterator;
 use crate::ordered::{Error, Map, Set};
 use std::alloc::Global;
-use std::test::Fail;
 
 /// Keys and their values.
 type Parts = (&'static [u8], &'static [char]);
@@ -32,9 +31,9 @@ fn answers(answer: &Result<Map<u8, char, Global>, Error>, parts: Option<(&[u8], 
 }
 
 #[test]
-fn test_map_from_iter_dedup(rt: HostRuntime) -> Result<(), Fail> {
+fn test_map_from_iter_dedup(rt: HostRuntime) {
     let items = [(3u8, "c"), (1, "a"), (2, "b"), (1, "duplicate")];
-    let map = Map::from_iter_dedup(rt.alloc(), items)?;
+    let map = Map::from_iter_dedup(rt.alloc(), items).expect(&rt, "memory");
     assert!(rt;
         map.len() == 3
             && !map.is_empty()
@@ -44,54 +43,55 @@ fn test_map_from_iter_dedup(rt: HostRuntime) -> Result<(), Fail> {
             && map.value(1) == Some(&"b")
             && map.value(3) == None
     );
-    Ok(())
 }
 
 #[test]
-fn the_first_pair_of_a_key_stays(rt: HostRuntime) -> Result<(), Fail> {
-    let map = Map::from_iter_dedup(rt.alloc(), (0..100u8).map(|i| (i % 10, i)))?;
+fn the_first_pair_of_a_key_stays(rt: HostRuntime) {
+    let map = Map::from_iter_dedup(rt.alloc(), (0..100u8).map(|i| (i % 10, i))).expect(
+        &rt, "memory",
+    );
     let digits = [0, 1, 2, 3, 4, 5, 6, 7, 8, 9];
     assert!(rt; map.as_slice() == digits.as_slice() && map.values() == digits.as_slice());
-    Ok(())
 }
 
 #[test]
-fn values_need_no_bound(rt: HostRuntime) -> Result<(), Fail> {
+fn values_need_no_bound(rt: HostRuntime) {
     let alloc = rt.alloc();
-    let map = Map::from_iter_dedup(alloc, [(2u8, Opaque(20)), (1, Opaque(10)), (2, Opaque(30))])?;
+    let map = Map::from_iter_dedup(
+        alloc,
+        [(2u8, Opaque(20)), (1, Opaque(10)), (2, Opaque(30))],
+    ).expect(&rt, "memory");
     assert!(rt; matches!(map.get_value(&2), Some(Opaque(20))));
-    let whole = Map::try_from_iter(alloc, [(2u8, Opaque(20)), (1, Opaque(10))])?;
+    let whole = Map::try_from_iter(alloc, [(2u8, Opaque(20)), (1, Opaque(10))]).expect(
+        &rt, "memory",
+    );
     assert!(rt; matches!(whole.value(0), Some(Opaque(10))));
-    Ok(())
 }
 
 /// By each builder of a list.
 #[test]
-fn test_map_try_from(rt: HostRuntime) -> Result<(), Fail> {
+fn test_map_try_from(rt: HostRuntime) {
     let alloc = rt.alloc();
     for (pairs, parts) in LISTS {
-        let whole = Vec::from_slice(alloc, pairs)?;
+        let whole = Vec::from_slice(alloc, pairs).expect(&rt, "memory");
         assert!(rt;
             answers(&Map::try_from_vec(whole), parts)
                 && answers(&Map::try_from_iter(alloc, pairs.iter().copied()), parts)
                 && answers(&Map::try_from_slice(alloc, pairs), parts)
         );
     }
-    Ok(())
 }
 
 #[test]
-fn test_map_try_from_duplicate(rt: HostRuntime) -> Result<(), Fail> {
-    let pairs = vec![in rt.alloc(); (3u8, 'c'), (1, 'a'), (2, 'b'), (1, 'd')]?;
+fn test_map_try_from_duplicate(rt: HostRuntime) {
+    let pairs = vec![in rt.alloc(); (3u8, 'c'), (1, 'a'), (2, 'b'), (1, 'd')].expect(&rt, "memory");
     assert!(rt; answers(&Map::try_from_vec(pairs), None));
-    Ok(())
 }
 
 #[test]
-fn test_map_try_from_iter_duplicate(rt: HostRuntime) -> Result<(), Fail> {
-    let pairs = vec![in rt.alloc(); (3u8, 'c'), (1, 'a'), (2, 'b'), (1, 'd')]?;
+fn test_map_try_from_iter_duplicate(rt: HostRuntime) {
+    let pairs = vec![in rt.alloc(); (3u8, 'c'), (1, 'a'), (2, 'b'), (1, 'd')].expect(&rt, "memory");
     assert!(rt; answers(&Map::try_from_iter(rt.alloc(), pairs), None));
-    Ok(())
 }
 
 /// Whether an array, and a reference to it, are answered with the map of these parts.
@@ -124,43 +124,48 @@ fn the_empty_map_holds_nothing(rt: HostRuntime) {
 }
 
 #[test]
-fn test_map_from_set(rt: HostRuntime) -> Result<(), Fail> {
+fn test_map_from_set(rt: HostRuntime) {
     let alloc = rt.alloc();
     let pairs = [(3u8, 'a'), (1, 'b'), (2, 'c')];
-    let first = Set::try_from_iter(alloc, pairs)?;
-    let wrapped = Map::try_from_iter(alloc, Set::try_from_iter(alloc, pairs)?)?;
-    let keys: Vec<u8> = first.iter().map(|pair| pair.0).collect(alloc)?;
+    let first = Set::try_from_iter(alloc, pairs).expect(&rt, "memory");
+    let wrapped = Map::try_from_iter(
+        alloc,
+        Set::try_from_iter(alloc, pairs).expect(&rt, "memory"),
+    )
+    .expect(&rt, "memory");
+    let keys: Vec<u8> = first
+        .iter()
+        .map(|pair| pair.0)
+        .collect(alloc)
+        .expect(&rt, "memory");
     assert!(rt; keys.as_slice() == wrapped.as_slice());
-    Ok(())
 }
 
 /// The contents that the test of the Rust crate `test_map_from_parts_reuses_allocations` compares.
 #[test]
-fn map_from_parts(rt: HostRuntime) -> Result<(), Fail> {
-    let keys = Set::try_from_array(rt.alloc(), [3u8, 1, 2])?;
-    let values = vec![in rt.alloc(); 30u8, 10, 10]?;
-    let map = Map::from_parts(keys, values).ok_or("uneven")?;
+fn map_from_parts(rt: HostRuntime) {
+    let keys = Set::try_from_array(rt.alloc(), [3u8, 1, 2]).expect(&rt, "memory");
+    let values = vec![in rt.alloc(); 30u8, 10, 10].expect(&rt, "memory");
+    let map = Map::from_parts(keys, values).expect(&rt, "uneven");
     assert!(rt; map.as_slice() == [1, 2, 3].as_slice() && map.values() == [30, 10, 10].as_slice());
-    Ok(())
 }
 
 #[test]
-fn parts_are_paired_by_their_positions(rt: HostRuntime) -> Result<(), Fail> {
-    let keys = Set::try_from_array(rt.alloc(), [3u8, 1, 2])?;
-    let words = vec![in rt.alloc(); "one", "two", "three"]?;
-    let map = Map::from_parts(keys, words).ok_or("uneven")?;
+fn parts_are_paired_by_their_positions(rt: HostRuntime) {
+    let keys = Set::try_from_array(rt.alloc(), [3u8, 1, 2]).expect(&rt, "memory");
+    let words = vec![in rt.alloc(); "one", "two", "three"].expect(&rt, "memory");
+    let map = Map::from_parts(keys, words).expect(&rt, "uneven");
     assert!(rt; map.get_value(&2) == Some(&"two"));
-    Ok(())
 }
 
 /// With two values beside the lengths that the test of the Rust crate takes.
 #[test]
-fn test_map_from_parts_lengths(rt: HostRuntime) -> Result<(), Fail> {
+fn test_map_from_parts_lengths(rt: HostRuntime) {
     let alloc = rt.alloc();
     for keys_len in [0usize, 1, 3] {
         for values_len in [0usize, 1, 2, 3] {
-            let keys = Set::try_from_iter(alloc, 0..keys_len)?;
-            let values: Vec<usize> = (0..values_len).collect(alloc)?;
+            let keys = Set::try_from_iter(alloc, 0..keys_len).expect(&rt, "memory");
+            let values: Vec<usize> = (0..values_len).collect(alloc).expect(&rt, "memory");
             match Map::from_parts(keys, values) {
                 Some(map) => assert!(rt;
                     keys_len == values_len
@@ -171,5 +176,4 @@ fn test_map_from_parts_lengths(rt: HostRuntime) -> Result<(), Fail> {
             }
         }
     }
-    Ok(())
 }

@@ -1,12 +1,11 @@
 //! Iterators over the pairs of maps: both ends, the number left, and what is written through them.
 use crate::ordered::{Map, MapIntoIter, Pairs, PairsMut, Set};
 use std::alloc::Global;
-use std::test::Fail;
 
 /// {1: 10, 2: 20, 3: 30}
-pub(super) fn tens(alloc: Global) -> Result<Map<u8, u8, Global>, Fail> {
-    let keys = Set::from_iter_dedup(alloc, [3u8, 1, 2])?;
-    Ok(Map::from_parts(keys, vec![in alloc; 10, 20, 30]?).ok_or("uneven")?)
+pub(super) fn tens(alloc: Global) -> Option<Map<u8, u8, Global>> {
+    let keys = Set::from_iter_dedup(alloc, [3u8, 1, 2]).ok()?;
+    Map::from_parts(keys, vec![in alloc; 10, 20, 30].ok()?)
 }
 
 /// Whether so many pairs are told at first, and each step, from the back where that is said, gives
@@ -55,8 +54,8 @@ pub(super) fn gives(
 }
 
 #[test]
-fn pairs_are_given_from_both_ends(rt: HostRuntime) -> Result<(), Fail> {
-    let two = Map::try_from_array(rt.alloc(), [(1u8, 10u8), (2, 20)])?;
+fn pairs_are_given_from_both_ends(rt: HostRuntime) {
+    let two = Map::try_from_array(rt.alloc(), [(1u8, 10u8), (2, 20)]).expect(&rt, "memory");
     let steps = [
         (true, Some((2, 20)), 1),
         (false, Some((1, 10)), 0),
@@ -65,14 +64,13 @@ fn pairs_are_given_from_both_ends(rt: HostRuntime) -> Result<(), Fail> {
         (false, None, 0),
     ];
     assert!(rt; gives(two.into_iter(), 2, &steps));
-    let three = tens(rt.alloc())?;
+    let three = tens(rt.alloc()).expect(&rt, "memory");
     assert!(rt; gives(three.into_iter(), 3, &[(false, Some((1, 10)), 2)]));
-    Ok(())
 }
 
 #[test]
-fn a_loop_walks_the_pairs(rt: HostRuntime) -> Result<(), Fail> {
-    let map = tens(rt.alloc())?;
+fn a_loop_walks_the_pairs(rt: HostRuntime) {
+    let map = tens(rt.alloc()).expect(&rt, "memory");
     let mut walked = 0u32;
     for (key, value) in &map {
         walked = walked
@@ -88,7 +86,6 @@ fn a_loop_walks_the_pairs(rt: HostRuntime) -> Result<(), Fail> {
             .wrapping_add(u32::from(value));
     }
     assert!(rt; walked == 112_233 && taken == 112_233);
-    Ok(())
 }
 
 /// Adds the key to the value, and tells both as they were.
@@ -115,8 +112,8 @@ fn adds_keys(map: &mut Map<u8, u8, Global>) -> bool {
 
 /// The lines on maps; those on bimaps stand with the bimaps.
 #[test]
-fn test_pair_iterators(rt: HostRuntime) -> Result<(), Fail> {
-    let mut map = tens(rt.alloc())?;
+fn test_pair_iterators(rt: HostRuntime) {
+    let mut map = tens(rt.alloc()).expect(&rt, "memory");
     let steps = [
         (false, Some((&1, &10)), 2),
         (true, Some((&3, &30)), 1),
@@ -131,40 +128,39 @@ fn test_pair_iterators(rt: HostRuntime) -> Result<(), Fail> {
             && adds_keys(&mut map)
             && map.values() == [11, 22, 33].as_slice()
     );
-    Ok(())
 }
 
 #[test]
-fn the_number_left_is_told(rt: HostRuntime) -> Result<(), Fail> {
-    let mut map = tens(rt.alloc())?;
+fn the_number_left_is_told(rt: HostRuntime) {
+    let mut map = tens(rt.alloc()).expect(&rt, "memory");
     let mut lent = map.iter_pairs_mut();
     let _ = lent.next();
     assert!(rt; lent.len() == 2 && lent.size_hint() == (2, Some(2)));
-    Ok(())
 }
 
 #[test]
-fn values_are_written_in_a_loop(rt: HostRuntime) -> Result<(), Fail> {
-    let mut map = tens(rt.alloc())?;
+fn values_are_written_in_a_loop(rt: HostRuntime) {
+    let mut map = tens(rt.alloc()).expect(&rt, "memory");
     for (key, value) in map.iter_pairs_mut() {
         *value = value.wrapping_add(*key);
     }
     assert!(rt;
         map.values() == [11, 22, 33].as_slice() && map.keys().as_slice() == [1, 2, 3].as_slice()
     );
-    Ok(())
 }
 
 /// Lists that are no map's: the keys 7, 3 beside the values 1, 2.
 #[test]
-fn two_lists_are_walked_side_by_side(rt: HostRuntime) -> Result<(), Fail> {
+fn two_lists_are_walked_side_by_side(rt: HostRuntime) {
     let shown = Pairs::new([7u8, 3].as_slice(), [1u8, 2].as_slice());
     assert!(rt; lends(shown, 2, &[(true, Some((&3, &2)), 1)]));
     let mut values = [1u8, 2];
     let mut lent = PairsMut::new([7u8, 3].as_slice(), values.as_mut_slice());
     let told = add_key(lent.next_back());
     assert!(rt; told == Some((3, 2)) && values == [1, 5]);
-    let given = MapIntoIter::new(vec![in rt.alloc(); 7u8, 3]?, vec![in rt.alloc(); 1u8, 2]?);
+    let given = MapIntoIter::new(
+        vec![in rt.alloc(); 7u8, 3].expect(&rt, "memory"),
+        vec![in rt.alloc(); 1u8, 2].expect(&rt, "memory"),
+    );
     assert!(rt; gives(given, 2, &[(false, Some((7, 1)), 1)]));
-    Ok(())
 }

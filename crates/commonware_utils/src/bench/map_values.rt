@@ -3,31 +3,33 @@ use super::map_pairs::tens;
 use super::{is_debugged_as, is_shown_as};
 use crate::ordered::{Map, MapError, Set};
 use std::alloc::Global;
-use std::test::Fail;
 
 #[test]
-fn a_counter_runs_along_the_keys(rt: HostRuntime) -> Result<(), Fail> {
-    let map = tens(rt.alloc())?;
+fn a_counter_runs_along_the_keys(rt: HostRuntime) {
+    let map = tens(rt.alloc()).expect(&rt, "memory");
     let mut counter = 0u8;
-    let sums = map.map_values(|_, value| {
-        counter = counter.wrapping_add(*value);
-        counter
-    })?;
+    let sums = map
+        .map_values(|_, value| {
+            counter = counter.wrapping_add(*value);
+            counter
+        })
+        .expect(&rt, "memory");
     assert!(rt;
         sums.values() == [10, 30, 60].as_slice() && sums.keys() == map.keys() && counter == 60
     );
     let mut taken = 0u8;
-    let sums = map.map_values_into(|_, value| {
-        taken = taken.wrapping_add(value);
-        taken
-    })?;
+    let sums = map
+        .map_values_into(|_, value| {
+            taken = taken.wrapping_add(value);
+            taken
+        })
+        .expect(&rt, "memory");
     assert!(rt; sums.values() == [10, 30, 60].as_slice() && taken == 60);
-    Ok(())
 }
 
 #[test]
-fn a_counter_runs_along_the_keys_that_may_fail(rt: HostRuntime) -> Result<(), Fail> {
-    let map = tens(rt.alloc())?;
+fn a_counter_runs_along_the_keys_that_may_fail(rt: HostRuntime) {
+    let map = tens(rt.alloc()).expect(&rt, "memory");
     let mut counter = 0u8;
     let sums: Result<_, MapError<u8>> = map.try_map_values(|_, value| {
         counter = counter.wrapping_add(*value);
@@ -40,12 +42,11 @@ fn a_counter_runs_along_the_keys_that_may_fail(rt: HostRuntime) -> Result<(), Fa
         Ok(taken)
     });
     assert!(rt; sums.is_ok_and(|sums| sums.values() == [10, 30, 60].as_slice()) && taken == 60);
-    Ok(())
 }
 
 #[test]
-fn nothing_is_called_after_the_first_error(rt: HostRuntime) -> Result<(), Fail> {
-    let map = tens(rt.alloc())?;
+fn nothing_is_called_after_the_first_error(rt: HostRuntime) {
+    let map = tens(rt.alloc()).expect(&rt, "memory");
     let mut called = 0u32;
     let failed = map.try_map_values(|key, value| {
         called = called.wrapping_mul(10).wrapping_add(u32::from(*key));
@@ -58,17 +59,17 @@ fn nothing_is_called_after_the_first_error(rt: HostRuntime) -> Result<(), Fail> 
         Err(5u8)
     });
     assert!(rt; failed.err() == Some(MapError::Closure(5)) && calls == 1);
-    Ok(())
 }
 
 #[test]
-fn texts_are_mapped_to_their_lengths(rt: HostRuntime) -> Result<(), Fail> {
+fn texts_are_mapped_to_their_lengths(rt: HostRuntime) {
     let alloc = rt.alloc();
-    let keys = Set::from_iter_dedup(alloc, [4u8, 1])?;
-    let map = Map::from_parts(keys, vec![in alloc; "one", "four"]?).ok_or("uneven")?;
-    let lengths = map.map_values(|_, text| text.len())?;
+    let keys = Set::from_iter_dedup(alloc, [4u8, 1]).expect(&rt, "memory");
+    let map = Map::from_parts(keys, vec![in alloc; "one", "four"].expect(&rt, "memory")).expect(
+        &rt, "uneven",
+    );
+    let lengths = map.map_values(|_, text| text.len()).expect(&rt, "memory");
     assert!(rt; lengths.keys() == map.keys() && lengths.values() == [3, 4].as_slice());
-    Ok(())
 }
 
 /// A value that can't be cloned, compared or hashed.
@@ -80,27 +81,27 @@ struct Value(u8);
 struct Key(u8);
 
 #[test]
-fn test_map_values_borrowed(rt: HostRuntime) -> Result<(), Fail> {
+fn test_map_values_borrowed(rt: HostRuntime) {
     let alloc = rt.alloc();
-    let keys = Set::from_iter_dedup(alloc, [3u8, 1, 2])?;
-    let values = vec![in alloc; Value(10), Value(20), Value(30)]?;
-    let map = Map::from_parts(keys, values).ok_or("uneven")?;
+    let keys = Set::from_iter_dedup(alloc, [3u8, 1, 2]).expect(&rt, "memory");
+    let values = vec![in alloc; Value(10), Value(20), Value(30)].expect(&rt, "memory");
+    let map = Map::from_parts(keys, values).expect(&rt, "uneven");
     let expected = [(&1, &10), (&2, &20), (&3, &30)];
-    let mapped = map.map_values(|key, value| (key, &value.0))?;
+    let mapped = map
+        .map_values(|key, value| (key, &value.0))
+        .expect(&rt, "memory");
     assert!(rt; mapped.keys() == map.keys() && mapped.values() == expected.as_slice());
     let tried: Result<_, MapError<()>> = map.try_map_values(|key, value| Ok((key, &value.0)));
     assert!(rt;
         tried.is_ok_and(|tried| tried.keys() == map.keys() && tried.values() == expected.as_slice())
             && map.get_value(&2).is_some_and(|value| value.0 == 20)
     );
-    Ok(())
 }
 
 /// {1: 10, 2: 20, 3: 30}, with keys and values that can't be cloned.
-fn owned(alloc: Global) -> Result<Map<Key, Value, Global>, Fail> {
-    let keys = Set::from_iter_dedup(alloc, [Key(3), Key(1), Key(2)])?;
-    let values = vec![in alloc; Value(10), Value(20), Value(30)]?;
-    Ok(Map::from_parts(keys, values).ok_or("uneven")?)
+fn owned(alloc: Global) -> Option<Map<Key, Value, Global>> {
+    let keys = Set::from_iter_dedup(alloc, [Key(3), Key(1), Key(2)]).ok()?;
+    Map::from_parts(keys, vec![in alloc; Value(10), Value(20), Value(30)].ok()?)
 }
 
 /// Whether the keys are 1, 2 and 3, and the values 11, 22 and 33.
@@ -110,9 +111,9 @@ fn are_sums(map: &Map<Key, u8, Global>) -> bool {
 }
 
 #[test]
-fn test_map_values_into_reuses_keys(rt: HostRuntime) -> Result<(), Fail> {
+fn test_map_values_into_reuses_keys(rt: HostRuntime) {
     for fallible in [false, true] {
-        let map = owned(rt.alloc())?;
+        let map = owned(rt.alloc()).expect(&rt, "memory");
         let mut visited = 0u32;
         let mut transform = |key: &Key, value: Value| {
             visited = visited.wrapping_mul(10).wrapping_add(u32::from(key.0));
@@ -128,15 +129,14 @@ fn test_map_values_into_reuses_keys(rt: HostRuntime) -> Result<(), Fail> {
         };
         assert!(rt; visited == 123 && mapped.is_some_and(|mapped| are_sums(&mapped)));
     }
-    Ok(())
 }
 
 #[test]
-fn test_map_values_empty(rt: HostRuntime) -> Result<(), Fail> {
+fn test_map_values_empty(rt: HostRuntime) {
     let alloc = rt.alloc();
     let map: Map<u8, u8, Global> = Map::empty(alloc);
     let mut called = false;
-    let mapped = map.map_values(|_, _| called = true)?;
+    let mapped = map.map_values(|_, _| called = true).expect(&rt, "memory");
     assert!(rt; mapped.is_empty());
     let tried: Result<_, MapError<u8>> = map.try_map_values(|_, _| {
         called = true;
@@ -144,19 +144,23 @@ fn test_map_values_empty(rt: HostRuntime) -> Result<(), Fail> {
     });
     assert!(rt; tried.is_ok_and(|tried| tried.is_empty()));
     let again: Map<u8, u8, Global> = Map::empty(alloc);
-    assert!(rt; again.map_values_into(|_, _| called = true)?.is_empty());
+    assert!(rt;
+        again
+            .map_values_into(|_, _| called = true)
+            .expect(&rt, "memory")
+            .is_empty()
+    );
     let tried: Result<_, MapError<u8>> = map.try_map_values_into(|_, _| {
         called = true;
         Ok(0u32)
     });
     assert!(rt; tried.is_ok_and(|tried| tried.is_empty()) && !called);
-    Ok(())
 }
 
 #[test]
-fn test_try_map_values_error(rt: HostRuntime) -> Result<(), Fail> {
+fn test_try_map_values_error(rt: HostRuntime) {
     for (failed_key, expected) in [(1u8, 1u32), (2, 12), (3, 123)] {
-        let map = tens(rt.alloc())?;
+        let map = tens(rt.alloc()).expect(&rt, "memory");
         let mut visited = 0u32;
         let mut transform = |key: &u8| {
             visited = visited.wrapping_mul(10).wrapping_add(u32::from(*key));
@@ -180,7 +184,6 @@ fn test_try_map_values_error(rt: HostRuntime) -> Result<(), Fail> {
         let taken = map.try_map_values_into(|key, _| transform(key));
         assert!(rt; taken.err() == Some(MapError::Closure(failed_key)) && visited == expected);
     }
-    Ok(())
 }
 
 /// Each refusal, its message, and its text for a developer.
@@ -190,11 +193,10 @@ const REFUSALS: [(MapError<u8>, &str, &str); 2] = [
 ];
 
 #[test]
-fn refusals_of_value_maps_have_texts(rt: HostRuntime) -> Result<(), Fail> {
+fn refusals_of_value_maps_have_texts(rt: HostRuntime) {
     for (error, shown, debugged) in REFUSALS {
         assert!(rt;
-            is_shown_as(rt.alloc(), &error, shown)? && is_debugged_as(rt.alloc(), &error, debugged)?
+            is_shown_as(rt.alloc(), &error, shown) && is_debugged_as(rt.alloc(), &error, debugged)
         );
     }
-    Ok(())
 }

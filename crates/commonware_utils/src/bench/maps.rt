@@ -3,9 +3,8 @@ use super::sets::UNSORTED;
 use super::{are_equal, is_debugged_as, is_shown_as, is_written_as, read, read_lists, refuses};
 use crate::Participant;
 use crate::codec::{Error, RangeCfg, round_trip};
-use crate::ordered::{Map, Set, map_fault_law};
+use crate::ordered::{self, Map, Set, map_fault_law};
 use std::alloc::{AllocError, Global};
-use std::test::Fail;
 
 /// Keys, and their places and values in {1: 10, 5: 50, 9: 90}.
 const PLACES: [(u8, Option<usize>, Option<&u8>); 4] = [
@@ -38,8 +37,8 @@ const NO_MAPS: [(&[u8], Error); 5] = [
 ];
 
 /// The map of these pairs.
-fn map_of(alloc: Global, pairs: &[(u8, u8)]) -> Result<Map<u8, u8, Global>, Fail> {
-    Ok(Map::try_from_slice(alloc, pairs)?)
+fn map_of(alloc: Global, pairs: &[(u8, u8)]) -> Result<Map<u8, u8, Global>, ordered::Error> {
+    Map::try_from_slice(alloc, pairs)
 }
 
 /// Whether the map has these keys and values.
@@ -48,8 +47,8 @@ fn holds(map: &Map<u8, u8, Global>, keys: &[u8], values: &[u8]) -> bool {
 }
 
 #[test]
-fn keys_are_found(rt: HostRuntime) -> Result<(), Fail> {
-    let map = map_of(rt.alloc(), &[(9, 90), (1, 10), (5, 50)])?;
+fn keys_are_found(rt: HostRuntime) {
+    let map = map_of(rt.alloc(), &[(9, 90), (1, 10), (5, 50)]).expect(&rt, "memory");
     for (key, place, value) in PLACES {
         assert!(rt; map.position(&key) == place && map.get_value(&key) == value);
     }
@@ -59,7 +58,6 @@ fn keys_are_found(rt: HostRuntime) -> Result<(), Fail> {
             && map.value(2) == Some(&90)
             && map.value(3) == None
     );
-    Ok(())
 }
 
 /// The sum of the items.
@@ -72,110 +70,124 @@ fn sum(set: &Set<u8, Global>) -> u32 {
 }
 
 #[test]
-fn test_map_deref_to_set(rt: HostRuntime) -> Result<(), Fail> {
-    let map = map_of(rt.alloc(), &[(2, 20), (1, 10)])?;
+fn test_map_deref_to_set(rt: HostRuntime) {
+    let map = map_of(rt.alloc(), &[(2, 20), (1, 10)]).expect(&rt, "memory");
     let keys: &Set<u8, Global> = map.as_ref();
     assert!(rt; sum(&map) == 3 && keys.as_slice() == [1, 2].as_slice());
-    let walked: Vec<u8> = map.iter().rev().copied().collect(rt.alloc())?;
+    let walked: Vec<u8> = map
+        .iter()
+        .rev()
+        .copied()
+        .collect(rt.alloc())
+        .expect(&rt, "memory");
     assert!(rt; walked.as_slice() == [2, 1].as_slice());
-    Ok(())
 }
 
 #[test]
-fn test_map_into_keys(rt: HostRuntime) -> Result<(), Fail> {
-    let map = map_of(rt.alloc(), &[(3, 30), (1, 10), (2, 20)])?;
+fn test_map_into_keys(rt: HostRuntime) {
+    let map = map_of(rt.alloc(), &[(3, 30), (1, 10), (2, 20)]).expect(&rt, "memory");
     assert!(rt; map.into_keys().as_slice() == [1, 2, 3].as_slice());
-    Ok(())
 }
 
 #[test]
-fn test_map_allows_duplicate_values(rt: HostRuntime) -> Result<(), Fail> {
-    let map = map_of(rt.alloc(), &[(3, 7), (1, 7), (2, 8)])?;
+fn test_map_allows_duplicate_values(rt: HostRuntime) {
+    let map = map_of(rt.alloc(), &[(3, 7), (1, 7), (2, 8)]).expect(&rt, "memory");
     assert!(rt; map.len() == 3 && map.get_value(&1) == Some(&7) && map.get_value(&3) == Some(&7));
-    Ok(())
 }
 
 #[test]
-fn pairs_are_given_in_order(rt: HostRuntime) -> Result<(), Fail> {
-    let pairs = map_of(rt.alloc(), &[(3, 7), (1, 9), (2, 8)])?.into_pairs()?;
+fn pairs_are_given_in_order(rt: HostRuntime) {
+    let pairs = map_of(rt.alloc(), &[(3, 7), (1, 9), (2, 8)])
+        .expect(&rt, "memory")
+        .into_pairs()
+        .expect(&rt, "memory");
     assert!(rt; pairs.as_slice() == [(1, 9), (2, 8), (3, 7)].as_slice());
-    Ok(())
 }
 
 #[test]
-fn pairs_past_a_length_go(rt: HostRuntime) -> Result<(), Fail> {
-    let mut map = map_of(rt.alloc(), &[(1, 10), (2, 20)])?;
+fn pairs_past_a_length_go(rt: HostRuntime) {
+    let mut map = map_of(rt.alloc(), &[(1, 10), (2, 20)]).expect(&rt, "memory");
     for len in [1, 9] {
         map.truncate(len);
         assert!(rt; holds(&map, &[1], &[10]));
     }
-    Ok(())
 }
 
 #[test]
-fn the_value_of_a_key_is_written(rt: HostRuntime) -> Result<(), Fail> {
-    let mut map = map_of(rt.alloc(), &[(1, 10), (2, 20)])?;
+fn the_value_of_a_key_is_written(rt: HostRuntime) {
+    let mut map = map_of(rt.alloc(), &[(1, 10), (2, 20)]).expect(&rt, "memory");
     if let Some(value) = map.get_value_mut(&2) {
         *value = 7;
     }
     assert!(rt; map.get_value_mut(&3) == None && holds(&map, &[1, 2], &[10, 7]));
-    Ok(())
 }
 
 #[test]
-fn test_values_mut(rt: HostRuntime) -> Result<(), Fail> {
-    let mut map = map_of(rt.alloc(), &[(1, 10), (2, 20)])?;
+fn test_values_mut(rt: HostRuntime) {
+    let mut map = map_of(rt.alloc(), &[(1, 10), (2, 20)]).expect(&rt, "memory");
     for value in map.values_mut() {
         *value = value.saturating_add(1);
     }
     assert!(rt; map.values() == [11, 21].as_slice());
-    Ok(())
 }
 
 #[test]
-fn maps_are_shown(rt: HostRuntime) -> Result<(), Fail> {
+fn maps_are_shown(rt: HostRuntime) {
     let alloc = rt.alloc();
     for (pairs, text) in [
         ([(2, 20), (1, 10)].as_slice(), "[(1, 10), (2, 20)]"),
         (&[], "[]"),
     ] {
-        assert!(rt; is_shown_as(alloc, &map_of(alloc, pairs)?, text)?);
+        assert!(rt; is_shown_as(alloc, &map_of(alloc, pairs).expect(&rt, "memory"), text));
     }
-    assert!(rt; is_debugged_as(alloc, &map_of(alloc, &[(1, 10)])?, "Map([(1, 10)])")?);
-    Ok(())
+    assert!(rt;
+        is_debugged_as(
+            alloc,
+            &map_of(alloc, &[(1, 10)]).expect(&rt, "memory"),
+            "Map([(1, 10)])"
+        )
+    );
 }
 
 #[test]
-fn equal_maps_hash_alike(rt: HostRuntime) -> Result<(), Fail> {
-    let map = map_of(rt.alloc(), &[(2, 20), (1, 10)])?;
-    assert!(rt; are_equal(&map, &map.clone()?, true));
+fn equal_maps_hash_alike(rt: HostRuntime) {
+    let map = map_of(rt.alloc(), &[(2, 20), (1, 10)]).expect(&rt, "memory");
+    assert!(rt; are_equal(&map, &map.clone().expect(&rt, "memory"), true));
     for other in [[(1, 10), (2, 21)], [(1, 10), (3, 20)]] {
-        assert!(rt; are_equal(&map, &map_of(rt.alloc(), &other)?, false));
+        assert!(rt;
+            are_equal(
+                &map,
+                &map_of(rt.alloc(), &other).expect(&rt, "memory"),
+                false
+            )
+        );
     }
-    Ok(())
 }
 
 #[test]
-fn maps_are_written_as_two_lists(rt: HostRuntime) -> Result<(), Fail> {
+fn maps_are_written_as_two_lists(rt: HostRuntime) {
     let alloc = rt.alloc();
     map_fault_law::<u8, u8, _>(alloc, RangeCfg::from(..), &(), &());
     for (pairs, bytes) in BYTES {
-        assert!(rt; is_written_as(alloc, &map_of(alloc, pairs)?, bytes)?);
+        assert!(rt; is_written_as(alloc, &map_of(alloc, pairs).expect(&rt, "memory"), bytes));
     }
-    Ok(())
 }
 
 #[test]
-fn values_may_be_sets(rt: HostRuntime) -> Result<(), Fail> {
+fn values_may_be_sets(rt: HostRuntime) {
     let alloc = rt.alloc();
-    let seven = Set::try_from_array(alloc, [7u8])?;
-    let sets = Map::from_iter_dedup(alloc, [(2u8, seven), (1, Set::empty(alloc))])?;
-    assert!(rt; is_written_as(alloc, &sets, b"\x02\x01\x02\x02\x00\x01\x07")?);
-    Ok(())
+    let seven = Set::try_from_array(alloc, [7u8]).expect(&rt, "memory");
+    let sets = Map::from_iter_dedup(alloc, [(2u8, seven), (1, Set::empty(alloc))]).expect(
+        &rt, "memory",
+    );
+    assert!(rt; is_written_as(alloc, &sets, b"\x02\x01\x02\x02\x00\x01\x07"));
 }
 
 /// The list of the maps of these pairs.
-fn maps_of(alloc: Global, lists: &[&[(u8, u8)]]) -> Result<Vec<Map<u8, u8, Global>>, Fail> {
+fn maps_of(
+    alloc: Global,
+    lists: &[&[(u8, u8)]],
+) -> Result<Vec<Map<u8, u8, Global>>, ordered::Error> {
     let mut maps = Vec::new(alloc);
     for pairs in lists {
         maps.push(map_of(alloc, pairs)?)?;
@@ -184,10 +196,9 @@ fn maps_of(alloc: Global, lists: &[&[(u8, u8)]]) -> Result<Vec<Map<u8, u8, Globa
 }
 
 #[test]
-fn maps_stand_in_lists(rt: HostRuntime) -> Result<(), Fail> {
-    let maps = maps_of(rt.alloc(), &[&[], &[(5, 6)]])?;
-    assert!(rt; is_written_as(rt.alloc(), &maps, b"\x02\x00\x00\x01\x05\x01\x06")?);
-    Ok(())
+fn maps_stand_in_lists(rt: HostRuntime) {
+    let maps = maps_of(rt.alloc(), &[&[], &[(5, 6)]]).expect(&rt, "memory");
+    assert!(rt; is_written_as(rt.alloc(), &maps, b"\x02\x00\x00\x01\x05\x01\x06"));
 }
 
 #[test]
@@ -203,27 +214,36 @@ fn decoded(alloc: Global, keys: &[u8]) -> Result<Result<Map<u8, u8, Global>, Err
 }
 
 #[test]
-fn test_map_decode_rejects_duplicate_keys(rt: HostRuntime) -> Result<(), Fail> {
-    assert!(rt; decoded(rt.alloc(), &[1, 2, 2, 3])?.err() == Some(UNSORTED));
-    Ok(())
+fn test_map_decode_rejects_duplicate_keys(rt: HostRuntime) {
+    assert!(rt;
+        decoded(rt.alloc(), &[1, 2, 2, 3])
+            .expect(&rt, "memory")
+            .err()
+            == Some(UNSORTED)
+    );
 }
 
 #[test]
-fn test_map_decode_rejects_unsorted_keys(rt: HostRuntime) -> Result<(), Fail> {
-    assert!(rt; decoded(rt.alloc(), &[1, 3, 2, 4])?.err() == Some(UNSORTED));
-    Ok(())
+fn test_map_decode_rejects_unsorted_keys(rt: HostRuntime) {
+    assert!(rt;
+        decoded(rt.alloc(), &[1, 3, 2, 4])
+            .expect(&rt, "memory")
+            .err()
+            == Some(UNSORTED)
+    );
 }
 
 #[test]
-fn test_map_decode_accepts_valid(rt: HostRuntime) -> Result<(), Fail> {
-    let map = decoded(rt.alloc(), &[1, 2, 3, 4])??;
+fn test_map_decode_accepts_valid(rt: HostRuntime) {
+    let map = decoded(rt.alloc(), &[1, 2, 3, 4])
+        .expect(&rt, "memory")
+        .expect(&rt, "a value");
     assert!(rt; holds(&map, &[1, 2, 3, 4], &[10, 20, 30, 40]));
-    Ok(())
 }
 
 /// Texts that repeat or turn round keys, and one that is whole before a byte more.
 #[test]
-fn the_keys_of_a_text_are_in_order(rt: HostRuntime) -> Result<(), Fail> {
+fn the_keys_of_a_text_are_in_order(rt: HostRuntime) {
     let short = (RangeCfg::from(0..=10), (), ());
     let rows = [
         (
@@ -235,20 +255,24 @@ fn the_keys_of_a_text_are_in_order(rt: HostRuntime) -> Result<(), Fail> {
     assert!(rt; refuses::<Map<u8, u8, _>, _>(rt.alloc(), &short, &rows));
     let whole = b"\x04\x01\x02\x03\x04\x04\x0a\x14\x1e\x28\xff";
     let (map, taken) = read::<Map<u8, u8, _>, _>(rt.alloc(), whole, &short);
-    assert!(rt; holds(&map?, &[1, 2, 3, 4], &[10, 20, 30, 40]) && taken == 10);
-    Ok(())
+    assert!(rt;
+        holds(
+            &map.expect(&rt, "a value"),
+            &[1, 2, 3, 4],
+            &[10, 20, 30, 40]
+        ) && taken == 10
+    );
 }
 
 #[test]
-fn what_is_written_is_read(rt: HostRuntime) -> Result<(), Fail> {
+fn what_is_written_is_read(rt: HostRuntime) {
     let alloc = rt.alloc();
     let any = (RangeCfg::from(..), (), ());
     let bytes = b"\x03\x01\x02\x09\x03\x0a\x14\x14";
     let (map, taken) = read::<Map<u8, u8, _>, _>(alloc, bytes, &any);
-    let map = map?;
-    let (again, left) = round_trip(alloc, &map, b"\xff", &any)?;
+    let map = map.expect(&rt, "a value");
+    let (again, left) = round_trip(alloc, &map, b"\xff", &any).expect(&rt, "memory");
     assert!(rt; again == map && left == 1 && taken == 8);
-    Ok(())
 }
 
 #[test]

@@ -8,7 +8,6 @@ use std::alloc::Global;
 use std::cmp::Ordering;
 use std::collections::VecDeque;
 use std::num::NonZeroUsize;
-use std::test::Fail;
 
 pub(super) const EMPTY: CodecError = CodecError::Invalid(
     "NonEmptyVec",
@@ -89,18 +88,17 @@ fn queues_are_compared_with_their_capacity(rt: HostRuntime) {
 }
 
 #[test]
-fn queues_are_cloned_and_shown(rt: HostRuntime) -> Result<(), Fail> {
+fn queues_are_cloned_and_shown(rt: HostRuntime) {
     let queue = queue_of(rt.alloc(), NZUsize!(3), &[1, 2]);
-    let clone = queue.clone()?;
+    let clone = queue.clone().expect(&rt, "memory");
     let text = "Bounded { deque: [1, 2], capacity: 3 }";
-    assert!(rt; are_equal(&queue, &clone, true) && is_debugged_as(rt.alloc(), &queue, text)?);
+    assert!(rt; are_equal(&queue, &clone, true) && is_debugged_as(rt.alloc(), &queue, text));
     let items: VecDeque<u8, Global> = clone.into();
     assert!(rt; holds(&items, &[1, 2]));
-    Ok(())
 }
 
 /// Whether each form answers these items.
-fn forms_answer(alloc: Global, items: &[u8]) -> Result<bool, Fail> {
+fn forms_answer(alloc: Global, items: &[u8]) -> Result<bool, Error> {
     let n = NZUsize!(3);
     let whole = non_empty_vec!(@vec![in alloc; 4u8, 4, 4]?);
     Ok(
@@ -112,21 +110,19 @@ fn forms_answer(alloc: Global, items: &[u8]) -> Result<bool, Fail> {
 }
 
 #[test]
-fn each_form_of_the_macro_answers_the_list(rt: HostRuntime) -> Result<(), Fail> {
-    assert!(rt; forms_answer(rt.alloc(), &[4, 4, 4])?);
-    Ok(())
+fn each_form_of_the_macro_answers_the_list(rt: HostRuntime) {
+    assert!(rt; forms_answer(rt.alloc(), &[4, 4, 4]).expect(&rt, "memory"));
 }
 
 #[test]
-fn items_come_in_anywhere(rt: HostRuntime) -> Result<(), Fail> {
-    let mut v = non_empty_vec!(rt.alloc() => 1u8, 2, 3,)?;
+fn items_come_in_anywhere(rt: HostRuntime) {
+    let mut v = non_empty_vec!(rt.alloc() => 1u8, 2, 3,).expect(&rt, "memory");
     assert!(rt;
         v.insert(3, 9) == Ok(())
             && v.as_slice() == [1, 2, 3, 9].as_slice()
             && v.insert(0, 8) == Ok(())
             && v.as_slice() == [8, 1, 2, 3, 9].as_slice()
     );
-    Ok(())
 }
 
 /// A value that can be cloned and no more.
@@ -134,27 +130,28 @@ fn items_come_in_anywhere(rt: HostRuntime) -> Result<(), Fail> {
 struct Token(u8);
 
 #[test]
-fn items_need_no_more_than_clones(rt: HostRuntime) -> Result<(), Fail> {
+fn items_need_no_more_than_clones(rt: HostRuntime) {
     let alloc = rt.alloc();
-    let mut tokens = NonEmptyVec::try_from_array(alloc, [Token(1), Token(2)])?;
-    tokens.resize(NZUsize!(4), Token(7))?;
-    let numbers = tokens.map(|token| token.0)?;
+    let mut tokens = NonEmptyVec::try_from_array(alloc, [Token(1), Token(2)]).expect(&rt, "memory");
+    tokens.resize(NZUsize!(4), Token(7)).expect(&rt, "memory");
+    let numbers = tokens.map(|token| token.0).expect(&rt, "memory");
     assert!(rt; numbers.as_slice() == [1, 2, 7, 7].as_slice());
-    let mut clone = tokens.clone()?;
+    let mut clone = tokens.clone().expect(&rt, "memory");
     assert!(rt; clone.pop().is_some_and(|token| token.0 == 7) && clone.len().get() == 3);
-    Ok(())
 }
 
 #[test]
-fn lists_are_ordered_item_by_item(rt: HostRuntime) -> Result<(), Fail> {
+fn lists_are_ordered_item_by_item(rt: HostRuntime) {
     for (items, others, order) in ORDERS {
-        let list = list_of(rt.alloc(), items)?;
-        let other = list_of(rt.alloc(), others)?;
+        let list = list_of(rt.alloc(), items).expect(&rt, "memory");
+        let other = list_of(rt.alloc(), others).expect(&rt, "memory");
         assert!(rt; are_ordered(&list, &other, order));
     }
-    let two = list_of(rt.alloc(), &[1, 2])?;
-    assert!(rt; two == two.clone()? && is_debugged_as(rt.alloc(), &two, "NonEmptyVec([1, 2])")?);
-    Ok(())
+    let two = list_of(rt.alloc(), &[1, 2]).expect(&rt, "memory");
+    assert!(rt;
+        two == two.clone().expect(&rt, "memory")
+            && is_debugged_as(rt.alloc(), &two, "NonEmptyVec([1, 2])")
+    );
 }
 
 #[test]
@@ -169,40 +166,45 @@ fn nothing_is_refused(rt: HostRuntime) {
 }
 
 #[test]
-fn refusals_have_messages(rt: HostRuntime) -> Result<(), Fail> {
+fn refusals_have_messages(rt: HostRuntime) {
     for (error, message) in MESSAGES {
-        assert!(rt; is_shown_as(rt.alloc(), &error, message)?);
+        assert!(rt; is_shown_as(rt.alloc(), &error, message));
     }
-    Ok(())
 }
 
 #[test]
-fn lists_are_written_as_lists(rt: HostRuntime) -> Result<(), Fail> {
+fn lists_are_written_as_lists(rt: HostRuntime) {
     let alloc = rt.alloc();
     non_empty_fault_law::<u8, _>(alloc, RangeCfg::from(..), &());
-    let list = list_of(alloc, &[1, 2, 3])?;
-    assert!(rt; is_written_as(alloc, &list, b"\x03\x01\x02\x03")?);
-    Ok(())
+    let list = list_of(alloc, &[1, 2, 3]).expect(&rt, "memory");
+    assert!(rt; is_written_as(alloc, &list, b"\x03\x01\x02\x03"));
 }
 
 #[test]
-fn lists_are_items(rt: HostRuntime) -> Result<(), Fail> {
+fn lists_are_items(rt: HostRuntime) {
     let alloc = rt.alloc();
     let mut lists = Vec::new(alloc);
     for items in [[1, 1].as_slice(), &[1]] {
-        lists.push(list_of(alloc, items)?)?;
+        lists
+            .push(list_of(alloc, items).expect(&rt, "memory"))
+            .expect(&rt, "memory");
     }
-    let set = Set::from_iter_dedup(alloc, lists)?;
-    assert!(rt; is_written_as(alloc, &set, b"\x02\x01\x01\x02\x01\x01")?);
-    Ok(())
+    let set = Set::from_iter_dedup(alloc, lists).expect(&rt, "memory");
+    assert!(rt; is_written_as(alloc, &set, b"\x02\x01\x01\x02\x01\x01"));
 }
 
 #[test]
-fn lists_are_keys_and_values(rt: HostRuntime) -> Result<(), Fail> {
+fn lists_are_keys_and_values(rt: HostRuntime) {
     let alloc = rt.alloc();
-    let map = Map::from_iter_dedup(alloc, [(list_of(alloc, &[7])?, list_of(alloc, &[8, 9])?)])?;
-    assert!(rt; is_written_as(alloc, &map, b"\x01\x01\x07\x01\x02\x08\x09")?);
-    Ok(())
+    let map = Map::from_iter_dedup(
+        alloc,
+        [(
+            list_of(alloc, &[7]).expect(&rt, "memory"),
+            list_of(alloc, &[8, 9]).expect(&rt, "memory"),
+        )],
+    )
+    .expect(&rt, "memory");
+    assert!(rt; is_written_as(alloc, &map, b"\x01\x01\x07\x01\x02\x08\x09"));
 }
 
 #[test]
@@ -216,24 +218,22 @@ fn empty_lists_are_refused_by_their_range_first(rt: HostRuntime) {
 }
 
 #[test]
-fn what_is_written_is_read(rt: HostRuntime) -> Result<(), Fail> {
+fn what_is_written_is_read(rt: HostRuntime) {
     let alloc = rt.alloc();
     let cfg = (RangeCfg::from(NZUsize!(1)..=NZUsize!(10)), ());
     let (v, taken) = read::<NonEmptyVec<u8, _>, _>(alloc, b"\x03\x01\x02\x03\xff", &cfg);
-    let v = v?;
+    let v = v.expect(&rt, "a value");
     assert!(rt; v.as_slice() == [1, 2, 3].as_slice() && taken == 4);
-    let (again, left) = round_trip(alloc, &v, b"\xff\xff", &cfg)?;
+    let (again, left) = round_trip(alloc, &v, b"\xff\xff", &cfg).expect(&rt, "memory");
     assert!(rt; again == v && left == 2);
-    Ok(())
 }
 
 #[test]
-fn what_stands_inside_is_changed(rt: HostRuntime) -> Result<(), Fail> {
-    let mut v = non_empty_vec!(rt.alloc() => 3u8, 1, 2, 1)?;
+fn what_stands_inside_is_changed(rt: HostRuntime) {
+    let mut v = non_empty_vec!(rt.alloc() => 3u8, 1, 2, 1).expect(&rt, "memory");
     let left = v.mutate(|items| {
         items.truncate(2);
         items.len()
     });
     assert!(rt; left == 2 && v.as_slice() == [3, 1].as_slice());
-    Ok(())
 }

@@ -15,7 +15,6 @@ use crate::ordered::{self, BiMap, Map, Set};
 use crate::vec::NonEmptyVec;
 use crate::{EqClone, TryFromIterator, non_empty_vec};
 use std::alloc::{AllocError, Allocator};
-use std::test::Fail;
 
 /// The one value of its type.
 #[derive(Clone, Copy, Debug, PartialEq, Eq, PartialOrd, Ord, Hash)]
@@ -94,91 +93,85 @@ impl Canonical for Nothing {
 }
 
 #[test]
-fn nothing_takes_no_bytes(rt: HostRuntime) -> Result<(), Fail> {
+fn nothing_takes_no_bytes(rt: HostRuntime) {
     let alloc = rt.alloc();
     for bytes in [b"".as_slice(), b"\x80"] {
         assert!(rt; read::<Nothing, _>(alloc, bytes, &()) == (Ok(Nothing), 0));
     }
-    assert!(rt; is_written_as(alloc, &Nothing, b"")? && Nothing::MAX_ENCODE_SIZE == 0);
-    let (again, left) = round_trip(alloc, &Nothing, b"\x01\x02", &())?;
+    assert!(rt; is_written_as(alloc, &Nothing, b"") && Nothing::MAX_ENCODE_SIZE == 0);
+    let (again, left) = round_trip(alloc, &Nothing, b"\x01\x02", &()).expect(&rt, "memory");
     assert!(rt; again == Nothing && left == 2);
-    Ok(())
 }
 
 #[test]
-fn a_set_has_nothing_once(rt: HostRuntime) -> Result<(), Fail> {
+fn a_set_has_nothing_once(rt: HostRuntime) {
     let alloc = rt.alloc();
     let any = (RangeCfg::from(..), ());
     let two = [Nothing, Nothing];
-    let set = Set::from_iter_dedup(alloc, two)?;
+    let set = Set::from_iter_dedup(alloc, two).expect(&rt, "memory");
     let refused = Set::try_from_iter(alloc, two);
     assert!(rt;
         set.as_slice() == [Nothing].as_slice()
-            && is_written_as(alloc, &set, b"\x01")?
+            && is_written_as(alloc, &set, b"\x01")
             && refused.err() == Some(ordered::Error::DuplicateKey)
             && read::<Set<Nothing, _>, _>(alloc, b"\x01\x02", &any) == (Ok(set), 1)
             && refuses::<Set<Nothing, _>, _>(alloc, &any, &[(b"\x02", UNSORTED)])
     );
-    Ok(())
 }
 
 #[test]
-fn a_list_has_nothing_as_often_as_it_says(rt: HostRuntime) -> Result<(), Fail> {
+fn a_list_has_nothing_as_often_as_it_says(rt: HostRuntime) {
     let alloc = rt.alloc();
     let few = (RangeCfg::from(..=3), ());
-    let three = vec![in alloc; Nothing, Nothing, Nothing]?;
+    let three = vec![in alloc; Nothing, Nothing, Nothing].expect(&rt, "memory");
     let rows = [
         (b"\x04".as_slice(), Error::InvalidLength(4)),
         (b"\xff\xff\xff\xff\x0f", Error::InvalidLength(4294967295)),
     ];
     assert!(rt;
-        is_written_as(alloc, &three, b"\x03")?
+        is_written_as(alloc, &three, b"\x03")
             && read::<Vec<Nothing>, _>(alloc, b"\x03\xff", &few) == (Ok(three), 1)
             && refuses::<Vec<Nothing>, _>(alloc, &few, &rows)
     );
-    Ok(())
 }
 
 #[test]
-fn a_list_of_nothing_is_not_empty(rt: HostRuntime) -> Result<(), Fail> {
+fn a_list_of_nothing_is_not_empty(rt: HostRuntime) {
     let alloc = rt.alloc();
     let any = (RangeCfg::from(..), ());
-    let two = non_empty_vec!(alloc => Nothing, Nothing)?;
+    let two = non_empty_vec!(alloc => Nothing, Nothing).expect(&rt, "memory");
     assert!(rt;
-        is_written_as(alloc, &two, b"\x02")?
+        is_written_as(alloc, &two, b"\x02")
             && read::<NonEmptyVec<Nothing, _>, _>(alloc, b"\x02", &any) == (Ok(two), 1)
             && refuses::<NonEmptyVec<Nothing, _>, _>(alloc, &any, &[(b"\x00", EMPTY)])
     );
-    Ok(())
 }
 
 #[test]
-fn two_keys_have_nothing_in_a_map_alone(rt: HostRuntime) -> Result<(), Fail> {
+fn two_keys_have_nothing_in_a_map_alone(rt: HostRuntime) {
     let alloc = rt.alloc();
     let any = (RangeCfg::from(..), (), ());
     let bytes = b"\x02\x01\x02\x02".as_slice();
-    let map = Map::try_from_iter(alloc, [(2u8, Nothing), (1, Nothing)])?;
+    let map = Map::try_from_iter(alloc, [(2u8, Nothing), (1, Nothing)]).expect(&rt, "memory");
     assert!(rt;
-        is_written_as(alloc, &map, bytes)?
-            && comes_back(alloc, &map, &any)?
+        is_written_as(alloc, &map, bytes)
+            && comes_back(alloc, &map, &any)
             && refuses::<BiMap<u8, Nothing, _>, _>(alloc, &any, &[(bytes, REPEATED)])
             && BiMap::try_from_map(map).err() == Some(ordered::Error::DuplicateValue)
     );
-    Ok(())
 }
 
 #[test]
-fn nothing_is_a_key_and_a_value(rt: HostRuntime) -> Result<(), Fail> {
+fn nothing_is_a_key_and_a_value(rt: HostRuntime) {
     let alloc = rt.alloc();
     let any = (RangeCfg::from(..), (), ());
-    let pair = BiMap::try_from_iter(alloc, [(Nothing, Nothing)])?;
+    let pair = BiMap::try_from_iter(alloc, [(Nothing, Nothing)]).expect(&rt, "memory");
     let repeated = BiMap::try_from_iter(alloc, [(Nothing, Nothing), (Nothing, Nothing)]);
     assert!(rt;
         pair.get_value(&Nothing) == Some(&Nothing)
             && pair.get_key(&Nothing) == Some(&Nothing)
-            && is_written_as(alloc, &pair, b"\x01\x01")?
-            && comes_back(alloc, &pair, &any)?
+            && is_written_as(alloc, &pair, b"\x01\x01")
+            && comes_back(alloc, &pair, &any)
             && repeated.err() == Some(ordered::Error::DuplicateKey)
     );
-    Ok(())
 }

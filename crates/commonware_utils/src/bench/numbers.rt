@@ -1,7 +1,6 @@
 //! Bytes, words, varints and numbers in a range.
 use super::{is_shown_as, is_written_as, read, refuses};
 use crate::codec::{EncodeSize, Error, MaxEncodeSize, RangeCfg, UInt, varint_law};
-use std::test::Fail;
 
 /// Numbers and the bytes that spell them.
 const VARINTS: [(u32, &[u8]); 16] = [
@@ -45,17 +44,16 @@ const MESSAGES: [(Error, &str); 5] = [
 ];
 
 #[test]
-fn varints_are_written_and_read(rt: HostRuntime) -> Result<(), Fail> {
+fn varints_are_written_and_read(rt: HostRuntime) {
     let alloc = rt.alloc();
     varint_law();
     for (number, bytes) in VARINTS {
         assert!(rt;
-            is_written_as(alloc, &UInt(number), bytes)?
+            is_written_as(alloc, &UInt(number), bytes)
                 && read::<UInt, _>(alloc, bytes, &()) == (Ok(UInt(number)), bytes.len())
         );
     }
     assert!(rt; read::<UInt, _>(alloc, b"\x00\x07", &()) == (Ok(UInt(0)), 1));
-    Ok(())
 }
 
 #[test]
@@ -64,11 +62,11 @@ fn other_spellings_are_refused(rt: HostRuntime) {
 }
 
 #[test]
-fn words_and_bytes_have_a_fixed_length(rt: HostRuntime) -> Result<(), Fail> {
+fn words_and_bytes_have_a_fixed_length(rt: HostRuntime) {
     let alloc = rt.alloc();
     assert!(rt;
-        is_written_as(alloc, &258u32, b"\x00\x00\x01\x02")?
-            && is_written_as(alloc, &7u8, b"\x07")?
+        is_written_as(alloc, &258u32, b"\x00\x00\x01\x02")
+            && is_written_as(alloc, &7u8, b"\x07")
             && read::<u32, _>(alloc, b"\x00\x00\x01\x02", &()) == (Ok(258), 4)
             && read::<u8, _>(alloc, b"\x07", &()) == (Ok(7), 1)
             && refuses::<u32, _>(alloc, &(), &[(b"\x00\x00\x01", Error::EndOfBuffer)])
@@ -79,27 +77,24 @@ fn words_and_bytes_have_a_fixed_length(rt: HostRuntime) -> Result<(), Fail> {
                 UInt::MAX_ENCODE_SIZE
             ) == (1, 4, 5)
     );
-    Ok(())
 }
 
 #[test]
-fn numbers_stay_in_their_range(rt: HostRuntime) -> Result<(), Fail> {
+fn numbers_stay_in_their_range(rt: HostRuntime) {
     let alloc = rt.alloc();
     let up_to_ten = RangeCfg::from(..=10);
     assert!(rt;
-        is_written_as(alloc, &300usize, b"\xac\x02")?
+        is_written_as(alloc, &300usize, b"\xac\x02")
             && read::<usize, _>(alloc, b"\x0a", &up_to_ten) == (Ok(10), 1)
             && refuses::<usize, _>(alloc, &up_to_ten, &[(b"\x0b", Error::InvalidLength(11))])
             && 4294967295usize.is_writable()
             && !4294967296usize.is_writable()
     );
-    Ok(())
 }
 
 #[test]
-fn errors_say_what_is_wrong(rt: HostRuntime) -> Result<(), Fail> {
+fn errors_say_what_is_wrong(rt: HostRuntime) {
     for (error, text) in MESSAGES {
-        assert!(rt; is_shown_as(rt.alloc(), &error, text)?);
+        assert!(rt; is_shown_as(rt.alloc(), &error, text));
     }
-    Ok(())
 }

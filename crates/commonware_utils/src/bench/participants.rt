@@ -2,7 +2,6 @@
 use super::{is_debugged_as, is_shown_as, is_written_as, read};
 use crate::Participant;
 use crate::codec::MaxEncodeSize;
-use std::test::Fail;
 
 /// Indices and their texts.
 const TEXTS: [(u32, &str); 4] = [
@@ -36,12 +35,11 @@ fn test_participant_constructors(rt: HostRuntime) {
 }
 
 #[test]
-fn test_participant_display(rt: HostRuntime) -> Result<(), Fail> {
+fn test_participant_display(rt: HostRuntime) {
     for (index, text) in TEXTS {
-        assert!(rt; is_shown_as(rt.alloc(), &Participant::new(index), text)?);
+        assert!(rt; is_shown_as(rt.alloc(), &Participant::new(index), text));
     }
-    assert!(rt; is_debugged_as(rt.alloc(), &Participant::new(5), "Participant(5)")?);
-    Ok(())
+    assert!(rt; is_debugged_as(rt.alloc(), &Participant::new(5), "Participant(5)"));
 }
 
 #[test]
@@ -55,14 +53,13 @@ fn test_participant_ordering(rt: HostRuntime) {
 }
 
 #[test]
-fn test_participant_encode_decode(rt: HostRuntime) -> Result<(), Fail> {
+fn test_participant_encode_decode(rt: HostRuntime) {
     for (index, bytes) in BYTES {
         let participant = Participant::new(index);
         assert!(rt;
-            is_written_as(rt.alloc(), &participant, bytes)?
+            is_written_as(rt.alloc(), &participant, bytes)
                 && read::<Participant, _>(rt.alloc(), bytes, &()) == (Ok(participant), bytes.len())
         );
     }
     assert!(rt; Participant::MAX_ENCODE_SIZE == 5);
-    Ok(())
 }

@@ -1,11 +1,10 @@
 //! Sets as committees: the indices of members, and the numbers of the fault models.
 use crate::ordered::{Quorum, Set};
 use crate::{N3f1, N5f1, Participant};
-use std::test::Fail;
 
 #[test]
-fn members_have_indices(rt: HostRuntime) -> Result<(), Fail> {
-    let committee = Set::from_iter_dedup(rt.alloc(), [9u32, 3, 5, 1])?;
+fn members_have_indices(rt: HostRuntime) {
+    let committee = Set::from_iter_dedup(rt.alloc(), [9u32, 3, 5, 1]).expect(&rt, "memory");
     assert!(rt;
         committee.key(Participant::new(0)) == Some(&1)
             && committee.key(Participant::new(2)) == Some(&5)
@@ -21,7 +20,6 @@ fn members_have_indices(rt: HostRuntime) -> Result<(), Fail> {
         );
     }
     assert!(rt; committee.len() == 4);
-    Ok(())
 }
 
 #[test]
@@ -31,14 +29,14 @@ fn an_empty_set_has_no_indices(rt: HostRuntime) {
 }
 
 #[test]
-fn a_set_has_the_numbers_of_its_length(rt: HostRuntime) -> Result<(), Fail> {
+fn a_set_has_the_numbers_of_its_length(rt: HostRuntime) {
     for (last, thirds, fifths) in [
         (0u32, (0, 1), (0, 1)),
         (3, (1, 3), (0, 4)),
         (5, (1, 5), (1, 5)),
         (20, (6, 15), (4, 17)),
     ] {
-        let committee = Set::from_iter_dedup(rt.alloc(), 0..=last)?;
+        let committee = Set::from_iter_dedup(rt.alloc(), 0..=last).expect(&rt, "memory");
         let is_committee = 0 < committee.len() && committee.len() <= 21;
         assert!(rt; is_committee);
         if is_committee {
@@ -48,5 +46,4 @@ fn a_set_has_the_numbers_of_its_length(rt: HostRuntime) -> Result<(), Fail> {
             );
         }
     }
-    Ok(())
 }

@@ -5,7 +5,6 @@ use super::is_shown_as;
 use crate::ordered::{Error, Set};
 use crate::{TryCollect, TryFromIterator};
 use std::alloc::{Allocator, Global};
-use std::test::Fail;
 
 /// A list with a repeat, a repeat before more items, equal neighbours alone, one item, and a list
 /// without a repeat.
@@ -35,10 +34,10 @@ fn answers(answer: &Result<Set<u8, Global>, Error>, items: Option<&[u8]>) -> boo
 }
 
 #[test]
-fn repeats_are_refused_by_each_builder(rt: HostRuntime) -> Result<(), Fail> {
+fn repeats_are_refused_by_each_builder(rt: HostRuntime) {
     let alloc = rt.alloc();
     for (list, items) in LISTS {
-        let whole = Vec::from_slice(alloc, list)?;
+        let whole = Vec::from_slice(alloc, list).expect(&rt, "memory");
         assert!(rt;
             answers(&Set::try_from_vec(whole), items)
                 && answers(&Set::try_from_iter(alloc, list.iter().copied()), items)
@@ -46,7 +45,6 @@ fn repeats_are_refused_by_each_builder(rt: HostRuntime) -> Result<(), Fail> {
                 && answers(&TryCollect::try_collect(list.iter().copied(), alloc), items)
         );
     }
-    Ok(())
 }
 
 /// Whether an array, and a reference to it, are answered with the set of these items.
@@ -65,36 +63,39 @@ fn arrays_are_cloned_into_sets(rt: HostRuntime) {
 }
 
 #[test]
-fn sets_of_sets_are_built(rt: HostRuntime) -> Result<(), Fail> {
+fn sets_of_sets_are_built(rt: HostRuntime) {
     let alloc = rt.alloc();
     let mut sets = Vec::new(alloc);
     for items in [[2u8, 1].as_slice(), &[1]] {
-        sets.push(Set::try_from_slice(alloc, items)?)?;
+        sets.push(Set::try_from_slice(alloc, items).expect(&rt, "memory"))
+            .expect(&rt, "memory");
     }
-    let nest = Set::try_from_slice(alloc, sets.as_slice())?;
+    let nest = Set::try_from_slice(alloc, sets.as_slice()).expect(&rt, "memory");
     assert!(rt;
         nest.len() == 2
             && nest[0].as_slice() == [1].as_slice()
             && nest[1].as_slice() == [1, 2].as_slice()
     );
-    sets.push(Set::try_from_slice(alloc, &[1, 2])?)?;
+    sets.push(Set::try_from_slice(alloc, &[1, 2]).expect(&rt, "memory"))
+        .expect(&rt, "memory");
     assert!(rt; Set::try_from_iter(alloc, sets).err() == Some(Error::DuplicateKey));
-    Ok(())
 }
 
 #[test]
-fn test_set_from_iter_dedup(rt: HostRuntime) -> Result<(), Fail> {
-    let set = Set::from_iter_dedup(rt.alloc(), [3u8, 1, 2, 2])?;
-    let items: Vec<u8> = set.iter().copied().collect(rt.alloc())?;
+fn test_set_from_iter_dedup(rt: HostRuntime) {
+    let set = Set::from_iter_dedup(rt.alloc(), [3u8, 1, 2, 2]).expect(&rt, "memory");
+    let items: Vec<u8> = set
+        .iter()
+        .copied()
+        .collect(rt.alloc())
+        .expect(&rt, "memory");
     assert!(rt; items.as_slice() == [1, 2, 3].as_slice());
-    Ok(())
 }
 
 #[test]
-fn test_set_try_from_duplicate(rt: HostRuntime) -> Result<(), Fail> {
-    let items = vec![in rt.alloc(); 3u8, 1, 2, 2]?;
+fn test_set_try_from_duplicate(rt: HostRuntime) {
+    let items = vec![in rt.alloc(); 3u8, 1, 2, 2].expect(&rt, "memory");
     assert!(rt; Set::try_from_vec(items).err() == Some(Error::DuplicateKey));
-    Ok(())
 }
 
 /// What the builder answers for the items of a list: what `try_from_vec` answers for it, however
@@ -109,16 +110,14 @@ fn try_from_items<T: Ord + Drop, A: Allocator + Copy>(
 }
 
 #[test]
-fn test_set_try_from_iter_duplicate(rt: HostRuntime) -> Result<(), Fail> {
-    let items = vec![in rt.alloc(); 3u8, 1, 2, 2]?;
+fn test_set_try_from_iter_duplicate(rt: HostRuntime) {
+    let items = vec![in rt.alloc(); 3u8, 1, 2, 2].expect(&rt, "memory");
     assert!(rt; try_from_items(rt.alloc(), items).err() == Some(Error::DuplicateKey));
-    Ok(())
 }
 
 #[test]
-fn refusals_have_messages(rt: HostRuntime) -> Result<(), Fail> {
+fn refusals_have_messages(rt: HostRuntime) {
     for (error, message) in MESSAGES {
-        assert!(rt; is_shown_as(rt.alloc(), &error, message)?);
+        assert!(rt; is_shown_as(rt.alloc(), &error, message));
     }
-    Ok(())
 }

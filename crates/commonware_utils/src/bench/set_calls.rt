@@ -1,10 +1,9 @@
 //! Sets: look-ups, walks, texts and sizes.
 use super::{is_debugged_as, is_shown_as};
-use crate::ordered::Set;
+use crate::ordered::{Error, Set};
 use crate::{Participant, TryFromIterator};
 use std::alloc::Global;
 use std::fmt;
-use std::test::Fail;
 
 /// Items, and their places in {1, 3, 5, 9}.
 const PLACES: [(u8, Option<usize>); 6] = [
@@ -17,19 +16,18 @@ const PLACES: [(u8, Option<usize>); 6] = [
 ];
 
 #[test]
-fn equal_items_are_found(rt: HostRuntime) -> Result<(), Fail> {
-    let set = Set::from_iter_dedup(rt.alloc(), [1u8, 3, 5, 9])?;
+fn equal_items_are_found(rt: HostRuntime) {
+    let set = Set::from_iter_dedup(rt.alloc(), [1u8, 3, 5, 9]).expect(&rt, "memory");
     for (item, place) in PLACES {
         assert!(rt; set.position(&item) == place);
     }
     let none: Set<u8, Global> = Set::empty(rt.alloc());
     assert!(rt; none.position(&0) == None);
-    Ok(())
 }
 
 #[test]
-fn ranges_and_positions_are_read(rt: HostRuntime) -> Result<(), Fail> {
-    let set = Set::from_iter_dedup(rt.alloc(), [1u8, 3, 5, 9])?;
+fn ranges_and_positions_are_read(rt: HostRuntime) {
+    let set = Set::from_iter_dedup(rt.alloc(), [1u8, 3, 5, 9]).expect(&rt, "memory");
     assert!(rt;
         set.len() == 4
             && set.slice(1..3) == [3u8, 5].as_slice()
@@ -39,7 +37,6 @@ fn ranges_and_positions_are_read(rt: HostRuntime) -> Result<(), Fail> {
             && set[2] == 5
             && set[3] == 9
     );
-    Ok(())
 }
 
 /// Steps over {1, 3, 5}: whether from the back, the item that comes, and how many are left.
@@ -52,8 +49,8 @@ const STEPS: [(bool, Option<u8>, usize); 5] = [
 ];
 
 #[test]
-fn a_set_is_walked_from_both_ends(rt: HostRuntime) -> Result<(), Fail> {
-    let set = Set::from_iter_dedup(rt.alloc(), [5u8, 1, 3])?;
+fn a_set_is_walked_from_both_ends(rt: HostRuntime) {
+    let set = Set::from_iter_dedup(rt.alloc(), [5u8, 1, 3]).expect(&rt, "memory");
     let mut lent = (&set).into_iter();
     assert!(rt; lent.len() == 3);
     for (from_back, expected, left) in STEPS {
@@ -64,12 +61,11 @@ fn a_set_is_walked_from_both_ends(rt: HostRuntime) -> Result<(), Fail> {
         };
         assert!(rt; item == expected.as_ref() && lent.len() == left);
     }
-    Ok(())
 }
 
 #[test]
-fn a_set_is_given_away_from_both_ends(rt: HostRuntime) -> Result<(), Fail> {
-    let set = Set::from_iter_dedup(rt.alloc(), [5u8, 1, 3])?;
+fn a_set_is_given_away_from_both_ends(rt: HostRuntime) {
+    let set = Set::from_iter_dedup(rt.alloc(), [5u8, 1, 3]).expect(&rt, "memory");
     let mut given = set.into_iter();
     assert!(rt; given.len() == 3);
     for (from_back, expected, left) in STEPS {
@@ -80,14 +76,19 @@ fn a_set_is_given_away_from_both_ends(rt: HostRuntime) -> Result<(), Fail> {
         };
         assert!(rt; item == expected && given.len() == left);
     }
-    Ok(())
 }
 
 #[test]
-fn test_sorted_unique_construct_unseal(rt: HostRuntime) -> Result<(), Fail> {
+fn test_sorted_unique_construct_unseal(rt: HostRuntime) {
     let expected = [1u32, 2, 3, 4, 5, 6, 7, 8, 9];
-    let sorted = Set::from_iter_dedup(rt.alloc(), [1, 3, 2, 5, 4, 3, 1, 7, 9, 6, 8, 4])?;
-    let walked: Vec<u32> = sorted.iter().copied().collect(rt.alloc())?;
+    let sorted = Set::from_iter_dedup(rt.alloc(), [1, 3, 2, 5, 4, 3, 1, 7, 9, 6, 8, 4]).expect(
+        &rt, "memory",
+    );
+    let walked: Vec<u32> = sorted
+        .iter()
+        .copied()
+        .collect(rt.alloc())
+        .expect(&rt, "memory");
     assert!(rt;
         walked.as_slice() == expected.as_slice()
             && sorted.as_slice() == expected.as_slice()
@@ -103,7 +104,6 @@ fn test_sorted_unique_construct_unseal(rt: HostRuntime) -> Result<(), Fail> {
     }
     let unsealed: Vec<u32> = sorted.into();
     assert!(rt; unsealed.as_slice() == expected.as_slice() && sum == 45);
-    Ok(())
 }
 
 /// A number whose text has a name before it.
@@ -118,36 +118,34 @@ impl fmt::Display for Example {
 }
 
 /// The set of the examples of these numbers.
-fn examples(alloc: Global, numbers: &[u8]) -> Result<Set<Example, Global>, Fail> {
+fn examples(alloc: Global, numbers: &[u8]) -> Result<Set<Example, Global>, Error> {
     let mut items = Vec::new(alloc);
     for number in numbers {
         items.push(Example(*number))?;
     }
-    Ok(Set::try_from_iter(alloc, items)?)
+    Set::try_from_iter(alloc, items)
 }
 
 #[test]
-fn test_sorted_unique_display(rt: HostRuntime) -> Result<(), Fail> {
+fn test_sorted_unique_display(rt: HostRuntime) {
     let alloc = rt.alloc();
     let text = "[ex(1), ex(2), ex(3), ex(4), ex(5), ex(6), ex(7), ex(8), ex(9)]";
-    let sorted = examples(alloc, &[1, 2, 3, 4, 5, 6, 7, 8, 9])?;
-    assert!(rt; is_shown_as(alloc, &sorted, text)?);
-    let three = examples(alloc, &[1, 2, 3])?;
-    assert!(rt; is_shown_as(alloc, &three, "[ex(1), ex(2), ex(3)]")?);
-    Ok(())
+    let sorted = examples(alloc, &[1, 2, 3, 4, 5, 6, 7, 8, 9]).expect(&rt, "memory");
+    assert!(rt; is_shown_as(alloc, &sorted, text));
+    let three = examples(alloc, &[1, 2, 3]).expect(&rt, "memory");
+    assert!(rt; is_shown_as(alloc, &three, "[ex(1), ex(2), ex(3)]"));
 }
 
 #[test]
-fn sets_have_texts(rt: HostRuntime) -> Result<(), Fail> {
+fn sets_have_texts(rt: HostRuntime) {
     let alloc = rt.alloc();
     let none: Set<u8, Global> = Set::empty(alloc);
-    assert!(rt; is_shown_as(alloc, &none, "[]")? && is_debugged_as(alloc, &none, "Set([])")?);
-    let two = Set::from_iter_dedup(alloc, [2u8, 1])?;
-    assert!(rt; is_debugged_as(alloc, &two, "Set([1, 2])")?);
-    let one = Set::from_iter_dedup(alloc, [Participant::new(1000)])?;
-    let nest = Set::from_iter_dedup(alloc, [one, Set::empty(alloc)])?;
-    assert!(rt; is_shown_as(alloc, &nest, "[[], [1000]]")?);
-    Ok(())
+    assert!(rt; is_shown_as(alloc, &none, "[]") && is_debugged_as(alloc, &none, "Set([])"));
+    let two = Set::from_iter_dedup(alloc, [2u8, 1]).expect(&rt, "memory");
+    assert!(rt; is_debugged_as(alloc, &two, "Set([1, 2])"));
+    let one = Set::from_iter_dedup(alloc, [Participant::new(1000)]).expect(&rt, "memory");
+    let nest = Set::from_iter_dedup(alloc, [one, Set::empty(alloc)]).expect(&rt, "memory");
+    assert!(rt; is_shown_as(alloc, &nest, "[[], [1000]]"));
 }
 
 #[test]

@@ -5,7 +5,6 @@ use crate::codec::{Error, RangeCfg, Write, round_trip};
 use crate::ordered::{Set, set_fault_law};
 use std::alloc::{AllocError, Allocator, Global};
 use std::cmp::Ordering;
-use std::test::Fail;
 
 pub(super) const UNSORTED: Error = Error::Invalid("Set", "items must be sorted and unique");
 
@@ -56,32 +55,34 @@ fn is_set_written_as<T: Ord + Write<A> + Drop, A: Allocator + Copy>(
     bytes: &[u8],
 ) -> Result<bool, AllocError> {
     let set = Set::from_iter_dedup(alloc, items)?;
-    is_written_as(alloc, &set, bytes)
+    Ok(is_written_as(alloc, &set, bytes))
 }
 
 #[test]
-fn the_empty_set_holds_nothing(rt: HostRuntime) -> Result<(), Fail> {
+fn the_empty_set_holds_nothing(rt: HostRuntime) {
     let set: Set<u8, _> = Set::empty(rt.alloc());
     assert!(rt;
         set.is_empty()
             && set.len() == 0
             && set.get(0) == None
-            && is_written_as(rt.alloc(), &set, b"\x00")?
+            && is_written_as(rt.alloc(), &set, b"\x00")
     );
-    Ok(())
 }
 
 #[test]
-fn sets_are_written_as_their_lists(rt: HostRuntime) -> Result<(), Fail> {
+fn sets_are_written_as_their_lists(rt: HostRuntime) {
     let alloc = rt.alloc();
     set_fault_law::<u8, _>(alloc, RangeCfg::from(..), &());
-    let bytes = vec![in alloc; 3u8, 1, 2, 1]?;
-    assert!(rt; is_set_written_as(alloc, bytes, b"\x03\x01\x02\x03")?);
-    let words = vec![in alloc; 256u32, 1]?;
-    assert!(rt; is_set_written_as(alloc, words, b"\x02\x00\x00\x00\x01\x00\x00\x01\x00")?);
-    let indices = vec![in alloc; Participant::new(300), Participant::new(1)]?;
-    assert!(rt; is_set_written_as(alloc, indices, b"\x02\x01\xac\x02")?);
-    Ok(())
+    let bytes = vec![in alloc; 3u8, 1, 2, 1].expect(&rt, "memory");
+    assert!(rt; is_set_written_as(alloc, bytes, b"\x03\x01\x02\x03").expect(&rt, "memory"));
+    let words = vec![in alloc; 256u32, 1].expect(&rt, "memory");
+    assert!(rt;
+        is_set_written_as(alloc, words, b"\x02\x00\x00\x00\x01\x00\x00\x01\x00").expect(
+            &rt, "memory"
+        )
+    );
+    let indices = vec![in alloc; Participant::new(300), Participant::new(1)].expect(&rt, "memory");
+    assert!(rt; is_set_written_as(alloc, indices, b"\x02\x01\xac\x02").expect(&rt, "memory"));
 }
 
 #[test]
@@ -100,55 +101,50 @@ fn texts_that_are_no_set_are_refused(rt: HostRuntime) {
 }
 
 #[test]
-fn what_follows_a_set_is_left(rt: HostRuntime) -> Result<(), Fail> {
+fn what_follows_a_set_is_left(rt: HostRuntime) {
     let any = RangeCfg::from(..);
     let (set, taken) = read::<Set<u8, _>, _>(rt.alloc(), b"\x02\x05\x09\xff\xff", &(any, ()));
-    assert!(rt; set?.as_slice() == [5, 9].as_slice() && taken == 3);
-    Ok(())
+    assert!(rt; set.expect(&rt, "a value").as_slice() == [5, 9].as_slice() && taken == 3);
 }
 
 #[test]
-fn sets_of_sets_are_written_and_read(rt: HostRuntime) -> Result<(), Fail> {
+fn sets_of_sets_are_written_and_read(rt: HostRuntime) {
     let alloc = rt.alloc();
     let any = RangeCfg::from(..);
-    let nest = nest_of(alloc, &[&[2], &[2, 1], &[1], &[]])?;
+    let nest = nest_of(alloc, &[&[2], &[2, 1], &[1], &[]]).expect(&rt, "memory");
     let bytes = b"\x04\x00\x01\x01\x02\x01\x02\x01\x02";
     assert!(rt;
-        is_written_as(alloc, &nest, bytes)?
+        is_written_as(alloc, &nest, bytes)
             && read::<Set<Set<u8, _>, _>, _>(alloc, bytes, &(any, (any, ()))) == (Ok(nest), 9)
     );
-    Ok(())
 }
 
 #[test]
-fn sets_nest_three_deep(rt: HostRuntime) -> Result<(), Fail> {
+fn sets_nest_three_deep(rt: HostRuntime) {
     let alloc = rt.alloc();
     let any = RangeCfg::from(..);
     let bytes = b"\x02\x00\x02\x00\x01\x07\xff";
     let cfg = (any, (any, (any, ())));
     let (nest, taken) = read::<Set<Set<Set<u8, _>, _>, _>, _>(alloc, bytes, &cfg);
-    let nest = nest?;
+    let nest = nest.expect(&rt, "a value");
     assert!(rt; nest.len() == 2 && taken == 6);
-    let (again, left) = round_trip(alloc, &nest, b"\xff", &cfg)?;
+    let (again, left) = round_trip(alloc, &nest, b"\xff", &cfg).expect(&rt, "memory");
     assert!(rt; again == nest && left == 1);
-    Ok(())
 }
 
 #[test]
-fn sets_are_ordered_as_their_lists(rt: HostRuntime) -> Result<(), Fail> {
+fn sets_are_ordered_as_their_lists(rt: HostRuntime) {
     for (items, others, order) in ORDERS {
-        let set = set_of(rt.alloc(), items)?;
-        let other = set_of(rt.alloc(), others)?;
+        let set = set_of(rt.alloc(), items).expect(&rt, "memory");
+        let other = set_of(rt.alloc(), others).expect(&rt, "memory");
         assert!(rt; are_ordered(&set, &other, order));
     }
-    Ok(())
 }
 
 #[test]
-fn test_sorted_unique_codec_roundtrip(rt: HostRuntime) -> Result<(), Fail> {
-    let sorted = set_of(rt.alloc(), &[1, 2, 3, 4, 5, 6, 7, 8, 9])?;
-    assert!(rt; comes_back(rt.alloc(), &sorted, &(RangeCfg::from(0..=9), ()))?);
-    Ok(())
+fn test_sorted_unique_codec_roundtrip(rt: HostRuntime) {
+    let sorted = set_of(rt.alloc(), &[1, 2, 3, 4, 5, 6, 7, 8, 9]).expect(&rt, "memory");
+    assert!(rt; comes_back(rt.alloc(), &sorted, &(RangeCfg::from(0..=9), ())));
 }
 
 /// What the reader of sets answers for a list.
@@ -157,20 +153,29 @@ fn decoded(alloc: Global, items: &[u8]) -> Result<Result<Set<u8, Global>, Error>
 }
 
 #[test]
-fn test_set_decode_rejects_duplicates(rt: HostRuntime) -> Result<(), Fail> {
-    assert!(rt; decoded(rt.alloc(), &[1, 2, 2, 3])?.err() == Some(UNSORTED));
-    Ok(())
+fn test_set_decode_rejects_duplicates(rt: HostRuntime) {
+    assert!(rt;
+        decoded(rt.alloc(), &[1, 2, 2, 3])
+            .expect(&rt, "memory")
+            .err()
+            == Some(UNSORTED)
+    );
 }
 
 #[test]
-fn test_set_decode_rejects_unsorted(rt: HostRuntime) -> Result<(), Fail> {
-    assert!(rt; decoded(rt.alloc(), &[1, 3, 2, 4])?.err() == Some(UNSORTED));
-    Ok(())
+fn test_set_decode_rejects_unsorted(rt: HostRuntime) {
+    assert!(rt;
+        decoded(rt.alloc(), &[1, 3, 2, 4])
+            .expect(&rt, "memory")
+            .err()
+            == Some(UNSORTED)
+    );
 }
 
 #[test]
-fn test_set_decode_accepts_valid(rt: HostRuntime) -> Result<(), Fail> {
-    let set = decoded(rt.alloc(), &[1, 2, 3, 4])??;
+fn test_set_decode_accepts_valid(rt: HostRuntime) {
+    let set = decoded(rt.alloc(), &[1, 2, 3, 4])
+        .expect(&rt, "memory")
+        .expect(&rt, "a value");
     assert!(rt; set.as_slice() == [1, 2, 3, 4].as_slice());
-    Ok(())
 }

@@ -4,7 +4,6 @@ use crate::{
     union_unique,
 };
 use std::num::{NonZeroU8, NonZeroU16, NonZeroU32, NonZeroU64};
-use std::test::Fail;
 
 /// Two texts, and the one after the other.
 const UNIONS: [(&[u8], &[u8], &[u8]); 4] = [
@@ -29,15 +28,14 @@ const SIZES: [(usize, usize, usize); 6] = [
 ];
 
 #[test]
-fn test_union(rt: HostRuntime) -> Result<(), Fail> {
+fn test_union(rt: HostRuntime) {
     for (a, b, whole) in UNIONS {
-        assert!(rt; union(rt.alloc(), a, b)?.as_slice() == whole);
+        assert!(rt; union(rt.alloc(), a, b).expect(&rt, "memory").as_slice() == whole);
     }
-    Ok(())
 }
 
 #[test]
-fn test_union_unique(rt: HostRuntime) -> Result<(), Fail> {
+fn test_union_unique(rt: HostRuntime) {
     for (namespace, msg, whole) in [
         (
             b"namespace".as_slice(),
@@ -47,25 +45,27 @@ fn test_union_unique(rt: HostRuntime) -> Result<(), Fail> {
         (b"a", b"bc", b"\x01abc"),
         (b"ab", b"c", b"\x02abc"),
     ] {
-        assert!(rt; union_unique(rt.alloc(), namespace, msg)?.as_slice() == whole);
+        assert!(rt;
+            union_unique(rt.alloc(), namespace, msg)
+                .expect(&rt, "memory")
+                .as_slice()
+                == whole
+        );
     }
-    Ok(())
 }
 
 #[test]
-fn test_union_unique_zero_length(rt: HostRuntime) -> Result<(), Fail> {
-    let whole = union_unique(rt.alloc(), b"", b"message")?;
+fn test_union_unique_zero_length(rt: HostRuntime) {
+    let whole = union_unique(rt.alloc(), b"", b"message").expect(&rt, "memory");
     assert!(rt; whole.as_slice() == b"\x00message".as_slice());
-    Ok(())
 }
 
 #[test]
-fn test_union_unique_long_length(rt: HostRuntime) -> Result<(), Fail> {
+fn test_union_unique_long_length(rt: HostRuntime) {
     let namespace = [b'n'; 256];
-    let whole = union_unique(rt.alloc(), &namespace, b"message")?;
-    let rest = whole.strip_prefix(b"\x80\x02").ok_or("another count")?;
+    let whole = union_unique(rt.alloc(), &namespace, b"message").expect(&rt, "memory");
+    let rest = whole.strip_prefix(b"\x80\x02").expect(&rt, "another count");
     assert!(rt; rest.strip_prefix(&namespace) == Some(b"message".as_slice()));
-    Ok(())
 }
 
 #[test]
@@ -81,9 +81,9 @@ fn wide<T, N: Widen<T>>(number: N) -> T {
 }
 
 #[test]
-fn wider_numbers_are_the_same(rt: HostRuntime) -> Result<(), Fail> {
+fn wider_numbers_are_the_same(rt: HostRuntime) {
     for (n8, n16) in [(1, 1), (200, 513), (u8::MAX, 65535)] {
-        let small = NonZeroU8::new(n8).ok_or("zero")?;
+        let small = NonZeroU8::new(n8).expect(&rt, "zero");
         let of_small: (u16, u32, u64, u128, usize) = (
             wide(small),
             wide(small),
@@ -92,22 +92,21 @@ fn wider_numbers_are_the_same(rt: HostRuntime) -> Result<(), Fail> {
             wide(small),
         );
         assert!(rt; of_small == (n8 as u16, n8 as u32, n8 as u64, n8 as u128, n8 as usize));
-        let word = NonZeroU16::new(n16).ok_or("zero")?;
+        let word = NonZeroU16::new(n16).expect(&rt, "zero");
         let of_word: (u32, u64, u128, usize) = (wide(word), wide(word), wide(word), wide(word));
         assert!(rt; of_word == (n16 as u32, n16 as u64, n16 as u128, n16 as usize));
     }
     for (n32, n64) in [(1, 1), (u32::MAX, u64::MAX)] {
-        let long = NonZeroU32::new(n32).ok_or("zero")?;
+        let long = NonZeroU32::new(n32).expect(&rt, "zero");
         let of_long: (u64, u128) = (wide(long), wide(long));
         assert!(rt; of_long == (n32 as u64, n32 as u128));
-        let longest = NonZeroU64::new(n64).ok_or("zero")?;
+        let longest = NonZeroU64::new(n64).expect(&rt, "zero");
         assert!(rt;
             wide::<u128, NonZeroU64>(longest) == n64 as u128
                 && wide::<usize, u32>(n32) == n32 as usize
                 && wide::<u64, usize>(n64 as usize) == n64
         );
     }
-    Ok(())
 }
 
 #[test]

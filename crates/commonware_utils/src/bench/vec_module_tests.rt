@@ -8,7 +8,6 @@ use crate::vec::{Bounded, Error, Mutate, NonEmptyVec};
 use crate::{NZUsize, TryCollect, non_empty_vec};
 use std::alloc::Global;
 use std::num::NonZeroUsize;
-use std::test::Fail;
 
 /// 1, 2, 3
 fn one_two_three(alloc: Global) -> Result<NonEmptyVec<u8, Global>, Error>
@@ -23,13 +22,12 @@ fn has(list: &NonEmptyVec<u8, Global>, items: &[u8]) -> bool {
 }
 
 #[test]
-fn test_bounded_push_evicts_oldest(rt: HostRuntime) -> Result<(), Fail> {
+fn test_bounded_push_evicts_oldest(rt: HostRuntime) {
     let mut queue = Bounded::new(rt.alloc(), NZUsize!(3));
     for (item, out) in [(1u8, None), (2, None), (3, None), (4, Some(1))] {
         assert!(rt; queue.push(item) == Ok(out));
     }
     assert!(rt; queue.capacity().get() == 3 && queue.iter().eq([2, 3, 4].iter()));
-    Ok(())
 }
 
 #[test]
@@ -55,94 +53,105 @@ fn test_bounded_into_inner(rt: HostRuntime) {
 }
 
 #[test]
-fn test_new(rt: HostRuntime) -> Result<(), Fail> {
-    let v = NonEmptyVec::new(rt.alloc(), 42u8)?;
+fn test_new(rt: HostRuntime) {
+    let v = NonEmptyVec::new(rt.alloc(), 42u8).expect(&rt, "memory");
     assert!(rt; v.len().get() == 1 && *v.first() == 42 && *v.last() == 42);
-    Ok(())
 }
 
 #[test]
-fn test_is_singleton(rt: HostRuntime) -> Result<(), Fail> {
-    let one = non_empty_vec!(rt.alloc() => 42u8)?;
-    let two = non_empty_vec!(rt.alloc() => 1u8, 2)?;
+fn test_is_singleton(rt: HostRuntime) {
+    let one = non_empty_vec!(rt.alloc() => 42u8).expect(&rt, "memory");
+    let two = non_empty_vec!(rt.alloc() => 1u8, 2).expect(&rt, "memory");
     assert!(rt;
-        one.is_singleton() && !two.is_singleton() && !one_two_three(rt.alloc())?.is_singleton()
+        one.is_singleton()
+            && !two.is_singleton()
+            && !one_two_three(rt.alloc())
+                .expect(&rt, "memory")
+                .is_singleton()
     );
-    Ok(())
 }
 
 #[test]
-fn test_macro(rt: HostRuntime) -> Result<(), Fail> {
+fn test_macro(rt: HostRuntime) {
     let alloc = rt.alloc();
-    let three = one_two_three(alloc)?;
+    let three = one_two_three(alloc).expect(&rt, "memory");
     assert!(rt; three.len().get() == 3 && *three.first() == 1 && *three.last() == 3);
-    let comma = non_empty_vec!(alloc => 1u8, 2, 3,)?;
+    let comma = non_empty_vec!(alloc => 1u8, 2, 3,).expect(&rt, "memory");
     assert!(rt; comma == three);
-    let whole = non_empty_vec!(@vec![in alloc; 1u8, 2, 3]?);
+    let whole = non_empty_vec!(@vec![in alloc; 1u8, 2, 3].expect(&rt, "memory"));
     assert!(rt;
         whole == three
-            && has(&non_empty_vec!(alloc => 42)?, &[42])
-            && has(&non_empty_vec!(alloc => 42; 5)?, &[42; 5])
-            && has(&non_empty_vec!(alloc => 0; 1)?, &[0])
-            && has(&non_empty_vec!(alloc => 99; NZUsize!(3))?, &[99; 3])
+            && has(&non_empty_vec!(alloc => 42).expect(&rt, "memory"), &[42])
+            && has(
+                &non_empty_vec!(alloc => 42; 5).expect(&rt, "memory"),
+                &[42; 5]
+            )
+            && has(&non_empty_vec!(alloc => 0; 1).expect(&rt, "memory"), &[0])
+            && has(
+                &non_empty_vec!(alloc => 99; NZUsize!(3)).expect(&rt, "memory"),
+                &[99; 3]
+            )
     );
-    let n = NonZeroUsize::new(4).ok_or("zero")?;
-    assert!(rt; has(&non_empty_vec!(alloc => 7; @n)?, &[7; 4]));
-    Ok(())
+    let n = NonZeroUsize::new(4).expect(&rt, "zero");
+    assert!(rt;
+        has(
+            &non_empty_vec!(alloc => 7; @n).expect(&rt, "memory"),
+            &[7; 4]
+        )
+    );
 }
 
 #[test]
-fn test_try_from_vec(rt: HostRuntime) -> Result<(), Fail> {
-    let v = NonEmptyVec::try_from(vec![in rt.alloc(); 1u8, 2, 3]?)?;
+fn test_try_from_vec(rt: HostRuntime) {
+    let v = NonEmptyVec::try_from(vec![in rt.alloc(); 1u8, 2, 3].expect(&rt, "memory")).expect(
+        &rt, "memory",
+    );
     assert!(rt; v.len().get() == 3);
     let none: Vec<u8> = Vec::new(rt.alloc());
     assert!(rt; NonEmptyVec::try_from(none).err() == Some(Error::Empty));
-    Ok(())
 }
 
 #[test]
-fn test_try_from_slice(rt: HostRuntime) -> Result<(), Fail> {
-    let v = NonEmptyVec::try_from_slice(rt.alloc(), [1u8, 2, 3].as_slice())?;
+fn test_try_from_slice(rt: HostRuntime) {
+    let v = NonEmptyVec::try_from_slice(rt.alloc(), [1u8, 2, 3].as_slice()).expect(&rt, "memory");
     assert!(rt; v.len().get() == 3);
     let none: &[u8] = &[];
     let refused = NonEmptyVec::try_from_slice(rt.alloc(), none);
     assert!(rt; refused.err() == Some(Error::Empty));
-    Ok(())
 }
 
 #[test]
-fn test_try_from_array(rt: HostRuntime) -> Result<(), Fail> {
-    let v = NonEmptyVec::try_from_array(rt.alloc(), [1u8, 2, 3])?;
-    let w = NonEmptyVec::try_from_array_ref(rt.alloc(), &[1u8, 2, 3])?;
+fn test_try_from_array(rt: HostRuntime) {
+    let v = NonEmptyVec::try_from_array(rt.alloc(), [1u8, 2, 3]).expect(&rt, "memory");
+    let w = NonEmptyVec::try_from_array_ref(rt.alloc(), &[1u8, 2, 3]).expect(&rt, "memory");
     assert!(rt; v.len().get() == 3 && v == w);
     let refused = NonEmptyVec::try_from_array(rt.alloc(), [0u8; 0]);
     assert!(rt; refused.err() == Some(Error::Empty));
-    Ok(())
 }
 
 #[test]
-fn test_try_from_iterator(rt: HostRuntime) -> Result<(), Fail> {
-    let v: NonEmptyVec<u8, Global> = TryCollect::try_collect(1u8..=3, rt.alloc())?;
+fn test_try_from_iterator(rt: HostRuntime) {
+    let v: NonEmptyVec<u8, Global> = TryCollect::try_collect(1u8..=3, rt.alloc()).expect(
+        &rt, "memory",
+    );
     assert!(rt; v.len().get() == 3);
     let none = std::iter::empty::<u8>();
     let refused: Result<NonEmptyVec<u8, Global>, _> = TryCollect::try_collect(none, rt.alloc());
     assert!(rt; refused.err() == Some(Error::Empty));
-    Ok(())
 }
 
 #[test]
-fn test_first_last(rt: HostRuntime) -> Result<(), Fail> {
-    let mut v = one_two_three(rt.alloc())?;
+fn test_first_last(rt: HostRuntime) {
+    let mut v = one_two_three(rt.alloc()).expect(&rt, "memory");
     assert!(rt; *v.first() == 1 && *v.last() == 3);
     *v.first_mut() = 10;
     *v.last_mut() = 30;
     assert!(rt; has(&v, &[10, 2, 30]) && *v.first() == 10 && *v.last() == 30);
-    Ok(())
 }
 
 #[test]
-fn test_push(rt: HostRuntime) -> Result<(), Fail> {
-    let mut v = non_empty_vec!(rt.alloc() => 1)?;
+fn test_push(rt: HostRuntime) {
+    let mut v = non_empty_vec!(rt.alloc() => 1).expect(&rt, "memory");
     assert!(rt;
         v.push(2) == Ok(())
             && v.push(3) == Ok(())
@@ -150,67 +159,63 @@ fn test_push(rt: HostRuntime) -> Result<(), Fail> {
             && *v.last() == 3
             && has(&v, &[1, 2, 3])
     );
-    Ok(())
 }
 
 #[test]
-fn test_insert(rt: HostRuntime) -> Result<(), Fail> {
-    let mut v = non_empty_vec!(rt.alloc() => 1, 3)?;
+fn test_insert(rt: HostRuntime) {
+    let mut v = non_empty_vec!(rt.alloc() => 1, 3).expect(&rt, "memory");
     assert!(rt; v.insert(1, 2) == Ok(()) && has(&v, &[1, 2, 3]));
-    Ok(())
 }
 
 #[test]
-fn test_extend(rt: HostRuntime) -> Result<(), Fail> {
-    let mut v = non_empty_vec!(rt.alloc() => 1)?;
-    v.extend([2, 3, 4])?;
+fn test_extend(rt: HostRuntime) {
+    let mut v = non_empty_vec!(rt.alloc() => 1).expect(&rt, "memory");
+    v.extend([2, 3, 4]).expect(&rt, "memory");
     assert!(rt; v.len().get() == 4 && has(&v, &[1, 2, 3, 4]));
-    Ok(())
 }
 
 #[test]
-fn test_resize(rt: HostRuntime) -> Result<(), Fail> {
-    let mut v = non_empty_vec!(rt.alloc() => 1, 2)?;
-    v.resize(NZUsize!(5), 0)?;
+fn test_resize(rt: HostRuntime) {
+    let mut v = non_empty_vec!(rt.alloc() => 1, 2).expect(&rt, "memory");
+    v.resize(NZUsize!(5), 0).expect(&rt, "memory");
     assert!(rt; has(&v, &[1, 2, 0, 0, 0]));
-    v.resize(NZUsize!(2), 0)?;
+    v.resize(NZUsize!(2), 0).expect(&rt, "memory");
     assert!(rt; has(&v, &[1, 2]));
-    v.resize(NZUsize!(1), 0)?;
+    v.resize(NZUsize!(1), 0).expect(&rt, "memory");
     assert!(rt; has(&v, &[1]));
-    Ok(())
 }
 
 #[test]
-fn test_resize_with(rt: HostRuntime) -> Result<(), Fail> {
-    let mut v = non_empty_vec!(rt.alloc() => 1)?;
+fn test_resize_with(rt: HostRuntime) {
+    let mut v = non_empty_vec!(rt.alloc() => 1).expect(&rt, "memory");
     let mut counter = 0u8;
     v.resize_with(NZUsize!(4), || {
         counter = counter.wrapping_add(1);
         counter.wrapping_mul(10)
-    })?;
+    })
+    .expect(&rt, "memory");
     assert!(rt; has(&v, &[1, 10, 20, 30]));
     let mut called = false;
     v.resize_with(NZUsize!(2), || {
         called = true;
         0
-    })?;
+    })
+    .expect(&rt, "memory");
     assert!(rt; has(&v, &[1, 10]) && !called);
-    Ok(())
 }
 
 #[test]
-fn test_pop(rt: HostRuntime) -> Result<(), Fail> {
-    let mut v = one_two_three(rt.alloc())?;
+fn test_pop(rt: HostRuntime) {
+    let mut v = one_two_three(rt.alloc()).expect(&rt, "memory");
     for (out, left) in [(Some(3), 2), (Some(2), 1), (None, 1)] {
         assert!(rt; v.pop() == out && v.len().get() == left);
     }
     assert!(rt; *v.first() == 1);
-    Ok(())
 }
 
 #[test]
-fn test_remove(rt: HostRuntime) -> Result<(), Fail> {
-    let mut v = one_two_three(rt.alloc())?;
+fn test_remove(rt: HostRuntime) {
+    let mut v = one_two_three(rt.alloc()).expect(&rt, "memory");
     assert!(rt;
         v.remove(1) == Some(2)
             && has(&v, &[1, 3])
@@ -219,12 +224,11 @@ fn test_remove(rt: HostRuntime) -> Result<(), Fail> {
             && v.remove(0) == None
             && has(&v, &[3])
     );
-    Ok(())
 }
 
 #[test]
-fn test_mutate(rt: HostRuntime) -> Result<(), Fail> {
-    let mut v = non_empty_vec!(rt.alloc() => 3, 1, 2, 1)?;
+fn test_mutate(rt: HostRuntime) {
+    let mut v = non_empty_vec!(rt.alloc() => 3, 1, 2, 1).expect(&rt, "memory");
     v.mutate(
         |items|
             requires { 1 ≤ length items.old.items }
@@ -237,19 +241,17 @@ fn test_mutate(rt: HostRuntime) -> Result<(), Fail> {
     assert!(rt; has(&v, &[1, 2, 3]));
     let sum = v.mutate(|items| items.iter().fold(0u8, |sum, item| sum.wrapping_add(*item)));
     assert!(rt; sum == 6);
-    Ok(())
 }
 
 #[test]
-fn test_deref(rt: HostRuntime) -> Result<(), Fail> {
-    let v = non_empty_vec!(rt.alloc() => 3u8, 1, 2)?;
+fn test_deref(rt: HostRuntime) {
+    let v = non_empty_vec!(rt.alloc() => 3u8, 1, 2).expect(&rt, "memory");
     assert!(rt; v.len().get() == 3 && v.as_slice().contains(&2) && v.as_slice().get(1) == Some(&1));
-    Ok(())
 }
 
 #[test]
-fn test_deref_mut(rt: HostRuntime) -> Result<(), Fail> {
-    let mut v = non_empty_vec!(rt.alloc() => 3, 1, 2)?;
+fn test_deref_mut(rt: HostRuntime) {
+    let mut v = non_empty_vec!(rt.alloc() => 3, 1, 2).expect(&rt, "memory");
     v.as_mut_slice().sort_unstable();
     assert!(rt; has(&v, &[1, 2, 3]));
     v.as_mut_slice().reverse();
@@ -259,60 +261,66 @@ fn test_deref_mut(rt: HostRuntime) -> Result<(), Fail> {
         items.swap(0, 2);
     }
     assert!(rt; has(&v, &[1, 2, 3]));
-    Ok(())
 }
 
 #[test]
-fn test_into_vec(rt: HostRuntime) -> Result<(), Fail> {
-    let items = one_two_three(rt.alloc())?.into_vec();
+fn test_into_vec(rt: HostRuntime) {
+    let items = one_two_three(rt.alloc()).expect(&rt, "memory").into_vec();
     assert!(rt; items.as_slice() == [1, 2, 3].as_slice());
-    Ok(())
 }
 
 #[test]
-fn test_map(rt: HostRuntime) -> Result<(), Fail> {
-    let v = one_two_three(rt.alloc())?;
-    let doubled = v.map(|item| item.wrapping_mul(2))?;
+fn test_map(rt: HostRuntime) {
+    let v = one_two_three(rt.alloc()).expect(&rt, "memory");
+    let doubled = v.map(|item| item.wrapping_mul(2)).expect(&rt, "memory");
     assert!(rt; has(&doubled, &[2, 4, 6]) && has(&v, &[1, 2, 3]));
-    Ok(())
 }
 
 #[test]
-fn test_map_into(rt: HostRuntime) -> Result<(), Fail> {
-    let doubled = one_two_three(rt.alloc())?.map_into(|item| item.wrapping_mul(2))?;
+fn test_map_into(rt: HostRuntime) {
+    let doubled = one_two_three(rt.alloc())
+        .expect(&rt, "memory")
+        .map_into(|item| item.wrapping_mul(2))
+        .expect(&rt, "memory");
     assert!(rt; has(&doubled, &[2, 4, 6]));
-    Ok(())
 }
 
 #[test]
-fn test_from_non_empty_vec(rt: HostRuntime) -> Result<(), Fail> {
-    let items: Vec<u8> = one_two_three(rt.alloc())?.into();
+fn test_from_non_empty_vec(rt: HostRuntime) {
+    let items: Vec<u8> = one_two_three(rt.alloc()).expect(&rt, "memory").into();
     assert!(rt; items.as_slice() == [1, 2, 3].as_slice());
-    Ok(())
 }
 
 #[test]
-fn test_index(rt: HostRuntime) -> Result<(), Fail> {
-    let mut v = one_two_three(rt.alloc())?;
+fn test_index(rt: HostRuntime) {
+    let mut v = one_two_three(rt.alloc()).expect(&rt, "memory");
     assert!(rt; v[0] == 1 && v[1] == 2 && v[2] == 3 && v.as_slice()[0..2] == [1, 2]);
     let items = v.as_mut_slice();
     items[0] = 10;
     items[1..3].copy_from_slice(&[20, 30]);
     assert!(rt; has(&v, &[10, 20, 30]));
-    Ok(())
 }
 
 #[test]
-fn test_iterators(rt: HostRuntime) -> Result<(), Fail> {
-    let mut v = one_two_three(rt.alloc())?;
+fn test_iterators(rt: HostRuntime) {
+    let mut v = one_two_three(rt.alloc()).expect(&rt, "memory");
     let mut sum = 0u8;
     for item in &v {
         sum = sum.wrapping_add(*item);
     }
     assert!(rt; sum == 6);
-    let lent: Vec<u8> = (&v).into_iter().copied().collect(rt.alloc())?;
+    let lent: Vec<u8> = (&v)
+        .into_iter()
+        .copied()
+        .collect(rt.alloc())
+        .expect(&rt, "memory");
     assert!(rt; lent.as_slice() == [1, 2, 3].as_slice());
-    let back: Vec<u8> = (&v).into_iter().rev().copied().collect(rt.alloc())?;
+    let back: Vec<u8> = (&v)
+        .into_iter()
+        .rev()
+        .copied()
+        .collect(rt.alloc())
+        .expect(&rt, "memory");
     assert!(rt; back.as_slice() == [3, 2, 1].as_slice());
     for item in v.as_mut_slice() {
         *item = item.wrapping_mul(2);
@@ -322,38 +330,40 @@ fn test_iterators(rt: HostRuntime) -> Result<(), Fail> {
         *item = item.wrapping_add(10);
     }
     assert!(rt; has(&v, &[12, 14, 16]));
-    let given: Vec<u8> = v.into_iter().collect(rt.alloc())?;
+    let given: Vec<u8> = v.into_iter().collect(rt.alloc()).expect(&rt, "memory");
     assert!(rt; given.as_slice() == [12, 14, 16].as_slice());
-    Ok(())
 }
 
 #[test]
-fn test_codec_roundtrip(rt: HostRuntime) -> Result<(), Fail> {
+fn test_codec_roundtrip(rt: HostRuntime) {
     let cfg = (RangeCfg::from(NZUsize!(1)..=NZUsize!(10)), ());
-    assert!(rt; comes_back(rt.alloc(), &one_two_three(rt.alloc())?, &cfg)?);
-    Ok(())
+    assert!(rt;
+        comes_back(
+            rt.alloc(),
+            &one_two_three(rt.alloc()).expect(&rt, "memory"),
+            &cfg
+        )
+    );
 }
 
 #[test]
-fn test_codec_rejects_empty(rt: HostRuntime) -> Result<(), Fail> {
+fn test_codec_rejects_empty(rt: HostRuntime) {
     let (alloc, ten) = (rt.alloc(), NZUsize!(10));
     let empty: Vec<u8> = Vec::new(alloc);
     let bytes = b"\x00".as_slice();
-    assert!(rt; is_written_as(alloc, &empty, bytes)?);
+    assert!(rt; is_written_as(alloc, &empty, bytes));
     for range in [RangeCfg::from(..), RangeCfg::from(..ten)] {
         assert!(rt; refuses::<NonEmptyVec<u8, _>, _>(alloc, &(range, ()), &[(bytes, EMPTY)]));
     }
     let from_one = (RangeCfg::from(NZUsize!(1)..ten), ());
     let rows = [(bytes, CodecError::InvalidLength(0))];
     assert!(rt; refuses::<NonEmptyVec<u8, _>, _>(alloc, &from_one, &rows));
-    Ok(())
 }
 
 #[test]
-fn test_as_ref(rt: HostRuntime) -> Result<(), Fail> {
-    let v = one_two_three(rt.alloc())?;
+fn test_as_ref(rt: HostRuntime) {
+    let v = one_two_three(rt.alloc()).expect(&rt, "memory");
     assert!(rt; v.as_slice() == [1, 2, 3].as_slice());
     let items: &Vec<u8> = v.as_ref();
     assert!(rt; items.as_slice() == [1, 2, 3].as_slice());
-    Ok(())
 }
