@@ -23,8 +23,8 @@ fn a_reader_ends_or_fails_after_its_bytes(rt: HostRuntime) {
         }
         let mut buf = [0; 9];
         let given = (
-            input.read(&mut buf).expect(&rt, "memory"),
-            input.read(&mut buf).expect(&rt, "memory"),
+            input.read(&mut buf).expect(&rt, "a read"),
+            input.read(&mut buf).expect(&rt, "a read"),
         );
         for _ in 0..2 {
             let right = match input.read(&mut buf) {
@@ -150,7 +150,7 @@ fn a_writer_goes_wrong_at_one_call_or_from_it_on(rt: HostRuntime) {
 fn a_writer_that_takes_no_byte_takes_none_when_it_goes_wrong(rt: HostRuntime) {
     let mut output = ScriptedWriter::new(rt.alloc(), 0).with_fault(0, WriteFault::TakesOneByte);
     for _ in 0..2 {
-        let taken = output.write(b"abc").expect(&rt, "memory");
+        let taken = output.write(b"abc").expect(&rt, "a write");
         assert!(rt; taken == 0 && output.taken.is_empty());
     }
 }

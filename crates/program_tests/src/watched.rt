@@ -20,7 +20,7 @@ fn each_read_reaches_the_reader(rt: HostRuntime) {
         (4, 1, false),
         (4, 0, true),
     ] {
-        let read = input.read(&mut buffer[..room]).expect(&rt, "memory");
+        let read = input.read(&mut buffer[..room]).expect(&rt, "a read");
         assert!(rt; (read, input.ended(), input.failed()) == (given, ended, false));
     }
     let mut failing = Input::failing(b"", ErrorKind::Interrupted).reader();
@@ -33,9 +33,9 @@ fn each_read_reaches_the_reader(rt: HostRuntime) {
 fn each_write_reaches_the_writer(rt: HostRuntime) {
     let two = Output { step: 2, ..TAKEN };
     let mut output = Watched::new(two.writer(rt.alloc()));
-    let taken = output.write(b"abc").expect(&rt, "memory");
-    output.flush().expect(&rt, "memory");
-    let none = output.write(b"").expect(&rt, "memory");
+    let taken = output.write(b"abc").expect(&rt, "a write");
+    output.flush().expect(&rt, "a flush");
+    let none = output.write(b"").expect(&rt, "a write");
     let device = output.inner();
     assert!(rt; (taken, none, output.failed()) == (2, 0, false));
     assert!(rt;
@@ -48,7 +48,7 @@ fn a_failed_write_is_remembered(rt: HostRuntime) {
     let once = Output::failing(9, 0, WriteFault::TakesNothing);
     let mut output = Watched::new(once.writer(rt.alloc()));
     for taken in 0..2 {
-        let answer = output.write(b"a").expect(&rt, "memory");
+        let answer = output.write(b"a").expect(&rt, "a write");
         assert!(rt; answer == taken && output.failed());
     }
 }
