@@ -194,7 +194,7 @@ const SAMPLES: &[u8] = b"set_read 10 1 1000\nset_read 1000 1 100000\nmap_read 10
 #[test]
 fn lines_are_drawn(rt: HostRuntime) {
     let (status, output, errors) = run(rt.alloc(), &["plot"], SAMPLES).expect(&rt, "memory");
-    let text = std::str::from_utf8(&output).expect(&rt, "memory");
+    let text = std::str::from_utf8(&output).expect(&rt, "a text");
     assert!(rt;
         status == 0
             && errors.is_empty()

@@ -234,6 +234,6 @@ fn bimaps_are_read_back(rt: HostRuntime) {
     let (bimap, taken) = read::<BiMap<u8, u8, _>, _>(alloc, bytes, &any);
     let bimap = bimap.expect(&rt, "a value");
     assert!(rt; taken == 6 && bimap.get_key(&10) == Some(&2));
-    let (again, left) = round_trip(alloc, &bimap, b"\xff\x00", &any).expect(&rt, "memory");
+    let (again, left) = round_trip(alloc, &bimap, b"\xff\x00", &any).expect(&rt, "a value");
     assert!(rt; again == bimap && left == 2);
 }

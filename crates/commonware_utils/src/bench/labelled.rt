@@ -123,7 +123,7 @@ fn equal_sets_of_labelled_items_have_equal_bytes(rt: HostRuntime) {
 fn a_labelled_item_is_read_back_equal(rt: HostRuntime) {
     let item = item(7, 'x');
     assert!(rt; item.is_writable());
-    let (again, left) = round_trip(rt.alloc(), &item, b"\x01\x02", &()).expect(&rt, "memory");
+    let (again, left) = round_trip(rt.alloc(), &item, b"\x01\x02", &()).expect(&rt, "a value");
     assert!(rt; again == item && again.label == 'r' && left == 2);
 }
 

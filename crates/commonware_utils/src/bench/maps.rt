@@ -271,7 +271,7 @@ fn what_is_written_is_read(rt: HostRuntime) {
     let bytes = b"\x03\x01\x02\x09\x03\x0a\x14\x14";
     let (map, taken) = read::<Map<u8, u8, _>, _>(alloc, bytes, &any);
     let map = map.expect(&rt, "a value");
-    let (again, left) = round_trip(alloc, &map, b"\xff", &any).expect(&rt, "memory");
+    let (again, left) = round_trip(alloc, &map, b"\xff", &any).expect(&rt, "a value");
     assert!(rt; again == map && left == 1 && taken == 8);
 }
 

@@ -224,7 +224,7 @@ fn what_is_written_is_read(rt: HostRuntime) {
     let (v, taken) = read::<NonEmptyVec<u8, _>, _>(alloc, b"\x03\x01\x02\x03\xff", &cfg);
     let v = v.expect(&rt, "a value");
     assert!(rt; v.as_slice() == [1, 2, 3].as_slice() && taken == 4);
-    let (again, left) = round_trip(alloc, &v, b"\xff\xff", &cfg).expect(&rt, "memory");
+    let (again, left) = round_trip(alloc, &v, b"\xff\xff", &cfg).expect(&rt, "a value");
     assert!(rt; again == v && left == 2);
 }
 

@@ -99,7 +99,7 @@ fn nothing_takes_no_bytes(rt: HostRuntime) {
         assert!(rt; read::<Nothing, _>(alloc, bytes, &()) == (Ok(Nothing), 0));
     }
     assert!(rt; is_written_as(alloc, &Nothing, b"") && Nothing::MAX_ENCODE_SIZE == 0);
-    let (again, left) = round_trip(alloc, &Nothing, b"\x01\x02", &()).expect(&rt, "memory");
+    let (again, left) = round_trip(alloc, &Nothing, b"\x01\x02", &()).expect(&rt, "a value");
     assert!(rt; again == Nothing && left == 2);
 }
 

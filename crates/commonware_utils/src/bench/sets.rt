@@ -128,7 +128,7 @@ fn sets_nest_three_deep(rt: HostRuntime) {
     let (nest, taken) = read::<Set<Set<Set<u8, _>, _>, _>, _>(alloc, bytes, &cfg);
     let nest = nest.expect(&rt, "a value");
     assert!(rt; nest.len() == 2 && taken == 6);
-    let (again, left) = round_trip(alloc, &nest, b"\xff", &cfg).expect(&rt, "memory");
+    let (again, left) = round_trip(alloc, &nest, b"\xff", &cfg).expect(&rt, "a value");
     assert!(rt; again == nest && left == 1);
 }
 
