@@ -1,10 +1,7 @@
-//! The library as a user calls it, who names `commonware_utils` alone: a file a module, and each
-//! form of each macro.
+//! The library as a user calls it, who names `commonware_utils` alone: a file a module.
 #![tactic(auto)]
 
 mod committees;
-#[cfg(test)]
-mod macros;
 mod messages;
 mod peers;
 mod queues;
