@@ -84,12 +84,46 @@ fn read_lists<T: Read<A>, A: Allocator + Copy>(
 ) -> Result<Result<T, Error>, AllocError> {
     let mut sink = Vec::new(alloc);
     for list in lists {
-        let list = Vec::from_slice(alloc, list)?;
-        if list.is_writable() {
-            list.write(&mut sink)?;
-        }
+        write_list(alloc, list, &mut sink)?;
     }
     Ok(read::<T, A>(alloc, &sink, cfg).0)
+}
+
+/// Writes the bytes as a list, if they can be.
+fn write_list<A: Allocator + Copy>(
+    alloc: A,
+    bytes: &[u8],
+    sink: &mut Vec<u8, A>,
+) -> Result<(), AllocError> {
+    let list = Vec::from_slice(alloc, bytes)?;
+    if !list.is_writable() {
+        return Ok(());
+    }
+    list.write(sink)
+}
+
+/// Whether the reader answers an equal value for the bytes, and takes so many of them.
+fn is_read_as<T: Read<A> + PartialEq + Drop, A: Allocator + Copy>(
+    alloc: A,
+    bytes: &[u8],
+    cfg: &T::Cfg,
+    value: &T,
+    taken: usize,
+) -> bool {
+    match read::<T, A>(alloc, bytes, cfg) {
+        (Ok(again), position) => again == *value && position == taken,
+        _ => false,
+    }
+}
+
+/// Whether the value is written as these bytes, and they are read as it.
+fn is_coded_as<T: Read<A> + Write<A> + PartialEq + Drop, A: Allocator + Copy>(
+    alloc: A,
+    value: &T,
+    cfg: &T::Cfg,
+    bytes: &[u8],
+) -> bool {
+    is_written_as(alloc, value, bytes) && is_read_as(alloc, bytes, cfg, value, bytes.len())
 }
 
 /// Whether the value, once it is written, is read as an equal one with no byte left.
@@ -102,18 +136,23 @@ fn comes_back<T: Read<A> + Write<A> + PartialEq + Drop, A: Allocator + Copy>(
     if !value.is_writable() || value.write(&mut sink).is_err() {
         return false;
     }
-    let (again, taken) = read::<T, A>(alloc, &sink, cfg);
-    again.is_ok_and(|again| again == *value && taken == sink.len())
+    is_read_as(alloc, &sink, cfg, value, sink.len())
 }
 
 /// Whether the value has this text.
 fn is_shown_as<T: Display, A: Allocator + Copy>(alloc: A, value: &T, text: &str) -> bool {
-    format!(in alloc; "{value}").is_ok_and(|shown| shown.as_str() == text)
+    match format!(in alloc; "{value}") {
+        Ok(shown) => shown.as_str() == text,
+        Err(_) => false,
+    }
 }
 
 /// Whether the value has this text for one who looks for faults.
 fn is_debugged_as<T: Debug, A: Allocator + Copy>(alloc: A, value: &T, text: &str) -> bool {
-    format!(in alloc; "{value:?}").is_ok_and(|shown| shown.as_str() == text)
+    match format!(in alloc; "{value:?}") {
+        Ok(shown) => shown.as_str() == text,
+        Err(_) => false,
+    }
 }
 
 /// The value's hash by the standard hasher.

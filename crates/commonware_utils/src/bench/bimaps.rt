@@ -7,6 +7,7 @@ use crate::TryFromIterator;
 use crate::codec::{self, RangeCfg, round_trip};
 use crate::ordered::{BiMap, Error, Map, Set, bimap_fault_law};
 use std::alloc::Global;
+use std::process::Abort;
 
 pub(super) const REPEATED: codec::Error = codec::Error::Invalid(
     "BiMap",
@@ -29,13 +30,13 @@ const NO_BIMAPS: [(&[u8], codec::Error); 4] = [
 ];
 
 /// {1: a, 2: b, 3: c}
-fn letters(alloc: Global) -> Result<BiMap<u8, char, Global>, Error> {
-    BiMap::try_from_array(alloc, [(2u8, 'b'), (3, 'c'), (1, 'a')])
+fn letters(rt: &impl Abort, alloc: Global) -> BiMap<u8, char, Global> {
+    BiMap::try_from_array(alloc, [(2u8, 'b'), (3, 'c'), (1, 'a')]).expect(rt, "memory")
 }
 
 /// The bimap of these pairs.
-fn bimap_of(alloc: Global, pairs: &[(u8, u8)]) -> Result<BiMap<u8, u8, Global>, Error> {
-    BiMap::try_from_slice(alloc, pairs)
+fn bimap_of(rt: &impl Abort, alloc: Global, pairs: &[(u8, u8)]) -> BiMap<u8, u8, Global> {
+    BiMap::try_from_slice(alloc, pairs).expect(rt, "memory")
 }
 
 /// By every builder.
@@ -54,9 +55,17 @@ fn test_bimap_duplicate_value_error(rt: HostRuntime) {
     }
 }
 
+/// Whether the pair stands at the place, by each look-up.
+fn stands_at(bimap: &BiMap<u8, char, Global>, place: usize, key: u8, value: char) -> bool {
+    bimap.get_value(&key) == Some(&value)
+        && bimap.get(place) == Some(&key)
+        && bimap.value(place) == Some(&value)
+        && bimap.position(&key) == Some(place)
+}
+
 #[test]
 fn test_bimap_no_duplicate_values(rt: HostRuntime) {
-    let bimap = letters(rt.alloc()).expect(&rt, "memory");
+    let bimap = letters(&rt, rt.alloc());
     assert!(rt;
         bimap.len() == 3
             && !bimap.is_empty()
@@ -64,18 +73,13 @@ fn test_bimap_no_duplicate_values(rt: HostRuntime) {
             && bimap.values() == ['a', 'b', 'c'].as_slice()
     );
     for (place, key, value) in [(0usize, 1u8, 'a'), (1, 2, 'b'), (2, 3, 'c')] {
-        assert!(rt;
-            bimap.get_value(&key) == Some(&value)
-                && bimap.get(place) == Some(&key)
-                && bimap.value(place) == Some(&value)
-                && bimap.position(&key) == Some(place)
-        );
+        assert!(rt; stands_at(&bimap, place, key, value));
     }
 }
 
 #[test]
 fn test_bimap_get_key(rt: HostRuntime) {
-    let bimap = letters(rt.alloc()).expect(&rt, "memory");
+    let bimap = letters(&rt, rt.alloc());
     for (value, key) in [
         ('a', Some(&1)),
         ('b', Some(&2)),
@@ -111,7 +115,7 @@ fn the_empty_map_is_a_bimap(rt: HostRuntime) {
 
 #[test]
 fn bimaps_are_sets_of_keys(rt: HostRuntime) {
-    let bimap = letters(rt.alloc()).expect(&rt, "memory");
+    let bimap = letters(&rt, rt.alloc());
     let set: &Set<u8, Global> = &bimap;
     let keys: &Set<u8, Global> = bimap.as_ref();
     assert!(rt; set == keys && bimap.keys() == keys && bimap.iter().next_back() == Some(&3));
@@ -119,7 +123,7 @@ fn bimaps_are_sets_of_keys(rt: HostRuntime) {
 
 #[test]
 fn bimaps_are_given_up_in_parts(rt: HostRuntime) {
-    let bimap = letters(rt.alloc()).expect(&rt, "memory");
+    let bimap = letters(&rt, rt.alloc());
     let pairs = bimap
         .clone()
         .expect(&rt, "memory")
@@ -134,7 +138,7 @@ fn bimaps_are_given_up_in_parts(rt: HostRuntime) {
 /// The lines on bimaps; those on maps stand with the pairs of maps.
 #[test]
 fn test_pair_iterators(rt: HostRuntime) {
-    let bimap = bimap_of(rt.alloc(), &[(3, 30), (1, 10), (2, 20)]).expect(&rt, "memory");
+    let bimap = bimap_of(&rt, rt.alloc(), &[(3, 30), (1, 10), (2, 20)]);
     let steps = [
         (false, Some((&1, &10)), 2),
         (true, Some((&3, &30)), 1),
@@ -156,29 +160,17 @@ fn bimaps_are_shown(rt: HostRuntime) {
         ([(2, 10), (1, 20)].as_slice(), "[(1, 20), (2, 10)]"),
         (&[], "[]"),
     ] {
-        assert!(rt; is_shown_as(alloc, &bimap_of(alloc, pairs).expect(&rt, "memory"), text));
+        assert!(rt; is_shown_as(alloc, &bimap_of(&rt, alloc, pairs), text));
     }
-    assert!(rt;
-        is_debugged_as(
-            alloc,
-            &bimap_of(alloc, &[(1, 10)]).expect(&rt, "memory"),
-            "BiMap([(1, 10)])"
-        )
-    );
+    assert!(rt; is_debugged_as(alloc, &bimap_of(&rt, alloc, &[(1, 10)]), "BiMap([(1, 10)])"));
 }
 
 #[test]
 fn equal_bimaps_hash_alike(rt: HostRuntime) {
-    let bimap = bimap_of(rt.alloc(), &[(2, 20), (1, 10)]).expect(&rt, "memory");
+    let bimap = bimap_of(&rt, rt.alloc(), &[(2, 20), (1, 10)]);
     assert!(rt; are_equal(&bimap, &bimap.clone().expect(&rt, "memory"), true));
     for other in [[(1, 10), (2, 21)], [(1, 10), (3, 20)], [(1, 20), (2, 10)]] {
-        assert!(rt;
-            are_equal(
-                &bimap,
-                &bimap_of(rt.alloc(), &other).expect(&rt, "memory"),
-                false
-            )
-        );
+        assert!(rt; are_equal(&bimap, &bimap_of(&rt, rt.alloc(), &other), false));
     }
 }
 
@@ -186,22 +178,18 @@ fn equal_bimaps_hash_alike(rt: HostRuntime) {
 fn bimaps_are_written_as_maps(rt: HostRuntime) {
     let alloc = rt.alloc();
     bimap_fault_law::<u8, u8, _>(alloc, RangeCfg::from(..), &(), &());
-    let two = bimap_of(alloc, &[(2, 10), (1, 20)]).expect(&rt, "memory");
+    let two = bimap_of(&rt, alloc, &[(2, 10), (1, 20)]);
     assert!(rt; is_written_as(alloc, &two, b"\x02\x01\x02\x02\x14\x0a"));
-}
-
-/// The list of the bimaps of these pairs.
-fn bimaps_of(alloc: Global, lists: &[&[(u8, u8)]]) -> Result<Vec<BiMap<u8, u8, Global>>, Error> {
-    let mut bimaps = Vec::new(alloc);
-    for pairs in lists {
-        bimaps.push(bimap_of(alloc, pairs)?)?;
-    }
-    Ok(bimaps)
 }
 
 #[test]
 fn bimaps_stand_in_lists(rt: HostRuntime) {
-    let bimaps = bimaps_of(rt.alloc(), &[&[], &[(5, 6)]]).expect(&rt, "memory");
+    let mut bimaps = Vec::new(rt.alloc());
+    for pairs in [[].as_slice(), &[(5, 6)]] {
+        bimaps
+            .push(bimap_of(&rt, rt.alloc(), pairs))
+            .expect(&rt, "memory");
+    }
     assert!(rt; is_written_as(rt.alloc(), &bimaps, b"\x02\x00\x00\x01\x05\x01\x06"));
 }
 

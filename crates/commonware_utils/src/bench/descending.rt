@@ -12,12 +12,13 @@ ghost use Rattle.commonware_utils.specs.Codec.{canonical_on, laws_on, prefix_fre
 ghost use Rattle.commonware_utils.specs.Roots.{equal_from_same};
 
 use super::sets::UNSORTED;
-use super::{are_ordered, comes_back, is_written_as, read, refuses};
+use super::{are_ordered, comes_back, is_coded_as, refuses};
 use crate::codec::{Canonical, EncodeSize, Error, MaxEncodeSize, RangeCfg, Read, Source, Write};
 use crate::ordered::{BiMap, Map, Set};
 use crate::{EqClone, TryFromIterator};
 use std::alloc::{AllocError, Allocator, Global};
 use std::cmp::Ordering;
+use std::process::Abort;
 
 /// A byte. The greater one comes first.
 #[derive(Clone, Copy, Debug, PartialEq, Eq, Hash)]
@@ -111,8 +112,12 @@ impl Canonical for Descending {
 }
 
 /// The set of these bytes.
-fn set_of(alloc: Global, bytes: &[u8]) -> Result<Set<Descending, Global>, AllocError> {
-    Set::from_iter_dedup(alloc, bytes.iter().map(|byte| Descending(*byte)))
+fn set_of(rt: &impl Abort, alloc: Global, bytes: &[u8]) -> Set<Descending, Global> {
+    let mut items = Vec::new(alloc);
+    for byte in bytes {
+        items.push(Descending(*byte)).expect(rt, "memory");
+    }
+    Set::from_iter_dedup(alloc, items).expect(rt, "memory")
 }
 
 #[test]
@@ -133,10 +138,7 @@ fn builders_put_the_greatest_first(rt: HostRuntime) {
     let falling = [Descending(3), Descending(2), Descending(1)];
     let mixed = vec![in alloc; Descending(1), Descending(3), Descending(2)].expect(&rt, "memory");
     assert!(rt;
-        set_of(alloc, &[1, 3, 1, 2])
-            .expect(&rt, "memory")
-            .as_slice()
-            == falling.as_slice()
+        set_of(&rt, alloc, &[1, 3, 1, 2]).as_slice() == falling.as_slice()
             && Set::try_from_iter(alloc, mixed.clone().expect(&rt, "memory"))
                 .expect(&rt, "memory")
                 .as_slice()
@@ -153,15 +155,14 @@ fn builders_put_the_greatest_first(rt: HostRuntime) {
 fn only_falling_bytes_are_read(rt: HostRuntime) {
     let alloc = rt.alloc();
     let any = (RangeCfg::from(..), ());
-    let set = set_of(alloc, &[1, 2, 3]).expect(&rt, "memory");
+    let set = set_of(&rt, alloc, &[1, 2, 3]);
     let bytes = b"\x03\x03\x02\x01";
     let rows = [
         (b"\x03\x01\x02\x03".as_slice(), UNSORTED),
         (b"\x02\x02\x02", UNSORTED),
     ];
     assert!(rt;
-        is_written_as(alloc, &set, bytes)
-            && read::<Set<Descending, _>, _>(alloc, bytes, &any) == (Ok(set), 4)
+        is_coded_as(alloc, &set, &any, bytes)
             && refuses::<Set<Descending, _>, _>(alloc, &any, &rows)
     );
 }
@@ -189,14 +190,9 @@ fn sets_of_falling_sets_are_written_and_read(rt: HostRuntime) {
     let any = RangeCfg::from(..);
     let mut sets = Vec::new(alloc);
     for bytes in [[1].as_slice(), &[1, 2], &[], &[2]] {
-        sets.push(set_of(alloc, bytes).expect(&rt, "memory"))
-            .expect(&rt, "memory");
+        sets.push(set_of(&rt, alloc, bytes)).expect(&rt, "memory");
     }
     let nest = Set::from_iter_dedup(alloc, sets).expect(&rt, "memory");
     let bytes = b"\x04\x00\x01\x02\x02\x02\x01\x01\x01";
-    assert!(rt;
-        is_written_as(alloc, &nest, bytes)
-            && read::<Set<Set<Descending, _>, _>, _>(alloc, bytes, &(any, (any, ())))
-                == (Ok(nest), 9)
-    );
+    assert!(rt; is_coded_as(alloc, &nest, &(any, (any, ())), bytes));
 }

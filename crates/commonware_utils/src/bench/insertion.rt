@@ -85,14 +85,22 @@ const AGAIN: [Row; 5] = [
 
 /// Whether these items, in this order, are the set's.
 fn is_set(set: &Set<Labelled, Global>, kept: &[(u8, char)]) -> bool {
-    let items = set.iter().map(|item| (item.number, item.label));
-    items.eq(kept.iter().copied())
+    for (item, (number, label)) in set.as_slice().iter().zip(kept) {
+        if item.number != *number || item.label != *label {
+            return false;
+        }
+    }
+    set.len() == kept.len()
 }
 
 /// Whether these pairs, in this order, are the map's.
 fn is_map(map: &Map<u8, char, Global>, kept: &[(u8, char)]) -> bool {
-    let pairs = map.iter_pairs().map(|(key, value)| (*key, *value));
-    pairs.eq(kept.iter().copied())
+    for ((key, value), (number, label)) in map.iter_pairs().zip(kept) {
+        if *key != *number || *value != *label {
+            return false;
+        }
+    }
+    map.len() == kept.len()
 }
 
 /// Whether the items of the set are the numbers from 0 up to this one, which is left out.
@@ -100,25 +108,41 @@ fn counts_to(set: &Set<u32, Global>, end: u32) -> bool {
     set.iter().copied().eq(0..end)
 }
 
-/// Whether of equal items of the row the first one stays, or, where none may be equal, the row is
-/// refused.
+/// The items of these numbers and labels.
+fn labelled(alloc: Global, pairs: &[(u8, char)]) -> Result<Vec<Labelled>, AllocError> {
+    let mut items = Vec::new(alloc);
+    for (number, label) in pairs {
+        items.push(item(*number, *label))?;
+    }
+    Ok(items)
+}
+
+/// Whether of equal items the first one stays, or, where none may be equal, they are refused.
+fn makes_set(alloc: Global, items: &[Labelled], kept: &[(u8, char)]) -> Result<bool, AllocError> {
+    let set = Set::from_iter_dedup(alloc, items.iter().copied())?;
+    let answered = match Set::try_from_iter(alloc, items.iter().copied()) {
+        Ok(whole) => items.len() == kept.len() && is_set(&whole, kept),
+        Err(error) => error == Error::DuplicateKey && items.len() > kept.len(),
+    };
+    Ok(answered && is_set(&set, kept))
+}
+
+/// The same of pairs by their keys.
+fn makes_map(alloc: Global, pairs: &[(u8, char)], kept: &[(u8, char)]) -> Result<bool, AllocError> {
+    let map = Map::from_iter_dedup(alloc, pairs.iter().copied())?;
+    let answered = match Map::try_from_iter(alloc, pairs.iter().copied()) {
+        Ok(whole) => pairs.len() == kept.len() && is_map(&whole, kept),
+        Err(error) => error == Error::DuplicateKey && pairs.len() > kept.len(),
+    };
+    Ok(answered && is_map(&map, kept))
+}
+
+/// Whether a set and a map are made of the row as it says.
 fn is_built(alloc: Global, row: &Row) -> Result<bool, AllocError> {
     let (numbers, kept) = *row;
     let pairs: Vec<(u8, char)> = numbers.iter().copied().zip(LETTERS.chars()).collect(alloc)?;
-    let items = pairs.iter().map(|pair| item(pair.0, pair.1));
-    let items: Vec<Labelled> = items.collect(alloc)?;
-    let set = Set::from_iter_dedup(alloc, items.iter().copied())?;
-    let map = Map::from_iter_dedup(alloc, pairs.iter().copied())?;
-    let set_answer = Set::try_from_iter(alloc, items);
-    let map_answer = Map::try_from_iter(alloc, pairs);
-    let answered = match (set_answer, map_answer) {
-        (Ok(set), Ok(map)) => {
-            numbers.len() == kept.len() && is_set(&set, kept) && is_map(&map, kept)
-        }
-        (Err(Error::DuplicateKey), Err(Error::DuplicateKey)) => numbers.len() > kept.len(),
-        _ => false,
-    };
-    Ok(answered && is_set(&set, kept) && is_map(&map, kept))
+    let items = labelled(alloc, &pairs)?;
+    Ok(makes_set(alloc, &items, kept)? && makes_map(alloc, &pairs, kept)?)
 }
 
 #[test]
@@ -134,70 +158,110 @@ fn rows_are_built_or_refused(rt: HostRuntime) {
     }
 }
 
-#[test]
-fn many_falling_items_are_put_in_order(rt: HostRuntime) {
-    let alloc = rt.alloc();
-    let falling = || (0..1000u32).rev();
-    let set = Set::from_iter_dedup(alloc, falling().chain(falling())).expect(&rt, "memory");
-    assert!(rt;
-        counts_to(&set, 1000)
-            && counts_to(
-                &Set::try_from_iter(alloc, falling()).expect(&rt, "memory"),
-                1000
-            )
-    );
-    let repeated = Set::try_from_iter(alloc, falling().chain(falling()));
-    assert!(rt; repeated.err() == Some(Error::DuplicateKey));
+/// The numbers below 1000 in another order, and then once more. 7919 has no divisor in common with
+/// 1000, so each comes once in each half.
+fn mixed_twice(alloc: Global) -> Result<Vec<u32>, AllocError> {
+    let mut numbers = Vec::new(alloc);
+    for i in 0..2000u32 {
+        numbers.push(i.wrapping_mul(7919) % 1000)?;
+    }
+    Ok(numbers)
 }
 
-/// 7919 has no divisor in common with 1000, so each number below 1000 comes once.
-#[test]
-fn many_mixed_items_are_put_in_order(rt: HostRuntime) {
-    let alloc = rt.alloc();
-    let mixed = || (0..1000u32).map(|i| i.wrapping_mul(7919) % 1000);
-    let set = Set::from_iter_dedup(alloc, mixed().chain(mixed())).expect(&rt, "memory");
-    assert!(rt;
-        counts_to(&set, 1000)
-            && counts_to(
-                &Set::try_from_iter(alloc, mixed()).expect(&rt, "memory"),
-                1000
-            )
-    );
-    let map = Map::try_from_iter(alloc, mixed().map(|i| (i, i / 2))).expect(&rt, "memory");
-    assert!(rt; counts_to(&map, 1000) && map.values().iter().copied().eq((0..1000).map(|i| i / 2)));
+/// The numbers below 1000 from the greatest on, and then once more.
+fn falling_twice(alloc: Global) -> Result<Vec<u32>, AllocError> {
+    (0..1000u32).rev().chain((0..1000).rev()).collect(alloc)
 }
 
+/// Whether numbers that are those below 1000 in an order, and then once more in the same, are put
+/// in order: equal ones are left out, or refused where none may be equal.
+fn are_put_in_order(alloc: Global, numbers: &[u32]) -> Result<bool, Error> {
+    let (half, _) = numbers.split_at(numbers.len() / 2);
+    let set = Set::from_iter_dedup(alloc, numbers.iter().copied())?;
+    let whole = Set::try_from_iter(alloc, half.iter().copied())?;
+    let repeated = Set::try_from_iter(alloc, numbers.iter().copied());
+    Ok(
+        counts_to(&set, 1000)
+            && counts_to(&whole, 1000)
+            && repeated.err() == Some(Error::DuplicateKey),
+    )
+}
+
+#[test]
+fn many_items_are_put_in_order(rt: HostRuntime) {
+    for numbers in [falling_twice(rt.alloc()), mixed_twice(rt.alloc())] {
+        let numbers = numbers.expect(&rt, "memory");
+        assert!(rt; are_put_in_order(rt.alloc(), &numbers) == Ok(true));
+    }
+}
+
+/// Whether each value of the map is half of its key.
+fn are_halves(map: &Map<u32, u32, Global>) -> bool {
+    for (key, value) in map {
+        if *value != *key / 2 {
+            return false;
+        }
+    }
+    true
+}
+
+#[test]
+fn many_mixed_pairs_are_put_in_order(rt: HostRuntime) {
+    let mut pairs = Vec::new(rt.alloc());
+    for i in 0..1000u32 {
+        let key = i.wrapping_mul(7919) % 1000;
+        pairs.push((key, key / 2)).expect(&rt, "memory");
+    }
+    let map = Map::try_from_iter(rt.alloc(), pairs).expect(&rt, "memory");
+    assert!(rt; counts_to(&map, 1000) && are_halves(&map));
+}
+
+/// The numbers below 100 as labels of their last digits.
+fn labels_of_digits(alloc: Global) -> Result<Vec<(u8, char)>, AllocError> {
+    let mut pairs = Vec::new(alloc);
+    for i in 0..100u8 {
+        pairs.push((i % 10, char::from(i)))?;
+    }
+    Ok(pairs)
+}
+
+/// Each digit has its first label among the first ten pairs.
 #[test]
 fn the_first_label_of_a_number_stays(rt: HostRuntime) {
-    let items = (0..100u8).map(|i| item(i % 10, char::from(i)));
+    let pairs = labels_of_digits(rt.alloc()).expect(&rt, "memory");
+    let items = labelled(rt.alloc(), &pairs).expect(&rt, "memory");
     let set = Set::from_iter_dedup(rt.alloc(), items).expect(&rt, "memory");
-    let numbers = set.iter().map(|item| item.number);
-    let labels = set.iter().map(|item| item.label);
-    assert!(rt; numbers.eq(0..10) && labels.eq((0..10u8).map(char::from)));
+    let map = Map::from_iter_dedup(rt.alloc(), pairs.iter().copied()).expect(&rt, "memory");
+    let (kept, _) = pairs.split_at(10);
+    assert!(rt; kept.len() == 10 && is_set(&set, kept) && is_map(&map, kept));
 }
 
-#[test]
-fn the_first_value_of_a_key_stays(rt: HostRuntime) {
-    let map = Map::from_iter_dedup(rt.alloc(), (0..100u8).map(|i| (i % 10, i))).expect(
-        &rt, "memory",
-    );
-    assert!(rt;
-        map.iter_pairs()
-            .map(|(key, value)| (*key, *value))
-            .eq((0..10u8).map(|i| (i, i)))
-    );
+/// The even numbers below 300, and then the multiples of three.
+fn two_rows(alloc: Global) -> Result<Vec<(u32, char)>, AllocError> {
+    let mut pairs = Vec::new(alloc);
+    for (count, step, label) in [(150u32, 2u32, 'a'), (100, 3, 'b')] {
+        for i in 0..count {
+            pairs.push((i.wrapping_mul(step), label))?;
+        }
+    }
+    Ok(pairs)
+}
+
+/// Whether each key is in one of the two rows, and has the label of the first that has it.
+fn are_first_labels(map: &Map<u32, char, Global>) -> bool {
+    for (key, label) in map {
+        let expected = if *key % 2 == 0 { 'a' } else { 'b' };
+        if *key >= 300 || (*key % 2 != 0 && *key % 3 != 0) || *label != expected {
+            return false;
+        }
+    }
+    true
 }
 
 /// Of the numbers below 300, 150 are even, and 50 of the others are multiples of three.
 #[test]
 fn two_long_rows_become_one(rt: HostRuntime) {
-    let twos = (0..300u32).filter(|i| *i % 2 == 0).map(|i| (i, 'a'));
-    let threes = (0..300u32).filter(|i| *i % 3 == 0).map(|i| (i, 'b'));
-    let map = Map::from_iter_dedup(rt.alloc(), twos.chain(threes)).expect(&rt, "memory");
-    let firsts = |i: &u32| if *i % 2 == 0 { 'a' } else { 'b' };
-    assert!(rt;
-        map.len() == 200
-            && map.iter().all(|i| *i < 300 && (*i % 2 == 0 || *i % 3 == 0))
-            && map.iter_pairs().all(|(i, label)| *label == firsts(i))
-    );
+    let rows = two_rows(rt.alloc()).expect(&rt, "memory");
+    let map = Map::from_iter_dedup(rt.alloc(), rows).expect(&rt, "memory");
+    assert!(rt; map.len() == 200 && are_first_labels(&map));
 }

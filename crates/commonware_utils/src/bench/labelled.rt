@@ -92,15 +92,19 @@ pub(super) const fn item(number: u8, label: char) -> Labelled {
     Labelled { number, label }
 }
 
+/// Whether there is an item, and it has this number and label.
+fn is_item(found: Option<&Labelled>, number: u8, label: char) -> bool {
+    match found {
+        Some(item) => item.number == number && item.label == label,
+        None => false,
+    }
+}
+
 #[test]
 fn the_first_of_equals_stays(rt: HostRuntime) {
     let items = [item(2, 'x'), item(1, 'y'), item(2, 'z')];
     let set = Set::from_iter_dedup(rt.alloc(), items).expect(&rt, "memory");
-    assert!(rt;
-        set.len() == 2
-            && set.get(0).map(|item| (item.number, item.label)) == Some((1, 'y'))
-            && set.get(1).map(|item| (item.number, item.label)) == Some((2, 'x'))
-    );
+    assert!(rt; set.len() == 2 && is_item(set.get(0), 1, 'y') && is_item(set.get(1), 2, 'x'));
 }
 
 #[test]
@@ -110,9 +114,7 @@ fn equal_sets_of_labelled_items_have_equal_bytes(rt: HostRuntime) {
     let set = Set::from_iter_dedup(alloc, [item(2, 'x'), item(1, 'y')]).expect(&rt, "memory");
     let (read_set, taken) = read::<Set<Labelled, _>, _>(alloc, b"\x02\x01\x02", &(any, ()));
     let read_set = read_set.expect(&rt, "a value");
-    assert!(rt;
-        taken == 3 && read_set.get(0).map(|item| item.label) == Some('r') && read_set == set
-    );
+    assert!(rt; taken == 3 && is_item(read_set.get(0), 1, 'r') && read_set == set);
     for written in [&set, &read_set] {
         assert!(rt; is_written_as(alloc, written, b"\x02\x01\x02"));
     }

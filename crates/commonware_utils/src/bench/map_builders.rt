@@ -22,7 +22,7 @@ const LISTS: [(&[(u8, char)], Option<Parts>); 4] = [
 struct Opaque(u8);
 
 /// Whether the answer is the map of these parts, or, for `None`, that two keys are equal.
-fn answers(answer: &Result<Map<u8, char, Global>, Error>, parts: Option<(&[u8], &[char])>) -> bool {
+fn answers(answer: Result<Map<u8, char, Global>, Error>, parts: Option<(&[u8], &[char])>) -> bool {
     match (answer, parts) {
         (Ok(map), Some((keys, values))) => map.as_slice() == keys && map.values() == values,
         (Err(Error::DuplicateKey), None) => true,
@@ -46,15 +46,6 @@ fn test_map_from_iter_dedup(rt: HostRuntime) {
 }
 
 #[test]
-fn the_first_pair_of_a_key_stays(rt: HostRuntime) {
-    let map = Map::from_iter_dedup(rt.alloc(), (0..100u8).map(|i| (i % 10, i))).expect(
-        &rt, "memory",
-    );
-    let digits = [0, 1, 2, 3, 4, 5, 6, 7, 8, 9];
-    assert!(rt; map.as_slice() == digits.as_slice() && map.values() == digits.as_slice());
-}
-
-#[test]
 fn values_need_no_bound(rt: HostRuntime) {
     let alloc = rt.alloc();
     let map = Map::from_iter_dedup(
@@ -75,9 +66,9 @@ fn test_map_try_from(rt: HostRuntime) {
     for (pairs, parts) in LISTS {
         let whole = Vec::from_slice(alloc, pairs).expect(&rt, "memory");
         assert!(rt;
-            answers(&Map::try_from_vec(whole), parts)
-                && answers(&Map::try_from_iter(alloc, pairs.iter().copied()), parts)
-                && answers(&Map::try_from_slice(alloc, pairs), parts)
+            answers(Map::try_from_vec(whole), parts)
+                && answers(Map::try_from_iter(alloc, pairs.iter().copied()), parts)
+                && answers(Map::try_from_slice(alloc, pairs), parts)
         );
     }
 }
@@ -85,13 +76,13 @@ fn test_map_try_from(rt: HostRuntime) {
 #[test]
 fn test_map_try_from_duplicate(rt: HostRuntime) {
     let pairs = vec![in rt.alloc(); (3u8, 'c'), (1, 'a'), (2, 'b'), (1, 'd')].expect(&rt, "memory");
-    assert!(rt; answers(&Map::try_from_vec(pairs), None));
+    assert!(rt; answers(Map::try_from_vec(pairs), None));
 }
 
 #[test]
 fn test_map_try_from_iter_duplicate(rt: HostRuntime) {
     let pairs = vec![in rt.alloc(); (3u8, 'c'), (1, 'a'), (2, 'b'), (1, 'd')].expect(&rt, "memory");
-    assert!(rt; answers(&Map::try_from_iter(rt.alloc(), pairs), None));
+    assert!(rt; answers(Map::try_from_iter(rt.alloc(), pairs), None));
 }
 
 /// Whether an array, and a reference to it, are answered with the map of these parts.
@@ -100,8 +91,8 @@ fn arrays_answer<const N: usize>(
     pairs: [(u8, char); N],
     parts: Option<(&[u8], &[char])>,
 ) -> bool {
-    answers(&Map::try_from_array_ref(alloc, &pairs), parts)
-        && answers(&Map::try_from_array(alloc, pairs), parts)
+    answers(Map::try_from_array_ref(alloc, &pairs), parts)
+        && answers(Map::try_from_array(alloc, pairs), parts)
 }
 
 #[test]
@@ -123,6 +114,16 @@ fn the_empty_map_holds_nothing(rt: HostRuntime) {
     assert!(rt; empty.is_empty() && empty.len() == 0 && empty.values().is_empty());
 }
 
+/// Whether the keys of the map are those of the pairs, in their order.
+fn are_keys_of(map: &Map<u8, char, Global>, pairs: &[(u8, char)]) -> bool {
+    for (key, pair) in map.as_slice().iter().zip(pairs) {
+        if *key != pair.0 {
+            return false;
+        }
+    }
+    map.len() == pairs.len()
+}
+
 #[test]
 fn test_map_from_set(rt: HostRuntime) {
     let alloc = rt.alloc();
@@ -133,12 +134,7 @@ fn test_map_from_set(rt: HostRuntime) {
         Set::try_from_iter(alloc, pairs).expect(&rt, "memory"),
     )
     .expect(&rt, "memory");
-    let keys: Vec<u8> = first
-        .iter()
-        .map(|pair| pair.0)
-        .collect(alloc)
-        .expect(&rt, "memory");
-    assert!(rt; keys.as_slice() == wrapped.as_slice());
+    assert!(rt; are_keys_of(&wrapped, first.as_slice()));
 }
 
 /// The contents that the test of the Rust crate `test_map_from_parts_reuses_allocations` compares.

@@ -1,11 +1,13 @@
 //! Iterators over the pairs of maps: both ends, the number left, and what is written through them.
 use crate::ordered::{Map, MapIntoIter, Pairs, PairsMut, Set};
 use std::alloc::Global;
+use std::process::Abort;
 
 /// {1: 10, 2: 20, 3: 30}
-pub(super) fn tens(alloc: Global) -> Option<Map<u8, u8, Global>> {
-    let keys = Set::from_iter_dedup(alloc, [3u8, 1, 2]).ok()?;
-    Map::from_parts(keys, vec![in alloc; 10, 20, 30].ok()?)
+pub(super) fn tens(rt: &impl Abort, alloc: Global) -> Map<u8, u8, Global> {
+    let keys = Set::from_iter_dedup(alloc, [3u8, 1, 2]).expect(rt, "memory");
+    let values = vec![in alloc; 10, 20, 30].expect(rt, "memory");
+    Map::from_parts(keys, values).expect(rt, "uneven")
 }
 
 /// Whether so many pairs are told at first, and each step, from the back where that is said, gives
@@ -64,28 +66,40 @@ fn pairs_are_given_from_both_ends(rt: HostRuntime) {
         (false, None, 0),
     ];
     assert!(rt; gives(two.into_iter(), 2, &steps));
-    let three = tens(rt.alloc()).expect(&rt, "memory");
+    let three = tens(&rt, rt.alloc());
     assert!(rt; gives(three.into_iter(), 3, &[(false, Some((1, 10)), 2)]));
+}
+
+/// Two digits more for a pair: its key and its value, added up.
+fn with_pair(digits: u32, key: u8, value: u8) -> u32 {
+    digits
+        .wrapping_mul(100)
+        .wrapping_add(u32::from(key))
+        .wrapping_add(u32::from(value))
+}
+
+/// The digits of the pairs that a loop is lent.
+fn walked(map: &Map<u8, u8, Global>) -> u32 {
+    let mut digits = 0;
+    for (key, value) in map {
+        digits = with_pair(digits, *key, *value);
+    }
+    digits
+}
+
+/// The digits of the pairs that a loop is given.
+fn taken(map: Map<u8, u8, Global>) -> u32 {
+    let mut digits = 0;
+    for (key, value) in map {
+        digits = with_pair(digits, key, value);
+    }
+    digits
 }
 
 #[test]
 fn a_loop_walks_the_pairs(rt: HostRuntime) {
-    let map = tens(rt.alloc()).expect(&rt, "memory");
-    let mut walked = 0u32;
-    for (key, value) in &map {
-        walked = walked
-            .wrapping_mul(100)
-            .wrapping_add(u32::from(*key))
-            .wrapping_add(u32::from(*value));
-    }
-    let mut taken = 0u32;
-    for (key, value) in map {
-        taken = taken
-            .wrapping_mul(100)
-            .wrapping_add(u32::from(key))
-            .wrapping_add(u32::from(value));
-    }
-    assert!(rt; walked == 112_233 && taken == 112_233);
+    let map = tens(&rt, rt.alloc());
+    assert!(rt; walked(&map) == 112_233 && taken(map) == 112_233);
 }
 
 /// Adds the key to the value, and tells both as they were.
@@ -113,7 +127,7 @@ fn adds_keys(map: &mut Map<u8, u8, Global>) -> bool {
 /// The lines on maps; those on bimaps stand with the bimaps.
 #[test]
 fn test_pair_iterators(rt: HostRuntime) {
-    let mut map = tens(rt.alloc()).expect(&rt, "memory");
+    let mut map = tens(&rt, rt.alloc());
     let steps = [
         (false, Some((&1, &10)), 2),
         (true, Some((&3, &30)), 1),
@@ -132,7 +146,7 @@ fn test_pair_iterators(rt: HostRuntime) {
 
 #[test]
 fn the_number_left_is_told(rt: HostRuntime) {
-    let mut map = tens(rt.alloc()).expect(&rt, "memory");
+    let mut map = tens(&rt, rt.alloc());
     let mut lent = map.iter_pairs_mut();
     let _ = lent.next();
     assert!(rt; lent.len() == 2 && lent.size_hint() == (2, Some(2)));
@@ -140,7 +154,7 @@ fn the_number_left_is_told(rt: HostRuntime) {
 
 #[test]
 fn values_are_written_in_a_loop(rt: HostRuntime) {
-    let mut map = tens(rt.alloc()).expect(&rt, "memory");
+    let mut map = tens(&rt, rt.alloc());
     for (key, value) in map.iter_pairs_mut() {
         *value = value.wrapping_add(*key);
     }
@@ -149,15 +163,18 @@ fn values_are_written_in_a_loop(rt: HostRuntime) {
     );
 }
 
+/// Whether the last key of 7, 3 is added to the last value of 1, 2.
+fn adds_last_key() -> bool {
+    let mut values = [1u8, 2];
+    let mut lent = PairsMut::new([7u8, 3].as_slice(), values.as_mut_slice());
+    add_key(lent.next_back()) == Some((3, 2)) && values == [1, 5]
+}
+
 /// Lists that are no map's: the keys 7, 3 beside the values 1, 2.
 #[test]
 fn two_lists_are_walked_side_by_side(rt: HostRuntime) {
     let shown = Pairs::new([7u8, 3].as_slice(), [1u8, 2].as_slice());
-    assert!(rt; lends(shown, 2, &[(true, Some((&3, &2)), 1)]));
-    let mut values = [1u8, 2];
-    let mut lent = PairsMut::new([7u8, 3].as_slice(), values.as_mut_slice());
-    let told = add_key(lent.next_back());
-    assert!(rt; told == Some((3, 2)) && values == [1, 5]);
+    assert!(rt; lends(shown, 2, &[(true, Some((&3, &2)), 1)]) && adds_last_key());
     let given = MapIntoIter::new(
         vec![in rt.alloc(); 7u8, 3].expect(&rt, "memory"),
         vec![in rt.alloc(); 1u8, 2].expect(&rt, "memory"),

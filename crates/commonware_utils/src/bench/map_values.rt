@@ -3,10 +3,19 @@ use super::map_pairs::tens;
 use super::{is_debugged_as, is_shown_as};
 use crate::ordered::{Map, MapError, Set};
 use std::alloc::Global;
+use std::process::Abort;
+
+/// Whether there are values, and they are these.
+fn are_values<E: Drop>(answer: Result<Map<u8, u8, Global>, MapError<E>>, values: &[u8]) -> bool {
+    match answer {
+        Ok(map) => map.values() == values,
+        Err(_) => false,
+    }
+}
 
 #[test]
 fn a_counter_runs_along_the_keys(rt: HostRuntime) {
-    let map = tens(rt.alloc()).expect(&rt, "memory");
+    let map = tens(&rt, rt.alloc());
     let mut counter = 0u8;
     let sums = map
         .map_values(|_, value| {
@@ -29,24 +38,24 @@ fn a_counter_runs_along_the_keys(rt: HostRuntime) {
 
 #[test]
 fn a_counter_runs_along_the_keys_that_may_fail(rt: HostRuntime) {
-    let map = tens(rt.alloc()).expect(&rt, "memory");
+    let map = tens(&rt, rt.alloc());
     let mut counter = 0u8;
     let sums: Result<_, MapError<u8>> = map.try_map_values(|_, value| {
         counter = counter.wrapping_add(*value);
         Ok(counter)
     });
-    assert!(rt; sums.is_ok_and(|sums| sums.values() == [10, 30, 60].as_slice()) && counter == 60);
+    assert!(rt; are_values(sums, &[10, 30, 60]) && counter == 60);
     let mut taken = 0u8;
     let sums: Result<_, MapError<u8>> = map.try_map_values_into(|_, value| {
         taken = taken.wrapping_add(value);
         Ok(taken)
     });
-    assert!(rt; sums.is_ok_and(|sums| sums.values() == [10, 30, 60].as_slice()) && taken == 60);
+    assert!(rt; are_values(sums, &[10, 30, 60]) && taken == 60);
 }
 
 #[test]
 fn nothing_is_called_after_the_first_error(rt: HostRuntime) {
-    let map = tens(rt.alloc()).expect(&rt, "memory");
+    let map = tens(&rt, rt.alloc());
     let mut called = 0u32;
     let failed = map.try_map_values(|key, value| {
         called = called.wrapping_mul(10).wrapping_add(u32::from(*key));
@@ -92,16 +101,19 @@ fn test_map_values_borrowed(rt: HostRuntime) {
         .expect(&rt, "memory");
     assert!(rt; mapped.keys() == map.keys() && mapped.values() == expected.as_slice());
     let tried: Result<_, MapError<()>> = map.try_map_values(|key, value| Ok((key, &value.0)));
+    let tried = tried.expect(&rt, "memory");
     assert!(rt;
-        tried.is_ok_and(|tried| tried.keys() == map.keys() && tried.values() == expected.as_slice())
-            && map.get_value(&2).is_some_and(|value| value.0 == 20)
+        tried.keys() == map.keys()
+            && tried.values() == expected.as_slice()
+            && matches!(map.get_value(&2), Some(Value(20)))
     );
 }
 
 /// {1: 10, 2: 20, 3: 30}, with keys and values that can't be cloned.
-fn owned(alloc: Global) -> Option<Map<Key, Value, Global>> {
-    let keys = Set::from_iter_dedup(alloc, [Key(3), Key(1), Key(2)]).ok()?;
-    Map::from_parts(keys, vec![in alloc; Value(10), Value(20), Value(30)].ok()?)
+fn owned(rt: &impl Abort, alloc: Global) -> Map<Key, Value, Global> {
+    let keys = Set::from_iter_dedup(alloc, [Key(3), Key(1), Key(2)]).expect(rt, "memory");
+    let values = vec![in alloc; Value(10), Value(20), Value(30)].expect(rt, "memory");
+    Map::from_parts(keys, values).expect(rt, "uneven")
 }
 
 /// Whether the keys are 1, 2 and 3, and the values 11, 22 and 33.
@@ -113,7 +125,7 @@ fn are_sums(map: &Map<Key, u8, Global>) -> bool {
 #[test]
 fn test_map_values_into_reuses_keys(rt: HostRuntime) {
     for fallible in [false, true] {
-        let map = owned(rt.alloc()).expect(&rt, "memory");
+        let map = owned(&rt, rt.alloc());
         let mut visited = 0u32;
         let mut transform = |key: &Key, value: Value| {
             visited = visited.wrapping_mul(10).wrapping_add(u32::from(key.0));
@@ -127,7 +139,7 @@ fn test_map_values_into_reuses_keys(rt: HostRuntime) {
         } else {
             map.map_values_into(transform).ok()
         };
-        assert!(rt; visited == 123 && mapped.is_some_and(|mapped| are_sums(&mapped)));
+        assert!(rt; visited == 123 && are_sums(&mapped.expect(&rt, "memory")));
     }
 }
 
@@ -140,9 +152,9 @@ fn test_map_values_empty(rt: HostRuntime) {
     assert!(rt; mapped.is_empty());
     let tried: Result<_, MapError<u8>> = map.try_map_values(|_, _| {
         called = true;
-        Ok(0u32)
+        Ok(0)
     });
-    assert!(rt; tried.is_ok_and(|tried| tried.is_empty()));
+    assert!(rt; are_values(tried, &[]));
     let again: Map<u8, u8, Global> = Map::empty(alloc);
     assert!(rt;
         again
@@ -152,15 +164,15 @@ fn test_map_values_empty(rt: HostRuntime) {
     );
     let tried: Result<_, MapError<u8>> = map.try_map_values_into(|_, _| {
         called = true;
-        Ok(0u32)
+        Ok(0)
     });
-    assert!(rt; tried.is_ok_and(|tried| tried.is_empty()) && !called);
+    assert!(rt; are_values(tried, &[]) && !called);
 }
 
 #[test]
 fn test_try_map_values_error(rt: HostRuntime) {
     for (failed_key, expected) in [(1u8, 1u32), (2, 12), (3, 123)] {
-        let map = tens(rt.alloc()).expect(&rt, "memory");
+        let map = tens(&rt, rt.alloc());
         let mut visited = 0u32;
         let mut transform = |key: &u8| {
             visited = visited.wrapping_mul(10).wrapping_add(u32::from(*key));

@@ -1,10 +1,13 @@
 //! Maps: look-ups, edits, texts, and what is written and read.
 use super::sets::UNSORTED;
-use super::{are_equal, is_debugged_as, is_shown_as, is_written_as, read, read_lists, refuses};
+use super::{
+    are_equal, is_debugged_as, is_read_as, is_shown_as, is_written_as, read, read_lists, refuses,
+};
 use crate::Participant;
 use crate::codec::{Error, RangeCfg, round_trip};
-use crate::ordered::{self, Map, Set, map_fault_law};
+use crate::ordered::{Map, Set, map_fault_law};
 use std::alloc::{AllocError, Global};
+use std::process::Abort;
 
 /// Keys, and their places and values in {1: 10, 5: 50, 9: 90}.
 const PLACES: [(u8, Option<usize>, Option<&u8>); 4] = [
@@ -37,8 +40,8 @@ const NO_MAPS: [(&[u8], Error); 5] = [
 ];
 
 /// The map of these pairs.
-fn map_of(alloc: Global, pairs: &[(u8, u8)]) -> Result<Map<u8, u8, Global>, ordered::Error> {
-    Map::try_from_slice(alloc, pairs)
+fn map_of(rt: &impl Abort, alloc: Global, pairs: &[(u8, u8)]) -> Map<u8, u8, Global> {
+    Map::try_from_slice(alloc, pairs).expect(rt, "memory")
 }
 
 /// Whether the map has these keys and values.
@@ -46,18 +49,28 @@ fn holds(map: &Map<u8, u8, Global>, keys: &[u8], values: &[u8]) -> bool {
     map.keys().as_slice() == keys && map.values() == values
 }
 
+/// Whether each key is found at its place and with its value, or isn't.
+fn has_places(map: &Map<u8, u8, Global>, rows: &[(u8, Option<usize>, Option<&u8>)]) -> bool {
+    for (key, place, value) in rows {
+        if map.position(key) != *place || map.get_value(key) != *value {
+            return false;
+        }
+    }
+    true
+}
+
+/// Whether the pair stands at the place, and none after it.
+fn ends_with_pair(map: &Map<u8, u8, Global>, place: usize, key: u8, value: u8) -> bool {
+    map.get(place) == Some(&key)
+        && map.value(place) == Some(&value)
+        && map.get(place.wrapping_add(1)) == None
+        && map.value(place.wrapping_add(1)) == None
+}
+
 #[test]
 fn keys_are_found(rt: HostRuntime) {
-    let map = map_of(rt.alloc(), &[(9, 90), (1, 10), (5, 50)]).expect(&rt, "memory");
-    for (key, place, value) in PLACES {
-        assert!(rt; map.position(&key) == place && map.get_value(&key) == value);
-    }
-    assert!(rt;
-        map.get(2) == Some(&9)
-            && map.get(3) == None
-            && map.value(2) == Some(&90)
-            && map.value(3) == None
-    );
+    let map = map_of(&rt, rt.alloc(), &[(9, 90), (1, 10), (5, 50)]);
+    assert!(rt; has_places(&map, &PLACES) && ends_with_pair(&map, 2, 9, 90));
 }
 
 /// The sum of the items.
@@ -71,34 +84,28 @@ fn sum(set: &Set<u8, Global>) -> u32 {
 
 #[test]
 fn test_map_deref_to_set(rt: HostRuntime) {
-    let map = map_of(rt.alloc(), &[(2, 20), (1, 10)]).expect(&rt, "memory");
+    let map = map_of(&rt, rt.alloc(), &[(2, 20), (1, 10)]);
     let keys: &Set<u8, Global> = map.as_ref();
-    assert!(rt; sum(&map) == 3 && keys.as_slice() == [1, 2].as_slice());
-    let walked: Vec<u8> = map
-        .iter()
-        .rev()
-        .copied()
-        .collect(rt.alloc())
-        .expect(&rt, "memory");
-    assert!(rt; walked.as_slice() == [2, 1].as_slice());
+    assert!(rt;
+        sum(&map) == 3 && keys.as_slice() == [1, 2].as_slice() && map.iter().rev().eq([2, 1].iter())
+    );
 }
 
 #[test]
 fn test_map_into_keys(rt: HostRuntime) {
-    let map = map_of(rt.alloc(), &[(3, 30), (1, 10), (2, 20)]).expect(&rt, "memory");
+    let map = map_of(&rt, rt.alloc(), &[(3, 30), (1, 10), (2, 20)]);
     assert!(rt; map.into_keys().as_slice() == [1, 2, 3].as_slice());
 }
 
 #[test]
 fn test_map_allows_duplicate_values(rt: HostRuntime) {
-    let map = map_of(rt.alloc(), &[(3, 7), (1, 7), (2, 8)]).expect(&rt, "memory");
+    let map = map_of(&rt, rt.alloc(), &[(3, 7), (1, 7), (2, 8)]);
     assert!(rt; map.len() == 3 && map.get_value(&1) == Some(&7) && map.get_value(&3) == Some(&7));
 }
 
 #[test]
 fn pairs_are_given_in_order(rt: HostRuntime) {
-    let pairs = map_of(rt.alloc(), &[(3, 7), (1, 9), (2, 8)])
-        .expect(&rt, "memory")
+    let pairs = map_of(&rt, rt.alloc(), &[(3, 7), (1, 9), (2, 8)])
         .into_pairs()
         .expect(&rt, "memory");
     assert!(rt; pairs.as_slice() == [(1, 9), (2, 8), (3, 7)].as_slice());
@@ -106,7 +113,7 @@ fn pairs_are_given_in_order(rt: HostRuntime) {
 
 #[test]
 fn pairs_past_a_length_go(rt: HostRuntime) {
-    let mut map = map_of(rt.alloc(), &[(1, 10), (2, 20)]).expect(&rt, "memory");
+    let mut map = map_of(&rt, rt.alloc(), &[(1, 10), (2, 20)]);
     for len in [1, 9] {
         map.truncate(len);
         assert!(rt; holds(&map, &[1], &[10]));
@@ -115,7 +122,7 @@ fn pairs_past_a_length_go(rt: HostRuntime) {
 
 #[test]
 fn the_value_of_a_key_is_written(rt: HostRuntime) {
-    let mut map = map_of(rt.alloc(), &[(1, 10), (2, 20)]).expect(&rt, "memory");
+    let mut map = map_of(&rt, rt.alloc(), &[(1, 10), (2, 20)]);
     if let Some(value) = map.get_value_mut(&2) {
         *value = 7;
     }
@@ -124,7 +131,7 @@ fn the_value_of_a_key_is_written(rt: HostRuntime) {
 
 #[test]
 fn test_values_mut(rt: HostRuntime) {
-    let mut map = map_of(rt.alloc(), &[(1, 10), (2, 20)]).expect(&rt, "memory");
+    let mut map = map_of(&rt, rt.alloc(), &[(1, 10), (2, 20)]);
     for value in map.values_mut() {
         *value = value.saturating_add(1);
     }
@@ -138,29 +145,17 @@ fn maps_are_shown(rt: HostRuntime) {
         ([(2, 20), (1, 10)].as_slice(), "[(1, 10), (2, 20)]"),
         (&[], "[]"),
     ] {
-        assert!(rt; is_shown_as(alloc, &map_of(alloc, pairs).expect(&rt, "memory"), text));
+        assert!(rt; is_shown_as(alloc, &map_of(&rt, alloc, pairs), text));
     }
-    assert!(rt;
-        is_debugged_as(
-            alloc,
-            &map_of(alloc, &[(1, 10)]).expect(&rt, "memory"),
-            "Map([(1, 10)])"
-        )
-    );
+    assert!(rt; is_debugged_as(alloc, &map_of(&rt, alloc, &[(1, 10)]), "Map([(1, 10)])"));
 }
 
 #[test]
 fn equal_maps_hash_alike(rt: HostRuntime) {
-    let map = map_of(rt.alloc(), &[(2, 20), (1, 10)]).expect(&rt, "memory");
+    let map = map_of(&rt, rt.alloc(), &[(2, 20), (1, 10)]);
     assert!(rt; are_equal(&map, &map.clone().expect(&rt, "memory"), true));
     for other in [[(1, 10), (2, 21)], [(1, 10), (3, 20)]] {
-        assert!(rt;
-            are_equal(
-                &map,
-                &map_of(rt.alloc(), &other).expect(&rt, "memory"),
-                false
-            )
-        );
+        assert!(rt; are_equal(&map, &map_of(&rt, rt.alloc(), &other), false));
     }
 }
 
@@ -169,7 +164,7 @@ fn maps_are_written_as_two_lists(rt: HostRuntime) {
     let alloc = rt.alloc();
     map_fault_law::<u8, u8, _>(alloc, RangeCfg::from(..), &(), &());
     for (pairs, bytes) in BYTES {
-        assert!(rt; is_written_as(alloc, &map_of(alloc, pairs).expect(&rt, "memory"), bytes));
+        assert!(rt; is_written_as(alloc, &map_of(&rt, alloc, pairs), bytes));
     }
 }
 
@@ -183,21 +178,13 @@ fn values_may_be_sets(rt: HostRuntime) {
     assert!(rt; is_written_as(alloc, &sets, b"\x02\x01\x02\x02\x00\x01\x07"));
 }
 
-/// The list of the maps of these pairs.
-fn maps_of(
-    alloc: Global,
-    lists: &[&[(u8, u8)]],
-) -> Result<Vec<Map<u8, u8, Global>>, ordered::Error> {
-    let mut maps = Vec::new(alloc);
-    for pairs in lists {
-        maps.push(map_of(alloc, pairs)?)?;
-    }
-    Ok(maps)
-}
-
 #[test]
 fn maps_stand_in_lists(rt: HostRuntime) {
-    let maps = maps_of(rt.alloc(), &[&[], &[(5, 6)]]).expect(&rt, "memory");
+    let mut maps = Vec::new(rt.alloc());
+    for pairs in [[].as_slice(), &[(5, 6)]] {
+        maps.push(map_of(&rt, rt.alloc(), pairs))
+            .expect(&rt, "memory");
+    }
     assert!(rt; is_written_as(rt.alloc(), &maps, b"\x02\x00\x00\x01\x05\x01\x06"));
 }
 
@@ -254,14 +241,8 @@ fn the_keys_of_a_text_are_in_order(rt: HostRuntime) {
     ];
     assert!(rt; refuses::<Map<u8, u8, _>, _>(rt.alloc(), &short, &rows));
     let whole = b"\x04\x01\x02\x03\x04\x04\x0a\x14\x1e\x28\xff";
-    let (map, taken) = read::<Map<u8, u8, _>, _>(rt.alloc(), whole, &short);
-    assert!(rt;
-        holds(
-            &map.expect(&rt, "a value"),
-            &[1, 2, 3, 4],
-            &[10, 20, 30, 40]
-        ) && taken == 10
-    );
+    let map = map_of(&rt, rt.alloc(), &[(1, 10), (2, 20), (3, 30), (4, 40)]);
+    assert!(rt; is_read_as(rt.alloc(), whole, &short, &map, 10));
 }
 
 #[test]

@@ -8,6 +8,7 @@ use std::alloc::Global;
 use std::cmp::Ordering;
 use std::collections::VecDeque;
 use std::num::NonZeroUsize;
+use std::process::Abort;
 
 pub(super) const EMPTY: CodecError = CodecError::Invalid(
     "NonEmptyVec",
@@ -32,8 +33,8 @@ const MESSAGES: [(Error, &str); 2] = [
 ];
 
 /// The list of these bytes.
-fn list_of(alloc: Global, items: &[u8]) -> Result<NonEmptyVec<u8, Global>, Error> {
-    NonEmptyVec::try_from_slice(alloc, items)
+fn list_of(rt: &impl Abort, alloc: Global, items: &[u8]) -> NonEmptyVec<u8, Global> {
+    NonEmptyVec::try_from_slice(alloc, items).expect(rt, "memory")
 }
 
 /// Whether the queue holds these items.
@@ -137,17 +138,21 @@ fn items_need_no_more_than_clones(rt: HostRuntime) {
     let numbers = tokens.map(|token| token.0).expect(&rt, "memory");
     assert!(rt; numbers.as_slice() == [1, 2, 7, 7].as_slice());
     let mut clone = tokens.clone().expect(&rt, "memory");
-    assert!(rt; clone.pop().is_some_and(|token| token.0 == 7) && clone.len().get() == 3);
+    assert!(rt; matches!(clone.pop(), Some(Token(7))) && clone.len().get() == 3);
 }
 
 #[test]
 fn lists_are_ordered_item_by_item(rt: HostRuntime) {
     for (items, others, order) in ORDERS {
-        let list = list_of(rt.alloc(), items).expect(&rt, "memory");
-        let other = list_of(rt.alloc(), others).expect(&rt, "memory");
+        let list = list_of(&rt, rt.alloc(), items);
+        let other = list_of(&rt, rt.alloc(), others);
         assert!(rt; are_ordered(&list, &other, order));
     }
-    let two = list_of(rt.alloc(), &[1, 2]).expect(&rt, "memory");
+}
+
+#[test]
+fn lists_are_cloned_and_shown(rt: HostRuntime) {
+    let two = list_of(&rt, rt.alloc(), &[1, 2]);
     assert!(rt;
         two == two.clone().expect(&rt, "memory")
             && is_debugged_as(rt.alloc(), &two, "NonEmptyVec([1, 2])")
@@ -176,7 +181,7 @@ fn refusals_have_messages(rt: HostRuntime) {
 fn lists_are_written_as_lists(rt: HostRuntime) {
     let alloc = rt.alloc();
     non_empty_fault_law::<u8, _>(alloc, RangeCfg::from(..), &());
-    let list = list_of(alloc, &[1, 2, 3]).expect(&rt, "memory");
+    let list = list_of(&rt, alloc, &[1, 2, 3]);
     assert!(rt; is_written_as(alloc, &list, b"\x03\x01\x02\x03"));
 }
 
@@ -185,9 +190,7 @@ fn lists_are_items(rt: HostRuntime) {
     let alloc = rt.alloc();
     let mut lists = Vec::new(alloc);
     for items in [[1, 1].as_slice(), &[1]] {
-        lists
-            .push(list_of(alloc, items).expect(&rt, "memory"))
-            .expect(&rt, "memory");
+        lists.push(list_of(&rt, alloc, items)).expect(&rt, "memory");
     }
     let set = Set::from_iter_dedup(alloc, lists).expect(&rt, "memory");
     assert!(rt; is_written_as(alloc, &set, b"\x02\x01\x01\x02\x01\x01"));
@@ -198,10 +201,7 @@ fn lists_are_keys_and_values(rt: HostRuntime) {
     let alloc = rt.alloc();
     let map = Map::from_iter_dedup(
         alloc,
-        [(
-            list_of(alloc, &[7]).expect(&rt, "memory"),
-            list_of(alloc, &[8, 9]).expect(&rt, "memory"),
-        )],
+        [(list_of(&rt, alloc, &[7]), list_of(&rt, alloc, &[8, 9]))],
     )
     .expect(&rt, "memory");
     assert!(rt; is_written_as(alloc, &map, b"\x01\x01\x07\x01\x02\x08\x09"));

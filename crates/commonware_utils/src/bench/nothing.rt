@@ -7,7 +7,7 @@ ghost use Rattle.std.proofs.Math.Nat.{le_refl};
 use super::bimaps::REPEATED;
 use super::non_empty_lists::EMPTY;
 use super::sets::UNSORTED;
-use super::{comes_back, is_written_as, read, refuses};
+use super::{is_coded_as, is_read_as, is_written_as, refuses};
 use crate::codec::{
     Canonical, EncodeSize, Error, MaxEncodeSize, RangeCfg, Read, Source, Write, round_trip,
 };
@@ -96,7 +96,7 @@ impl Canonical for Nothing {
 fn nothing_takes_no_bytes(rt: HostRuntime) {
     let alloc = rt.alloc();
     for bytes in [b"".as_slice(), b"\x80"] {
-        assert!(rt; read::<Nothing, _>(alloc, bytes, &()) == (Ok(Nothing), 0));
+        assert!(rt; is_read_as(alloc, bytes, &(), &Nothing, 0));
     }
     assert!(rt; is_written_as(alloc, &Nothing, b"") && Nothing::MAX_ENCODE_SIZE == 0);
     let (again, left) = round_trip(alloc, &Nothing, b"\x01\x02", &()).expect(&rt, "a value");
@@ -114,7 +114,7 @@ fn a_set_has_nothing_once(rt: HostRuntime) {
         set.as_slice() == [Nothing].as_slice()
             && is_written_as(alloc, &set, b"\x01")
             && refused.err() == Some(ordered::Error::DuplicateKey)
-            && read::<Set<Nothing, _>, _>(alloc, b"\x01\x02", &any) == (Ok(set), 1)
+            && is_read_as(alloc, b"\x01\x02", &any, &set, 1)
             && refuses::<Set<Nothing, _>, _>(alloc, &any, &[(b"\x02", UNSORTED)])
     );
 }
@@ -130,7 +130,7 @@ fn a_list_has_nothing_as_often_as_it_says(rt: HostRuntime) {
     ];
     assert!(rt;
         is_written_as(alloc, &three, b"\x03")
-            && read::<Vec<Nothing>, _>(alloc, b"\x03\xff", &few) == (Ok(three), 1)
+            && is_read_as(alloc, b"\x03\xff", &few, &three, 1)
             && refuses::<Vec<Nothing>, _>(alloc, &few, &rows)
     );
 }
@@ -141,8 +141,7 @@ fn a_list_of_nothing_is_not_empty(rt: HostRuntime) {
     let any = (RangeCfg::from(..), ());
     let two = non_empty_vec!(alloc => Nothing, Nothing).expect(&rt, "memory");
     assert!(rt;
-        is_written_as(alloc, &two, b"\x02")
-            && read::<NonEmptyVec<Nothing, _>, _>(alloc, b"\x02", &any) == (Ok(two), 1)
+        is_coded_as(alloc, &two, &any, b"\x02")
             && refuses::<NonEmptyVec<Nothing, _>, _>(alloc, &any, &[(b"\x00", EMPTY)])
     );
 }
@@ -154,11 +153,15 @@ fn two_keys_have_nothing_in_a_map_alone(rt: HostRuntime) {
     let bytes = b"\x02\x01\x02\x02".as_slice();
     let map = Map::try_from_iter(alloc, [(2u8, Nothing), (1, Nothing)]).expect(&rt, "memory");
     assert!(rt;
-        is_written_as(alloc, &map, bytes)
-            && comes_back(alloc, &map, &any)
+        is_coded_as(alloc, &map, &any, bytes)
             && refuses::<BiMap<u8, Nothing, _>, _>(alloc, &any, &[(bytes, REPEATED)])
             && BiMap::try_from_map(map).err() == Some(ordered::Error::DuplicateValue)
     );
+}
+
+/// Whether the one key has the one value, and this the key.
+fn is_found<A: Allocator>(pair: &BiMap<Nothing, Nothing, A>) -> bool {
+    pair.get_value(&Nothing) == Some(&Nothing) && pair.get_key(&Nothing) == Some(&Nothing)
 }
 
 #[test]
@@ -168,10 +171,8 @@ fn nothing_is_a_key_and_a_value(rt: HostRuntime) {
     let pair = BiMap::try_from_iter(alloc, [(Nothing, Nothing)]).expect(&rt, "memory");
     let repeated = BiMap::try_from_iter(alloc, [(Nothing, Nothing), (Nothing, Nothing)]);
     assert!(rt;
-        pair.get_value(&Nothing) == Some(&Nothing)
-            && pair.get_key(&Nothing) == Some(&Nothing)
-            && is_written_as(alloc, &pair, b"\x01\x01")
-            && comes_back(alloc, &pair, &any)
+        is_found(&pair)
+            && is_coded_as(alloc, &pair, &any, b"\x01\x01")
             && repeated.err() == Some(ordered::Error::DuplicateKey)
     );
 }

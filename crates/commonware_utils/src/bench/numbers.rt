@@ -1,5 +1,5 @@
 //! Bytes, words, varints and numbers in a range.
-use super::{is_shown_as, is_written_as, read, refuses};
+use super::{is_coded_as, is_read_as, is_shown_as, is_written_as, refuses};
 use crate::codec::{EncodeSize, Error, MaxEncodeSize, RangeCfg, UInt, varint_law};
 
 /// Numbers and the bytes that spell them.
@@ -48,12 +48,9 @@ fn varints_are_written_and_read(rt: HostRuntime) {
     let alloc = rt.alloc();
     varint_law();
     for (number, bytes) in VARINTS {
-        assert!(rt;
-            is_written_as(alloc, &UInt(number), bytes)
-                && read::<UInt, _>(alloc, bytes, &()) == (Ok(UInt(number)), bytes.len())
-        );
+        assert!(rt; is_coded_as(alloc, &UInt(number), &(), bytes));
     }
-    assert!(rt; read::<UInt, _>(alloc, b"\x00\x07", &()) == (Ok(UInt(0)), 1));
+    assert!(rt; is_read_as(alloc, b"\x00\x07", &(), &UInt(0), 1));
 }
 
 #[test]
@@ -65,10 +62,8 @@ fn other_spellings_are_refused(rt: HostRuntime) {
 fn words_and_bytes_have_a_fixed_length(rt: HostRuntime) {
     let alloc = rt.alloc();
     assert!(rt;
-        is_written_as(alloc, &258u32, b"\x00\x00\x01\x02")
-            && is_written_as(alloc, &7u8, b"\x07")
-            && read::<u32, _>(alloc, b"\x00\x00\x01\x02", &()) == (Ok(258), 4)
-            && read::<u8, _>(alloc, b"\x07", &()) == (Ok(7), 1)
+        is_coded_as(alloc, &258u32, &(), b"\x00\x00\x01\x02")
+            && is_coded_as(alloc, &7u8, &(), b"\x07")
             && refuses::<u32, _>(alloc, &(), &[(b"\x00\x00\x01", Error::EndOfBuffer)])
             && refuses::<u8, _>(alloc, &(), &[(b"", Error::EndOfBuffer)])
             && (
@@ -85,7 +80,7 @@ fn numbers_stay_in_their_range(rt: HostRuntime) {
     let up_to_ten = RangeCfg::from(..=10);
     assert!(rt;
         is_written_as(alloc, &300usize, b"\xac\x02")
-            && read::<usize, _>(alloc, b"\x0a", &up_to_ten) == (Ok(10), 1)
+            && is_read_as(alloc, b"\x0a", &up_to_ten, &10usize, 1)
             && refuses::<usize, _>(alloc, &up_to_ten, &[(b"\x0b", Error::InvalidLength(11))])
             && 4294967295usize.is_writable()
             && !4294967296usize.is_writable()

@@ -1,5 +1,5 @@
 //! Participants: their number, order, text and bytes.
-use super::{is_debugged_as, is_shown_as, is_written_as, read};
+use super::{is_coded_as, is_debugged_as, is_shown_as};
 use crate::Participant;
 use crate::codec::MaxEncodeSize;
 
@@ -55,11 +55,7 @@ fn test_participant_ordering(rt: HostRuntime) {
 #[test]
 fn test_participant_encode_decode(rt: HostRuntime) {
     for (index, bytes) in BYTES {
-        let participant = Participant::new(index);
-        assert!(rt;
-            is_written_as(rt.alloc(), &participant, bytes)
-                && read::<Participant, _>(rt.alloc(), bytes, &()) == (Ok(participant), bytes.len())
-        );
+        assert!(rt; is_coded_as(rt.alloc(), &Participant::new(index), &(), bytes));
     }
     assert!(rt; Participant::MAX_ENCODE_SIZE == 5);
 }

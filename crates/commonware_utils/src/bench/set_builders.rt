@@ -25,7 +25,7 @@ const MESSAGES: [(Error, &str); 3] = [
 ];
 
 /// Whether the answer is the set of these items, or, for `None`, that two are equal.
-fn answers(answer: &Result<Set<u8, Global>, Error>, items: Option<&[u8]>) -> bool {
+fn answers(answer: Result<Set<u8, Global>, Error>, items: Option<&[u8]>) -> bool {
     match (answer, items) {
         (Ok(set), Some(items)) => set.as_slice() == items,
         (Err(Error::DuplicateKey), None) => true,
@@ -39,18 +39,18 @@ fn repeats_are_refused_by_each_builder(rt: HostRuntime) {
     for (list, items) in LISTS {
         let whole = Vec::from_slice(alloc, list).expect(&rt, "memory");
         assert!(rt;
-            answers(&Set::try_from_vec(whole), items)
-                && answers(&Set::try_from_iter(alloc, list.iter().copied()), items)
-                && answers(&Set::try_from_slice(alloc, list), items)
-                && answers(&TryCollect::try_collect(list.iter().copied(), alloc), items)
+            answers(Set::try_from_vec(whole), items)
+                && answers(Set::try_from_iter(alloc, list.iter().copied()), items)
+                && answers(Set::try_from_slice(alloc, list), items)
+                && answers(TryCollect::try_collect(list.iter().copied(), alloc), items)
         );
     }
 }
 
 /// Whether an array, and a reference to it, are answered with the set of these items.
 fn arrays_answer<const N: usize>(alloc: Global, list: [u8; N], items: Option<&[u8]>) -> bool {
-    answers(&Set::try_from_array_ref(alloc, &list), items)
-        && answers(&Set::try_from_array(alloc, list), items)
+    answers(Set::try_from_array_ref(alloc, &list), items)
+        && answers(Set::try_from_array(alloc, list), items)
 }
 
 #[test]

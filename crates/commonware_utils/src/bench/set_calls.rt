@@ -1,9 +1,10 @@
 //! Sets: look-ups, walks, texts and sizes.
 use super::{is_debugged_as, is_shown_as};
-use crate::ordered::{Error, Set};
+use crate::ordered::Set;
 use crate::{Participant, TryFromIterator};
 use std::alloc::Global;
 use std::fmt;
+use std::process::Abort;
 
 /// Items, and their places in {1, 3, 5, 9}.
 const PLACES: [(u8, Option<usize>); 6] = [
@@ -118,21 +119,21 @@ impl fmt::Display for Example {
 }
 
 /// The set of the examples of these numbers.
-fn examples(alloc: Global, numbers: &[u8]) -> Result<Set<Example, Global>, Error> {
+fn examples(rt: &impl Abort, alloc: Global, numbers: &[u8]) -> Set<Example, Global> {
     let mut items = Vec::new(alloc);
     for number in numbers {
-        items.push(Example(*number))?;
+        items.push(Example(*number)).expect(rt, "memory");
     }
-    Set::try_from_iter(alloc, items)
+    Set::try_from_iter(alloc, items).expect(rt, "memory")
 }
 
 #[test]
 fn test_sorted_unique_display(rt: HostRuntime) {
     let alloc = rt.alloc();
     let text = "[ex(1), ex(2), ex(3), ex(4), ex(5), ex(6), ex(7), ex(8), ex(9)]";
-    let sorted = examples(alloc, &[1, 2, 3, 4, 5, 6, 7, 8, 9]).expect(&rt, "memory");
+    let sorted = examples(&rt, alloc, &[1, 2, 3, 4, 5, 6, 7, 8, 9]);
     assert!(rt; is_shown_as(alloc, &sorted, text));
-    let three = examples(alloc, &[1, 2, 3]).expect(&rt, "memory");
+    let three = examples(&rt, alloc, &[1, 2, 3]);
     assert!(rt; is_shown_as(alloc, &three, "[ex(1), ex(2), ex(3)]"));
 }
 

@@ -1,10 +1,13 @@
 //! Sets: what is built, written and read.
-use super::{are_ordered, comes_back, is_written_as, read, read_lists, refuses};
+use super::{
+    are_ordered, comes_back, is_coded_as, is_read_as, is_written_as, read, read_lists, refuses,
+};
 use crate::Participant;
 use crate::codec::{Error, RangeCfg, Write, round_trip};
 use crate::ordered::{Set, set_fault_law};
 use std::alloc::{AllocError, Allocator, Global};
 use std::cmp::Ordering;
+use std::process::Abort;
 
 pub(super) const UNSORTED: Error = Error::Invalid("Set", "items must be sorted and unique");
 
@@ -35,17 +38,17 @@ const ORDERS: [(&[u8], &[u8], Ordering); 5] = [
 ];
 
 /// The set of these items.
-fn set_of(alloc: Global, items: &[u8]) -> Result<Set<u8, Global>, AllocError> {
-    Set::from_iter_dedup(alloc, items.iter().copied())
+fn set_of(rt: &impl Abort, alloc: Global, items: &[u8]) -> Set<u8, Global> {
+    Set::from_iter_dedup(alloc, items.iter().copied()).expect(rt, "memory")
 }
 
 /// The set of the sets of these items.
-fn nest_of(alloc: Global, lists: &[&[u8]]) -> Result<Set<Set<u8, Global>, Global>, AllocError> {
+fn nest_of(rt: &impl Abort, alloc: Global, lists: &[&[u8]]) -> Set<Set<u8, Global>, Global> {
     let mut sets = Vec::new(alloc);
     for items in lists {
-        sets.push(set_of(alloc, items)?)?;
+        sets.push(set_of(rt, alloc, items)).expect(rt, "memory");
     }
-    Set::from_iter_dedup(alloc, sets)
+    Set::from_iter_dedup(alloc, sets).expect(rt, "memory")
 }
 
 /// Whether the set of the items is written as these bytes.
@@ -103,20 +106,17 @@ fn texts_that_are_no_set_are_refused(rt: HostRuntime) {
 #[test]
 fn what_follows_a_set_is_left(rt: HostRuntime) {
     let any = RangeCfg::from(..);
-    let (set, taken) = read::<Set<u8, _>, _>(rt.alloc(), b"\x02\x05\x09\xff\xff", &(any, ()));
-    assert!(rt; set.expect(&rt, "a value").as_slice() == [5, 9].as_slice() && taken == 3);
+    let set = set_of(&rt, rt.alloc(), &[5, 9]);
+    assert!(rt; is_read_as(rt.alloc(), b"\x02\x05\x09\xff\xff", &(any, ()), &set, 3));
 }
 
 #[test]
 fn sets_of_sets_are_written_and_read(rt: HostRuntime) {
     let alloc = rt.alloc();
     let any = RangeCfg::from(..);
-    let nest = nest_of(alloc, &[&[2], &[2, 1], &[1], &[]]).expect(&rt, "memory");
+    let nest = nest_of(&rt, alloc, &[&[2], &[2, 1], &[1], &[]]);
     let bytes = b"\x04\x00\x01\x01\x02\x01\x02\x01\x02";
-    assert!(rt;
-        is_written_as(alloc, &nest, bytes)
-            && read::<Set<Set<u8, _>, _>, _>(alloc, bytes, &(any, (any, ()))) == (Ok(nest), 9)
-    );
+    assert!(rt; is_coded_as(alloc, &nest, &(any, (any, ())), bytes));
 }
 
 #[test]
@@ -135,15 +135,15 @@ fn sets_nest_three_deep(rt: HostRuntime) {
 #[test]
 fn sets_are_ordered_as_their_lists(rt: HostRuntime) {
     for (items, others, order) in ORDERS {
-        let set = set_of(rt.alloc(), items).expect(&rt, "memory");
-        let other = set_of(rt.alloc(), others).expect(&rt, "memory");
+        let set = set_of(&rt, rt.alloc(), items);
+        let other = set_of(&rt, rt.alloc(), others);
         assert!(rt; are_ordered(&set, &other, order));
     }
 }
 
 #[test]
 fn test_sorted_unique_codec_roundtrip(rt: HostRuntime) {
-    let sorted = set_of(rt.alloc(), &[1, 2, 3, 4, 5, 6, 7, 8, 9]).expect(&rt, "memory");
+    let sorted = set_of(&rt, rt.alloc(), &[1, 2, 3, 4, 5, 6, 7, 8, 9]);
     assert!(rt; comes_back(rt.alloc(), &sorted, &(RangeCfg::from(0..=9), ())));
 }
 

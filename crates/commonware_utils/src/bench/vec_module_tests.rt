@@ -1,5 +1,5 @@
 //! The tests of the Rust crate's module `vec`, each with the name that it has there.
-ghost use Rattle.std.specs.Prelude.{◌≡◌, ◌≤◌, ◌∷◌, [], IfOk, length};
+ghost use Rattle.std.specs.Prelude.{◌≡◌, ◌≤◌, ◌∷◌, [], length};
 
 use super::non_empty_lists::EMPTY;
 use super::{comes_back, is_written_as, refuses};
@@ -8,12 +8,22 @@ use crate::vec::{Bounded, Error, Mutate, NonEmptyVec};
 use crate::{NZUsize, TryCollect, non_empty_vec};
 use std::alloc::Global;
 use std::num::NonZeroUsize;
+use std::process::Abort;
 
 /// 1, 2, 3
-fn one_two_three(alloc: Global) -> Result<NonEmptyVec<u8, Global>, Error>
-    ensures { IfOk result (λ v. v ≡ 1 ∷ 2 ∷ 3 ∷ []) }
+fn one_two_three(rt: &impl Abort, alloc: Global) -> NonEmptyVec<u8, Global>
+    ensures { result ≡ 1 ∷ 2 ∷ 3 ∷ [] }
 {
-    non_empty_vec!(alloc => 1, 2, 3)
+    non_empty_vec!(alloc => 1, 2, 3).expect(rt, "memory")
+}
+
+/// The sum of the items.
+fn sum(items: &[u8]) -> u8 {
+    let mut sum = 0u8;
+    for item in items {
+        sum = sum.wrapping_add(*item);
+    }
+    sum
 }
 
 /// Whether the list has these items.
@@ -63,41 +73,33 @@ fn test_is_singleton(rt: HostRuntime) {
     let one = non_empty_vec!(rt.alloc() => 42u8).expect(&rt, "memory");
     let two = non_empty_vec!(rt.alloc() => 1u8, 2).expect(&rt, "memory");
     assert!(rt;
-        one.is_singleton()
-            && !two.is_singleton()
-            && !one_two_three(rt.alloc())
-                .expect(&rt, "memory")
-                .is_singleton()
+        one.is_singleton() && !two.is_singleton() && !one_two_three(&rt, rt.alloc()).is_singleton()
     );
+}
+
+/// Whether the answer is the list of these items.
+fn is_list(answer: Result<NonEmptyVec<u8, Global>, Error>, items: &[u8]) -> bool {
+    match answer {
+        Ok(list) => has(&list, items),
+        Err(_) => false,
+    }
 }
 
 #[test]
 fn test_macro(rt: HostRuntime) {
     let alloc = rt.alloc();
-    let three = one_two_three(alloc).expect(&rt, "memory");
+    let three = one_two_three(&rt, alloc);
     assert!(rt; three.len().get() == 3 && *three.first() == 1 && *three.last() == 3);
-    let comma = non_empty_vec!(alloc => 1u8, 2, 3,).expect(&rt, "memory");
-    assert!(rt; comma == three);
-    let whole = non_empty_vec!(@vec![in alloc; 1u8, 2, 3].expect(&rt, "memory"));
-    assert!(rt;
-        whole == three
-            && has(&non_empty_vec!(alloc => 42).expect(&rt, "memory"), &[42])
-            && has(
-                &non_empty_vec!(alloc => 42; 5).expect(&rt, "memory"),
-                &[42; 5]
-            )
-            && has(&non_empty_vec!(alloc => 0; 1).expect(&rt, "memory"), &[0])
-            && has(
-                &non_empty_vec!(alloc => 99; NZUsize!(3)).expect(&rt, "memory"),
-                &[99; 3]
-            )
-    );
+    let whole = vec![in alloc; 1u8, 2, 3].expect(&rt, "memory");
     let n = NonZeroUsize::new(4).expect(&rt, "zero");
     assert!(rt;
-        has(
-            &non_empty_vec!(alloc => 7; @n).expect(&rt, "memory"),
-            &[7; 4]
-        )
+        is_list(non_empty_vec!(alloc => 1, 2, 3,), &[1, 2, 3])
+            && has(&non_empty_vec!(@whole), &[1, 2, 3])
+            && is_list(non_empty_vec!(alloc => 42), &[42])
+            && is_list(non_empty_vec!(alloc => 42; 5), &[42; 5])
+            && is_list(non_empty_vec!(alloc => 0; 1), &[0])
+            && is_list(non_empty_vec!(alloc => 99; NZUsize!(3)), &[99; 3])
+            && is_list(non_empty_vec!(alloc => 7; @n), &[7; 4])
     );
 }
 
@@ -142,7 +144,7 @@ fn test_try_from_iterator(rt: HostRuntime) {
 
 #[test]
 fn test_first_last(rt: HostRuntime) {
-    let mut v = one_two_three(rt.alloc()).expect(&rt, "memory");
+    let mut v = one_two_three(&rt, rt.alloc());
     assert!(rt; *v.first() == 1 && *v.last() == 3);
     *v.first_mut() = 10;
     *v.last_mut() = 30;
@@ -177,12 +179,13 @@ fn test_extend(rt: HostRuntime) {
 #[test]
 fn test_resize(rt: HostRuntime) {
     let mut v = non_empty_vec!(rt.alloc() => 1, 2).expect(&rt, "memory");
-    v.resize(NZUsize!(5), 0).expect(&rt, "memory");
-    assert!(rt; has(&v, &[1, 2, 0, 0, 0]));
-    v.resize(NZUsize!(2), 0).expect(&rt, "memory");
-    assert!(rt; has(&v, &[1, 2]));
-    v.resize(NZUsize!(1), 0).expect(&rt, "memory");
-    assert!(rt; has(&v, &[1]));
+    for (len, items) in [
+        (NZUsize!(5), [1, 2, 0, 0, 0].as_slice()),
+        (NZUsize!(2), &[1, 2]),
+        (NZUsize!(1), &[1]),
+    ] {
+        assert!(rt; v.resize(len, 0) == Ok(()) && has(&v, items));
+    }
 }
 
 #[test]
@@ -206,7 +209,7 @@ fn test_resize_with(rt: HostRuntime) {
 
 #[test]
 fn test_pop(rt: HostRuntime) {
-    let mut v = one_two_three(rt.alloc()).expect(&rt, "memory");
+    let mut v = one_two_three(&rt, rt.alloc());
     for (out, left) in [(Some(3), 2), (Some(2), 1), (None, 1)] {
         assert!(rt; v.pop() == out && v.len().get() == left);
     }
@@ -215,7 +218,7 @@ fn test_pop(rt: HostRuntime) {
 
 #[test]
 fn test_remove(rt: HostRuntime) {
-    let mut v = one_two_three(rt.alloc()).expect(&rt, "memory");
+    let mut v = one_two_three(&rt, rt.alloc());
     assert!(rt;
         v.remove(1) == Some(2)
             && has(&v, &[1, 3])
@@ -239,7 +242,7 @@ fn test_mutate(rt: HostRuntime) {
         },
     );
     assert!(rt; has(&v, &[1, 2, 3]));
-    let sum = v.mutate(|items| items.iter().fold(0u8, |sum, item| sum.wrapping_add(*item)));
+    let sum = v.mutate(|items| sum(items));
     assert!(rt; sum == 6);
 }
 
@@ -265,21 +268,20 @@ fn test_deref_mut(rt: HostRuntime) {
 
 #[test]
 fn test_into_vec(rt: HostRuntime) {
-    let items = one_two_three(rt.alloc()).expect(&rt, "memory").into_vec();
+    let items = one_two_three(&rt, rt.alloc()).into_vec();
     assert!(rt; items.as_slice() == [1, 2, 3].as_slice());
 }
 
 #[test]
 fn test_map(rt: HostRuntime) {
-    let v = one_two_three(rt.alloc()).expect(&rt, "memory");
+    let v = one_two_three(&rt, rt.alloc());
     let doubled = v.map(|item| item.wrapping_mul(2)).expect(&rt, "memory");
     assert!(rt; has(&doubled, &[2, 4, 6]) && has(&v, &[1, 2, 3]));
 }
 
 #[test]
 fn test_map_into(rt: HostRuntime) {
-    let doubled = one_two_three(rt.alloc())
-        .expect(&rt, "memory")
+    let doubled = one_two_three(&rt, rt.alloc())
         .map_into(|item| item.wrapping_mul(2))
         .expect(&rt, "memory");
     assert!(rt; has(&doubled, &[2, 4, 6]));
@@ -287,13 +289,13 @@ fn test_map_into(rt: HostRuntime) {
 
 #[test]
 fn test_from_non_empty_vec(rt: HostRuntime) {
-    let items: Vec<u8> = one_two_three(rt.alloc()).expect(&rt, "memory").into();
+    let items: Vec<u8> = one_two_three(&rt, rt.alloc()).into();
     assert!(rt; items.as_slice() == [1, 2, 3].as_slice());
 }
 
 #[test]
 fn test_index(rt: HostRuntime) {
-    let mut v = one_two_three(rt.alloc()).expect(&rt, "memory");
+    let mut v = one_two_three(&rt, rt.alloc());
     assert!(rt; v[0] == 1 && v[1] == 2 && v[2] == 3 && v.as_slice()[0..2] == [1, 2]);
     let items = v.as_mut_slice();
     items[0] = 10;
@@ -303,7 +305,7 @@ fn test_index(rt: HostRuntime) {
 
 #[test]
 fn test_iterators(rt: HostRuntime) {
-    let mut v = one_two_three(rt.alloc()).expect(&rt, "memory");
+    let mut v = one_two_three(&rt, rt.alloc());
     let mut sum = 0u8;
     for item in &v {
         sum = sum.wrapping_add(*item);
@@ -337,13 +339,7 @@ fn test_iterators(rt: HostRuntime) {
 #[test]
 fn test_codec_roundtrip(rt: HostRuntime) {
     let cfg = (RangeCfg::from(NZUsize!(1)..=NZUsize!(10)), ());
-    assert!(rt;
-        comes_back(
-            rt.alloc(),
-            &one_two_three(rt.alloc()).expect(&rt, "memory"),
-            &cfg
-        )
-    );
+    assert!(rt; comes_back(rt.alloc(), &one_two_three(&rt, rt.alloc()), &cfg));
 }
 
 #[test]
@@ -362,7 +358,7 @@ fn test_codec_rejects_empty(rt: HostRuntime) {
 
 #[test]
 fn test_as_ref(rt: HostRuntime) {
-    let v = one_two_three(rt.alloc()).expect(&rt, "memory");
+    let v = one_two_three(&rt, rt.alloc());
     assert!(rt; v.as_slice() == [1, 2, 3].as_slice());
     let items: &Vec<u8> = v.as_ref();
     assert!(rt; items.as_slice() == [1, 2, 3].as_slice());
