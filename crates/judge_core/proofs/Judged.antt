@@ -6,9 +6,9 @@ use Rattle.commonware_base.specs.declared.codec.varint.UInt.{UInt}
 use Rattle.committee_certificates.specs.CertificateLaws.{certificate_of}
 use Rattle.committee_certificates.specs.Certificates.{parts}
 use Rattle.committee_certificates.specs.declared.certificate.Certificate.{Certificate}
+use Rattle.judge_questions.specs.declared.form.Form.{Form}
+use Rattle.judge_questions.specs.declared.limits.Limits.{Limits}
 use Rattle.judge_core.specs.Readings.{IsJudged, Reading, a_certificate, a_varint, reading_of}
-use Rattle.judge_core.specs.declared.form.Form.{Form}
-use Rattle.judge_core.specs.declared.limits.Limits.{Limits}
 use Rattle.judge_core.specs.declared.verdict.Verdict.{Verdict}
 use Rattle.judge_core.proofs.Seen.{Sees, on, sees_on}
 

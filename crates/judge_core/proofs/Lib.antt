@@ -1,10 +1,5 @@
 pub mod Answering
-pub mod Digits
-pub mod FormLemmas
-pub mod HexLemmas
+pub mod FormNames
 pub mod Judged
-pub mod RangeLemmas
-pub mod RangesRead
 pub mod Seen
-pub mod Splits
 pub mod Stopping

@@ -5,13 +5,13 @@ use Rattle.std.specs.Fmt.{decimal}
 use Rattle.std.specs.List.{AllByRecursion, AllZip, flat_map, list_all}
 use Rattle.std.specs.Str.Lines.{lines}
 use Rattle.commonware_utils.specs.CodecError.{Error, EndOfBuffer, Invalid, InvalidLength, InvalidVarint, Memory}
-use Rattle.judge_core.specs.Questions.{IsQuestion, IsUnreadable}
+use Rattle.judge_questions.specs.Questions.{IsQuestion, IsUnreadable}
+use Rattle.judge_questions.specs.declared.form.Form.{Form}
+use Rattle.judge_questions.specs.declared.limits.Limits.{Limits}
+use Rattle.judge_questions.specs.declared.question.Unreadable.TheVariants.{Bytes, Name, Ranges}
 use Rattle.judge_core.specs.Readings.{IsVerdict, reading_of}
 use Rattle.judge_core.specs.declared.answer.Answer.{Answer}
 use Rattle.judge_core.specs.declared.answer.Answer.TheVariants.{Judged, Unread}
-use Rattle.judge_core.specs.declared.form.Form.{Form}
-use Rattle.judge_core.specs.declared.limits.Limits.{Limits}
-use Rattle.judge_core.specs.declared.question.Unreadable.TheVariants.{Bytes, Name, Ranges}
 use Rattle.judge_core.specs.declared.verdict.Verdict.TheVariants.{Accepted, Refused}
 
 -- the answer is right: the line asks a question and the verdict on its text is right, or what is named of it can't be

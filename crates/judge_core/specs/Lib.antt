@@ -1,10 +1,4 @@
 pub mod Answered
 pub mod Command
-pub mod Forms
-pub mod Hex
-pub mod Limits
-pub mod Questions
-pub mod Ranges
 pub mod Readings
 pub mod Session
-pub mod Words

@@ -12,15 +12,14 @@ use Rattle.commonware_utils.specs.Ordered.{IsWritableBiMap, BiMapFault}
 use Rattle.commonware_utils.specs.Vec.{IsWritableNonEmpty, NonEmptyFault}
 use Rattle.committee_certificates.specs.Certificates.{CertificateFault, IsAllowedCertificate, IsWritableCertificate}
 use Rattle.committee_certificates.specs.Certificates.{certificate_enc}
-use Rattle.judge_core.specs.declared.form.Form.{Form}
-use Rattle.judge_core.specs.declared.form.Form.TheVariants.{U8, U32, Varint, Usize, Participant, VecU8, VecU32}
-use Rattle.judge_core.specs.declared.form.Form.TheVariants.{VecVecU8, VecVecVecU8}
-use Rattle.judge_core.specs.declared.form.Form.TheVariants.{SetU8, SetU32, SetParticipant, SetSetU8, SetNonEmptyU8}
-use Rattle.judge_core.specs.declared.form.Form.TheVariants.{MapU8U8, MapU8SetU8}
-use Rattle.judge_core.specs.declared.form.Form.TheVariants.{VecMapU8U8, BiMapU8U8, NonEmptyU8, NonEmptyNonEmptyU8}
-use Rattle.judge_core.specs.declared.form.Form.TheVariants.{Certificate}
-use Rattle.judge_core.specs.declared.limits.Limits.{Limits}
-use Rattle.judge_core.specs.Limits.{HasNoZero}
+use Rattle.judge_questions.specs.declared.form.Form.{Form}
+use Rattle.judge_questions.specs.declared.form.Form.TheVariants.{U8, U32, Varint, Usize, Participant, VecU8, VecU32}
+use Rattle.judge_questions.specs.declared.form.Form.TheVariants.{VecVecU8, VecVecVecU8}
+use Rattle.judge_questions.specs.declared.form.Form.TheVariants.{SetU8, SetU32, SetParticipant, SetSetU8, SetNonEmptyU8}
+use Rattle.judge_questions.specs.declared.form.Form.TheVariants.{MapU8U8, MapU8SetU8}
+use Rattle.judge_questions.specs.declared.form.Form.TheVariants.{VecMapU8U8, BiMapU8U8, NonEmptyU8, NonEmptyNonEmptyU8}
+use Rattle.judge_questions.specs.declared.form.Form.TheVariants.{Certificate}
+use Rattle.judge_questions.specs.declared.limits.Limits.{Limits}
 use Rattle.judge_core.specs.declared.verdict.Verdict.{Verdict}
 use Rattle.judge_core.specs.declared.verdict.Verdict.TheVariants.{Accepted, Refused}
 
@@ -201,10 +200,3 @@ reading_of BiMapU8U8 l = bimap_of l.first a_byte nat_cmp a_byte nat_eq
 reading_of NonEmptyU8 l = non_empty_of l.first a_byte
 reading_of NonEmptyNonEmptyU8 l = non_empty_of l.first (non_empty_of l.second a_byte)
 reading_of Certificate l = a_certificate l.first l.second
-
--- the ranges can be those of the type: no bound of a list that is never empty is 0
-abbrev pub IsFit : Form → Limits → Type 0
-IsFit SetNonEmptyU8 l = HasNoZero l.second
-IsFit NonEmptyU8 l = HasNoZero l.first
-IsFit NonEmptyNonEmptyU8 l = HasNoZero l.first × HasNoZero l.second
-IsFit _ l = Unit {0}

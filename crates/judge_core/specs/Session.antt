@@ -2,8 +2,8 @@
 use Rattle.std.specs.Prelude.{◌≡◌, ℕ, List, [], ◌++◌, Bool, true, Option}
 use Rattle.std.specs.Io.KnownBytes.{Appends, Consumes}
 use Rattle.std.specs.Str.Lines.{lines}
+use Rattle.judge_questions.specs.Forms.{types_text}
 use Rattle.judge_core.specs.Answered.{AreAnswered, Continues}
-use Rattle.judge_core.specs.Forms.{types_text}
 use Rattle.judge_core.specs.declared.command.Command.{Command}
 use Rattle.judge_core.specs.declared.command.Command.TheVariants.{Judge, Types}
 

@@ -3,9 +3,9 @@ ghost use Rattle.std.specs.Prelude.{◌≡◌, ◌++◌, ◌∷◌, [], IfOk, On
 ghost use Rattle.judge_core.specs.Answered.{IsAnswer, answer_line, error_text, is_judged};
 
 use crate::judgement::judge;
-use crate::question::{Unreadable, read_question};
 use crate::verdict::Verdict;
 use commonware_utils::codec::Error;
+use judge_questions::{Unreadable, read_question};
 use std::alloc::{AllocError, Allocator};
 
 /// The answer to a line.

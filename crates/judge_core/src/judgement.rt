@@ -1,16 +1,16 @@
 //! What a text is as a value of a type.
 ghost use Rattle.std.specs.Prelude.{◌≡◌};
-ghost use Rattle.judge_core.specs.Readings.{IsFit, IsJudged, Reading, reading_of};
+ghost use Rattle.judge_questions.specs.Questions.{IsFit};
+ghost use Rattle.judge_core.specs.Readings.{IsJudged, Reading, reading_of};
 
 use crate::counted::Counted;
-use crate::form::Form;
-use crate::limits::Limits;
 use crate::verdict::Verdict;
 use committee_certificates::Certificate;
 use commonware_utils::Participant;
 use commonware_utils::codec::{Error, Read, Source, UInt};
 use commonware_utils::ordered::{BiMap, Map, Set};
 use commonware_utils::vec::NonEmptyVec;
+use judge_questions::{Form, Limits};
 use std::alloc::{AllocError, Allocator};
 
 /// What the text is as a value of the type under a configuration: the number of items of the value

@@ -11,30 +11,23 @@ mod arguments;
 mod command;
 mod counted;
 mod error;
-mod form;
-mod hex;
 mod judgement;
-mod limits;
 mod lines;
 mod program;
-mod question;
-mod ranges;
 mod stream;
 mod transfer;
 mod verdict;
-mod words;
 
 pub use answer::{Answer, answer_to, write_answer};
 pub use arguments::{on_host, start};
 pub use command::{Command, parse_args};
 pub use counted::Counted;
 pub use error::Failure;
-pub use form::{FORMS, Form};
-pub use hex::read_text;
+pub use judge_questions::{
+    FORMS, Form, Limit, Limits, Question, Unreadable, read_form, read_limit, read_question,
+    read_text,
+};
 pub use judgement::{judge, judge_as};
-pub use limits::{Limit, Limits};
 pub use program::{run, session};
-pub use question::{Question, Unreadable, read_form, read_question};
-pub use ranges::read_limit;
 pub use stream::{answer_all, say_types};
 pub use verdict::Verdict;

@@ -4,7 +4,7 @@ ghost use Rattle.std.specs.Str.Lines.{strip_carriage_return};
 ghost use Rattle.judge_core.specs.Answered.{AreAnswered, Continues, HasNoFeed};
 
 use crate::answer::{answer_to, write_answer};
-use crate::words::place_of;
+use judge_questions::place_of;
 use std::alloc::{AllocError, Allocator};
 
 /// Appends the answers to the whole lines of a piece of text, of which the front of the first came

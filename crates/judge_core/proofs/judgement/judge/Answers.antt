@@ -1,10 +1,10 @@
 -- Each arm is the judgement of its type, whose values are seen as lists, maps and numbers.
-use Rattle.judge_core.specs.Readings.{a_byte, a_certificate, a_varint, a_word, list_of, map_of}
 use Rattle.std.specs.Ordering.{nat_cmp}
 use Rattle.commonware_utils.specs.Codec.{as_numbers}
-use Rattle.judge_core.specs.declared.form.Form.TheVariants.{U8, U32, Varint, Usize, Participant, VecU8, VecU32, VecVecU8, VecVecVecU8}
-use Rattle.judge_core.specs.declared.form.Form.TheVariants.{SetU8, SetU32, SetParticipant, SetSetU8, SetNonEmptyU8, MapU8U8, MapU8SetU8}
-use Rattle.judge_core.specs.declared.form.Form.TheVariants.{VecMapU8U8, BiMapU8U8, NonEmptyU8, NonEmptyNonEmptyU8, Certificate}
+use Rattle.judge_questions.specs.declared.form.Form.TheVariants.{U8, U32, Varint, Usize, Participant, VecU8, VecU32, VecVecU8, VecVecVecU8}
+use Rattle.judge_questions.specs.declared.form.Form.TheVariants.{SetU8, SetU32, SetParticipant, SetSetU8, SetNonEmptyU8, MapU8U8, MapU8SetU8}
+use Rattle.judge_questions.specs.declared.form.Form.TheVariants.{VecMapU8U8, BiMapU8U8, NonEmptyU8, NonEmptyNonEmptyU8, Certificate}
+use Rattle.judge_core.specs.Readings.{a_byte, a_certificate, a_varint, a_word, list_of, map_of}
 use Rattle.judge_core.proofs.Judged.{a_uint, certificate_read, judged_along, same_limits, sees_certificate, sees_uint}
 use Rattle.judge_core.proofs.Seen.{judged_seen, sees_itself, sees_list, vec_of_items}
 use Rattle.judge_core.proofs.judgement.judge.Goals as goal

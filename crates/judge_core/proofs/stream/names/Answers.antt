@@ -1,6 +1,6 @@
 use Rattle.std.specs.String.{string_bytes}
-use Rattle.judge_core.specs.Forms.{all_forms, types_text}
-use Rattle.judge_core.proofs.FormLemmas.{names_more}
+use Rattle.judge_questions.specs.Forms.{all_forms, types_text}
+use Rattle.judge_core.proofs.FormNames.{names_more}
 use Rattle.judge_core.proofs.stream.names.Goals as goal
 
 pub loop-form-preserved : goal.loop-form-preserved

@@ -1,7 +1,7 @@
 use Rattle.std.proofs.Common.{◌≡◌, [], ◌∷◌, ◌++◌, drop}
 use Rattle.std.specs.List.{flat_map}
 use Rattle.std.specs.String.{string_bytes}
-use Rattle.judge_core.specs.Forms.{name_of, types_text}
+use Rattle.judge_questions.specs.Forms.{name_of, types_text}
 use Rattle.judge_core.proofs.stream.names.Given as goal
 
 -- the names so far, and then those of the types that are left

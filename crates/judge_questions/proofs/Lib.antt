@@ -1,0 +1,6 @@
+pub mod Digits
+pub mod FormLemmas
+pub mod HexLemmas
+pub mod RangeLemmas
+pub mod RangesRead
+pub mod Splits

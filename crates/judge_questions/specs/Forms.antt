@@ -1,0 +1,69 @@
+-- The names of the types, and how many ranges each has.
+use Rattle.std.specs.Prelude.{ℕ, List, [], ◌∷◌, ◌++◌, codes}
+use Rattle.std.specs.List.{flat_map}
+use Rattle.judge_questions.specs.declared.form.Form.{Form}
+use Rattle.judge_questions.specs.declared.form.Form.TheVariants.{U8, U32, Varint, Usize, Participant, VecU8, VecU32}
+use Rattle.judge_questions.specs.declared.form.Form.TheVariants.{VecVecU8, VecVecVecU8}
+use Rattle.judge_questions.specs.declared.form.Form.TheVariants.{SetU8, SetU32, SetParticipant, SetSetU8, SetNonEmptyU8}
+use Rattle.judge_questions.specs.declared.form.Form.TheVariants.{MapU8U8, MapU8SetU8}
+use Rattle.judge_questions.specs.declared.form.Form.TheVariants.{VecMapU8U8, BiMapU8U8, NonEmptyU8, NonEmptyNonEmptyU8}
+use Rattle.judge_questions.specs.declared.form.Form.TheVariants.{Certificate}
+
+-- the name by which a question names a type
+abbrev pub name_of : Form → List ℕ
+name_of U8 = codes "u8"
+name_of U32 = codes "u32"
+name_of Varint = codes "varint"
+name_of Usize = codes "usize"
+name_of Participant = codes "participant"
+name_of VecU8 = codes "vec<u8>"
+name_of VecU32 = codes "vec<u32>"
+name_of VecVecU8 = codes "vec<vec<u8>>"
+name_of VecVecVecU8 = codes "vec<vec<vec<u8>>>"
+name_of SetU8 = codes "set<u8>"
+name_of SetU32 = codes "set<u32>"
+name_of SetParticipant = codes "set<participant>"
+name_of SetSetU8 = codes "set<set<u8>>"
+name_of SetNonEmptyU8 = codes "set<non-empty<u8>>"
+name_of MapU8U8 = codes "map<u8,u8>"
+name_of MapU8SetU8 = codes "map<u8,set<u8>>"
+name_of VecMapU8U8 = codes "vec<map<u8,u8>>"
+name_of BiMapU8U8 = codes "bimap<u8,u8>"
+name_of NonEmptyU8 = codes "non-empty<u8>"
+name_of NonEmptyNonEmptyU8 = codes "non-empty<non-empty<u8>>"
+name_of Certificate = codes "certificate"
+
+-- how many ranges a question gives for a type
+abbrev pub lengths_of : Form → ℕ
+lengths_of U8 = 0
+lengths_of U32 = 0
+lengths_of Varint = 0
+lengths_of Usize = 1
+lengths_of Participant = 0
+lengths_of VecU8 = 1
+lengths_of VecU32 = 1
+lengths_of VecVecU8 = 2
+lengths_of VecVecVecU8 = 3
+lengths_of SetU8 = 1
+lengths_of SetU32 = 1
+lengths_of SetParticipant = 1
+lengths_of SetSetU8 = 2
+lengths_of SetNonEmptyU8 = 2
+lengths_of MapU8U8 = 1
+lengths_of MapU8SetU8 = 2
+lengths_of VecMapU8U8 = 2
+lengths_of BiMapU8U8 = 1
+lengths_of NonEmptyU8 = 1
+lengths_of NonEmptyNonEmptyU8 = 2
+lengths_of Certificate = 2
+
+-- the types
+abbrev pub all_forms : List Form
+all_forms =
+    U8 ∷ U32 ∷ Varint ∷ Usize ∷ Participant ∷ VecU8 ∷ VecU32 ∷ VecVecU8 ∷ VecVecVecU8 ∷ SetU8
+    ∷ SetU32 ∷ SetParticipant ∷ SetSetU8 ∷ SetNonEmptyU8 ∷ MapU8U8 ∷ MapU8SetU8 ∷ VecMapU8U8 ∷ BiMapU8U8 ∷ NonEmptyU8 ∷
+    NonEmptyNonEmptyU8 ∷ Certificate ∷ []
+
+-- the names of the types, each on a line
+abbrev pub types_text : List ℕ
+types_text = flat_map (λ form. name_of form ++ (10 ∷ [])) all_forms

@@ -1,0 +1,6 @@
+pub mod Forms
+pub mod Hex
+pub mod Limits
+pub mod Questions
+pub mod Ranges
+pub mod Words
