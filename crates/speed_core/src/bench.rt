@@ -71,22 +71,44 @@ impl<C: Clock, W: Write> Bench<C, W> {
         &mut self,
         work: Work<'_>,
         sum: u64,
-        mut call: F,
+        call: F,
     ) -> Result<u64, Failure>
         requires { F.IsAlwaysCallable call }
     {
-        let mut sum = sum;
         self.large = Vec::with_capacity(self.alloc, LARGE)?;
-        let start = Instant::now(&self.clock).map_err(|_| Failure::Clock)?;
-        for _ in 0..work.rounds {
-            sum = sum.wrapping_add(call()?);
-        }
-        let elapsed = start.elapsed(&self.clock).map_err(|_| Failure::Clock)?;
+        let (sum, elapsed) = timed(&self.clock, work.rounds, sum, call)?;
+        self.write(work, sum, elapsed)?;
+        Ok(sum)
+    }
+
+    /// Writes the line of a work.
+    fn write(&mut self, work: Work<'_>, sum: u64, elapsed: Duration) -> Result<(), Failure> {
         let cost = hundredths(elapsed, (work.entries as u128 * work.rounds as u128).max(1));
         let (name, entries) = (work.name, work.entries);
         let line = format!(in self.alloc; "{name} {entries} {sum} {cost}\n")?;
-        write_whole(&mut self.output, line.as_bytes())?;
-        Ok(sum)
+        Ok(write_whole(&mut self.output, line.as_bytes())?)
+    }
+}
+
+/// The check sum after so many calls, and how long they took.
+fn timed<C: Clock, F: FnMut() -> Result<u64, Failure>>(
+    clock: &C,
+    rounds: u64,
+    sum: u64,
+    mut call: F,
+) -> Result<(u64, Duration), Failure>
+    requires { F.IsAlwaysCallable call }
+{
+    let mut sum = sum;
+    let Ok(start) = Instant::now(clock) else {
+        return Err(Failure::Clock);
+    };
+    for _ in 0..rounds {
+        sum = sum.wrapping_add(call()?);
+    }
+    match start.elapsed(clock) {
+        Ok(elapsed) => Ok((sum, elapsed)),
+        Err(_) => Err(Failure::Clock),
     }
 }
 

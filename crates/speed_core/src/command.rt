@@ -5,7 +5,7 @@ ghost use Rattle.speed_core.specs.Command.{AskForNone, AsksFor, IsAskedFor};
 use std::alloc::Allocator;
 
 /// What the program is asked to do.
-#[derive(Clone, Copy, Debug, PartialEq, Eq)]
+#[derive(Clone, Copy)]
 pub enum Command {
     /// Time the calls at sizes up to this one.
     Time(u32),

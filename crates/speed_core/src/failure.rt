@@ -7,7 +7,7 @@ use std::alloc::{AllocError, AllocFailed};
 use std::fmt;
 
 /// Why a run has stopped. Its text is the line that a run says.
-#[derive(Clone, Copy, Debug, PartialEq, Eq)]
+#[derive(Clone, Copy, PartialEq, Eq)]
 pub enum Failure {
     /// A request for memory was refused.
     Memory,
@@ -23,13 +23,14 @@ pub enum Failure {
 
 impl fmt::Display for Failure {
     fn fmt<W: fmt::Write>(&self, f: &mut fmt::Formatter<W>) -> fmt::Result {
-        match self {
-            Failure::Memory => write!(f, "failed: out of memory"),
-            Failure::Read => write!(f, "failed: read"),
-            Failure::Write => write!(f, "failed: write"),
-            Failure::Clock => write!(f, "failed: clock"),
-            Failure::Line(number) => write!(f, "refused: line {number}"),
-        }
+        let what = match self {
+            Failure::Memory => "out of memory",
+            Failure::Read => "read",
+            Failure::Write => "write",
+            Failure::Clock => "clock",
+            Failure::Line(number) => return write!(f, "refused: line {number}"),
+        };
+        write!(f, "failed: {what}")
     }
 }
 

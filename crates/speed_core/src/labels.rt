@@ -1,12 +1,13 @@
 //! The names at the right ends of the curves.
 
-use std::alloc::{AllocError, Global};
+use std::alloc::AllocError;
+use std::cmp::Ordering;
 
 /// How many pixels are between two names.
 const APART: u32 = 13;
 
 /// The name of a curve.
-#[derive(Clone, Copy, Debug, PartialEq, Eq)]
+#[derive(Clone, Copy)]
 pub struct Label<'a> {
     /// The name.
     pub name: &'a str,
@@ -18,16 +19,17 @@ pub struct Label<'a> {
 
 /// The labels from the lowest to the highest, moved up where they stand too near to the one
 /// below.
-pub(crate) fn spread<'a>(
-    alloc: Global,
-    labels: &[Label<'a>],
-) -> Result<Vec<Label<'a>>, AllocError> {
-    let mut spread = Vec::from_slice(alloc, labels)?;
-    spread.sort_by(|label, other| other.top.cmp(&label.top))?;
+pub(crate) fn spread(mut labels: Vec<Label<'_>>) -> Result<Vec<Label<'_>>, AllocError> {
+    labels.sort_by(lowest_first)?;
     let mut lowest = u32::MAX;
-    for label in &mut spread {
+    for label in &mut labels {
         label.top = label.top.min(lowest);
         lowest = label.top.saturating_sub(APART);
     }
-    Ok(spread)
+    Ok(labels)
+}
+
+/// Of two labels, the lower one goes first.
+fn lowest_first(label: &Label<'_>, other: &Label<'_>) -> Ordering {
+    other.top.cmp(&label.top)
 }

@@ -28,7 +28,10 @@ pub fn logarithm(number: NonZeroU64) -> u32
 {
     let decade = number.ilog10();
     let digits = leading(number.get(), decade);
-    let part = POWERS.iter().filter(|power| **power <= digits).count();
+    let part = match POWERS.binary_search(&digits) {
+        Ok(index) => index + 1,
+        Err(index) => index,
+    };
     decade * 100 + part as u32
 }
 

@@ -51,60 +51,66 @@ pub(crate) fn draw(alloc: Global, text: &str) -> Result<String, Failure> {
 
 /// The drawing of the samples.
 fn draw_samples(alloc: Global, samples: &[Sample<'_>]) -> Result<String, AllocError> {
-    let frame = frame_of(alloc, samples)?;
-    let names = names_of(alloc, samples)?;
-    let mut drawing = String::from_str(alloc, HEAD)?;
-    draw_across(&mut drawing, frame.across)?;
-    draw_up(&mut drawing, frame.up)?;
-    for (index, name) in names.iter().enumerate() {
-        draw_curve(&mut drawing, frame, samples, name, index)?;
-    }
-    let labels = labels_of(alloc, frame, samples, &names)?;
-    for label in &spread(alloc, &labels)? {
-        draw_label(&mut drawing, label)?;
-    }
-    drawing.push_str("</svg>\n")?;
+    let mut drawing = String::new(alloc);
+    write_drawing(alloc, &mut drawing, samples)?;
     Ok(drawing)
+}
+
+/// Writes the drawing of the samples, from its head to its end.
+fn write_drawing(
+    alloc: Global,
+    drawing: &mut String,
+    samples: &[Sample<'_>],
+) -> Result<(), AllocError> {
+    let frame = frame_of(alloc, samples)?;
+    drawing.push_str(HEAD)?;
+    draw_across(drawing, frame.across)?;
+    draw_up(drawing, frame.up)?;
+    let labels = labels_of(alloc, frame, samples)?;
+    draw_curves(drawing, frame, samples, &labels)?;
+    draw_labels(drawing, &spread(labels)?)?;
+    drawing.push_str("</svg>\n")
 }
 
 /// The axes on which all samples stand.
 fn frame_of(alloc: Global, samples: &[Sample<'_>]) -> Result<Frame, AllocError> {
-    let entries: Vec<u32> = samples.iter().map(|sample| sample.entries).collect(alloc)?;
-    let costs: Vec<u32> = samples.iter().map(|sample| sample.cost).collect(alloc)?;
+    let mut entries = Vec::new(alloc);
+    let mut costs = Vec::new(alloc);
+    for sample in samples {
+        entries.push(sample.entries)?;
+        costs.push(sample.cost)?;
+    }
     Ok(Frame {
         across: Axis::around(&entries, ACROSS),
         up: Axis::around(&costs, UP),
     })
 }
 
-/// The names of the samples, each once.
-fn names_of<'a>(alloc: Global, samples: &[Sample<'a>]) -> Result<Vec<&'a str>, AllocError> {
-    let mut names = Vec::new(alloc);
-    for sample in samples {
-        if !names.iter().any(|name| *name == sample.name) {
-            names.push(sample.name)?;
-        }
-    }
-    Ok(names)
-}
-
 /// The labels of the names, each at the last sample of its name.
 fn labels_of<'a>(
     alloc: Global,
     frame: Frame,
-    samples: &[Sample<'_>],
-    names: &[&'a str],
+    samples: &[Sample<'a>],
 ) -> Result<Vec<Label<'a>>, AllocError> {
     let mut labels = Vec::new(alloc);
-    for (index, name) in names.iter().enumerate() {
-        let last = samples.iter().rev().find(|sample| sample.name == *name);
-        let top = match last {
-            Some(sample) => top_of(frame, sample),
-            None => TOP,
-        };
-        labels.push(Label { name, index, top })?;
+    for sample in samples {
+        let (name, index, top) = (sample.name, labels.len(), top_of(frame, sample));
+        match find_label(&mut labels, name) {
+            Some(label) => label.top = top,
+            None => labels.push(Label { name, index, top })?,
+        }
     }
     Ok(labels)
+}
+
+/// The label of a name.
+fn find_label<'l, 'a>(labels: &'l mut [Label<'a>], name: &str) -> Option<&'l mut Label<'a>> {
+    for label in labels {
+        if label.name == name {
+            return Some(label);
+        }
+    }
+    None
 }
 
 /// How many pixels below the top a sample stands.
@@ -153,27 +159,47 @@ fn draw_up(drawing: &mut String, axis: Axis) -> Result<(), AllocError> {
     drawing.push_str("<text x=\"10\" y=\"20\" fill=\"#888\">nanoseconds an entry</text>\n")
 }
 
+/// Draws the curve of each name.
+fn draw_curves(
+    drawing: &mut String,
+    frame: Frame,
+    samples: &[Sample<'_>],
+    labels: &[Label<'_>],
+) -> Result<(), AllocError> {
+    for label in labels {
+        draw_curve(drawing, frame, samples, label)?;
+    }
+    Ok(())
+}
+
 /// Draws the curve of a name.
 fn draw_curve(
     drawing: &mut String,
     frame: Frame,
     samples: &[Sample<'_>],
-    name: &str,
-    index: usize,
+    label: &Label<'_>,
 ) -> Result<(), AllocError> {
-    let hue = hue(index);
+    let hue = hue(label.index);
     write!(
         drawing,
         "<polyline stroke=\"hsl({hue},60%,50%)\" stroke-width=\"1.5\" points=\""
     )?;
     for sample in samples {
-        if sample.name == name {
+        if sample.name == label.name {
             let x = left_of(frame, sample);
             let y = top_of(frame, sample);
             write!(drawing, "{x},{y} ")?;
         }
     }
     drawing.push_str("\"/>\n")
+}
+
+/// Draws the names.
+fn draw_labels(drawing: &mut String, labels: &[Label<'_>]) -> Result<(), AllocError> {
+    for label in labels {
+        draw_label(drawing, label)?;
+    }
+    Ok(())
 }
 
 /// Draws a name.

@@ -65,12 +65,16 @@ fn plot<R: Read + Drop, W: Write + Drop>(
     input: R,
     output: W,
 ) -> Result<(), Failure> {
-    let text = match io::read_to_string(alloc, input) {
-        Ok(text) => text,
-        Err(error) => return Err(failed_read(&error)),
-    };
-    let drawing = draw(alloc, text.as_str())?;
+    let drawing = drawing_of(alloc, input)?;
     Ok(write_whole(&mut Watched::new(output), drawing.as_bytes())?)
+}
+
+/// The drawing of the lines of the input.
+fn drawing_of<R: Read + Drop>(alloc: Global, input: R) -> Result<String, Failure> {
+    match io::read_to_string(alloc, input) {
+        Ok(text) => draw(alloc, text.as_str()),
+        Err(error) => Err(failed_read(&error)),
+    }
 }
 
 /// Why a run has stopped that couldn't read its input: for want of memory, or as the input failed.

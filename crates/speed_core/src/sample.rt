@@ -4,7 +4,7 @@ use crate::logarithm::logarithm;
 use std::num::NonZeroU64;
 
 /// What a line says of a call, as logarithms in hundredths.
-#[derive(Clone, Copy, Debug, PartialEq, Eq)]
+#[derive(Clone, Copy, PartialEq, Eq)]
 pub struct Sample<'a> {
     /// The name of the call.
     pub name: &'a str,
@@ -21,9 +21,9 @@ pub struct Sample<'a> {
 pub fn parse_line(line: &str) -> Option<Sample<'_>> {
     let mut words = line.split(' ');
     let name = words.next()?;
-    let entries = NonZeroU64::new(words.next()?.parse().ok()?)?;
+    let entries = words.next()?.parse().ok()?;
     let _sum: u64 = words.next()?.parse().ok()?;
-    let cost: u64 = words.next()?.parse().ok()?;
+    let cost = words.next()?.parse().ok()?;
     if words.next().is_some() || !is_name(name) {
         return None;
     }
@@ -36,8 +36,10 @@ pub fn parse_line(line: &str) -> Option<Sample<'_>> {
 
 /// Whether the word can be the name of a call.
 fn is_name(word: &str) -> bool {
-    !word.is_empty()
-        && word
-            .bytes()
-            .all(|byte| byte.is_ascii_alphanumeric() || byte == b'_')
+    !word.is_empty() && word.bytes().all(is_letter)
+}
+
+/// Whether the byte can stand in the name of a call.
+fn is_letter(byte: u8) -> bool {
+    byte.is_ascii_alphanumeric() || byte == b'_'
 }
