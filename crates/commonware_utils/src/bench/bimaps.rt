@@ -113,26 +113,24 @@ fn the_empty_map_is_a_bimap(rt: HostRuntime) {
     assert!(rt; BiMap::try_from_map(none).expect(&rt, "memory") == BiMap::empty(rt.alloc()));
 }
 
+/// Whether the bimap of 1, 2 and 3 is seen as the set of its keys.
+fn is_its_keys(bimap: &BiMap<u8, char, Global>) -> bool {
+    let set: &Set<u8, Global> = bimap;
+    let keys: &Set<u8, Global> = bimap.as_ref();
+    set == keys && bimap.keys() == keys && bimap.iter().next_back() == Some(&3)
+}
+
 #[test]
 fn bimaps_are_sets_of_keys(rt: HostRuntime) {
-    let bimap = letters(&rt, rt.alloc());
-    let set: &Set<u8, Global> = &bimap;
-    let keys: &Set<u8, Global> = bimap.as_ref();
-    assert!(rt; set == keys && bimap.keys() == keys && bimap.iter().next_back() == Some(&3));
+    assert!(rt; is_its_keys(&letters(&rt, rt.alloc())));
 }
 
 #[test]
 fn bimaps_are_given_up_in_parts(rt: HostRuntime) {
-    let bimap = letters(&rt, rt.alloc());
-    let pairs = bimap
-        .clone()
-        .expect(&rt, "memory")
-        .into_pairs()
-        .expect(&rt, "memory");
-    assert!(rt;
-        pairs.as_slice() == [(1, 'a'), (2, 'b'), (3, 'c')].as_slice()
-            && bimap.into_keys().as_slice() == [1, 2, 3].as_slice()
-    );
+    let keys = letters(&rt, rt.alloc()).into_keys();
+    assert!(rt; keys.as_slice() == [1, 2, 3].as_slice());
+    let pairs = letters(&rt, rt.alloc()).into_pairs().expect(&rt, "memory");
+    assert!(rt; pairs.as_slice() == [(1, 'a'), (2, 'b'), (3, 'c')].as_slice());
 }
 
 /// The lines on bimaps; those on maps stand with the pairs of maps.

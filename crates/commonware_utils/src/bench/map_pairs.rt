@@ -152,12 +152,17 @@ fn the_number_left_is_told(rt: HostRuntime) {
     assert!(rt; lent.len() == 2 && lent.size_hint() == (2, Some(2)));
 }
 
-#[test]
-fn values_are_written_in_a_loop(rt: HostRuntime) {
-    let mut map = tens(&rt, rt.alloc());
+/// Adds each key to its value, in a loop.
+fn add_keys(map: &mut Map<u8, u8, Global>) {
     for (key, value) in map.iter_pairs_mut() {
         *value = value.wrapping_add(*key);
     }
+}
+
+#[test]
+fn values_are_written_in_a_loop(rt: HostRuntime) {
+    let mut map = tens(&rt, rt.alloc());
+    add_keys(&mut map);
     assert!(rt;
         map.values() == [11, 22, 33].as_slice() && map.keys().as_slice() == [1, 2, 3].as_slice()
     );

@@ -26,9 +26,12 @@ fn sum(items: &[u8]) -> u8 {
     sum
 }
 
-/// Whether the list has these items.
+/// Whether the list has these items, and their number, the first and the last of them.
 fn has(list: &NonEmptyVec<u8, Global>, items: &[u8]) -> bool {
+    let ends = (items.first(), items.last());
     list.as_slice() == items
+        && list.len().get() == items.len()
+        && ends == (Some(list.first()), Some(list.last()))
 }
 
 #[test]
@@ -65,7 +68,7 @@ fn test_bounded_into_inner(rt: HostRuntime) {
 #[test]
 fn test_new(rt: HostRuntime) {
     let v = NonEmptyVec::new(rt.alloc(), 42u8).expect(&rt, "memory");
-    assert!(rt; v.len().get() == 1 && *v.first() == 42 && *v.last() == 42);
+    assert!(rt; has(&v, &[42]));
 }
 
 #[test]
@@ -85,21 +88,28 @@ fn is_list(answer: Result<NonEmptyVec<u8, Global>, Error>, items: &[u8]) -> bool
     }
 }
 
+/// Whether lists are made of items that are written out.
+fn are_of_items(alloc: Global) -> bool {
+    is_list(non_empty_vec!(alloc => 1, 2, 3), &[1, 2, 3])
+        && is_list(non_empty_vec!(alloc => 1, 2, 3,), &[1, 2, 3])
+        && is_list(non_empty_vec!(alloc => 42), &[42])
+}
+
+/// Whether lists are made of an item and a number.
+fn are_repeats(alloc: Global, n: NonZeroUsize) -> bool {
+    is_list(non_empty_vec!(alloc => 42; 5), &[42; 5])
+        && is_list(non_empty_vec!(alloc => 0; 1), &[0])
+        && is_list(non_empty_vec!(alloc => 99; NZUsize!(3)), &[99; 3])
+        && is_list(non_empty_vec!(alloc => 7; @n), &[7, 7, 7, 7])
+}
+
 #[test]
 fn test_macro(rt: HostRuntime) {
-    let alloc = rt.alloc();
-    let three = one_two_three(&rt, alloc);
-    assert!(rt; three.len().get() == 3 && *three.first() == 1 && *three.last() == 3);
-    let whole = vec![in alloc; 1u8, 2, 3].expect(&rt, "memory");
-    let n = NonZeroUsize::new(4).expect(&rt, "zero");
+    let whole = vec![in rt.alloc(); 1u8, 2, 3].expect(&rt, "memory");
     assert!(rt;
-        is_list(non_empty_vec!(alloc => 1, 2, 3,), &[1, 2, 3])
+        are_of_items(rt.alloc())
+            && are_repeats(rt.alloc(), NZUsize!(4))
             && has(&non_empty_vec!(@whole), &[1, 2, 3])
-            && is_list(non_empty_vec!(alloc => 42), &[42])
-            && is_list(non_empty_vec!(alloc => 42; 5), &[42; 5])
-            && is_list(non_empty_vec!(alloc => 0; 1), &[0])
-            && is_list(non_empty_vec!(alloc => 99; NZUsize!(3)), &[99; 3])
-            && is_list(non_empty_vec!(alloc => 7; @n), &[7; 4])
     );
 }
 
@@ -108,7 +118,7 @@ fn test_try_from_vec(rt: HostRuntime) {
     let v = NonEmptyVec::try_from(vec![in rt.alloc(); 1u8, 2, 3].expect(&rt, "memory")).expect(
         &rt, "memory",
     );
-    assert!(rt; v.len().get() == 3);
+    assert!(rt; has(&v, &[1, 2, 3]));
     let none: Vec<u8> = Vec::new(rt.alloc());
     assert!(rt; NonEmptyVec::try_from(none).err() == Some(Error::Empty));
 }
@@ -116,7 +126,7 @@ fn test_try_from_vec(rt: HostRuntime) {
 #[test]
 fn test_try_from_slice(rt: HostRuntime) {
     let v = NonEmptyVec::try_from_slice(rt.alloc(), [1u8, 2, 3].as_slice()).expect(&rt, "memory");
-    assert!(rt; v.len().get() == 3);
+    assert!(rt; has(&v, &[1, 2, 3]));
     let none: &[u8] = &[];
     let refused = NonEmptyVec::try_from_slice(rt.alloc(), none);
     assert!(rt; refused.err() == Some(Error::Empty));
@@ -126,7 +136,7 @@ fn test_try_from_slice(rt: HostRuntime) {
 fn test_try_from_array(rt: HostRuntime) {
     let v = NonEmptyVec::try_from_array(rt.alloc(), [1u8, 2, 3]).expect(&rt, "memory");
     let w = NonEmptyVec::try_from_array_ref(rt.alloc(), &[1u8, 2, 3]).expect(&rt, "memory");
-    assert!(rt; v.len().get() == 3 && v == w);
+    assert!(rt; has(&v, &[1, 2, 3]) && v == w);
     let refused = NonEmptyVec::try_from_array(rt.alloc(), [0u8; 0]);
     assert!(rt; refused.err() == Some(Error::Empty));
 }
@@ -136,7 +146,7 @@ fn test_try_from_iterator(rt: HostRuntime) {
     let v: NonEmptyVec<u8, Global> = TryCollect::try_collect(1u8..=3, rt.alloc()).expect(
         &rt, "memory",
     );
-    assert!(rt; v.len().get() == 3);
+    assert!(rt; has(&v, &[1, 2, 3]));
     let none = std::iter::empty::<u8>();
     let refused: Result<NonEmptyVec<u8, Global>, _> = TryCollect::try_collect(none, rt.alloc());
     assert!(rt; refused.err() == Some(Error::Empty));
@@ -145,35 +155,28 @@ fn test_try_from_iterator(rt: HostRuntime) {
 #[test]
 fn test_first_last(rt: HostRuntime) {
     let mut v = one_two_three(&rt, rt.alloc());
-    assert!(rt; *v.first() == 1 && *v.last() == 3);
+    assert!(rt; has(&v, &[1, 2, 3]));
     *v.first_mut() = 10;
     *v.last_mut() = 30;
-    assert!(rt; has(&v, &[10, 2, 30]) && *v.first() == 10 && *v.last() == 30);
+    assert!(rt; has(&v, &[10, 2, 30]));
 }
 
 #[test]
 fn test_push(rt: HostRuntime) {
     let mut v = non_empty_vec!(rt.alloc() => 1).expect(&rt, "memory");
-    assert!(rt;
-        v.push(2) == Ok(())
-            && v.push(3) == Ok(())
-            && v.len().get() == 3
-            && *v.last() == 3
-            && has(&v, &[1, 2, 3])
-    );
+    assert!(rt; v.push(2).is_ok() && v.push(3).is_ok() && has(&v, &[1, 2, 3]));
 }
 
 #[test]
 fn test_insert(rt: HostRuntime) {
     let mut v = non_empty_vec!(rt.alloc() => 1, 3).expect(&rt, "memory");
-    assert!(rt; v.insert(1, 2) == Ok(()) && has(&v, &[1, 2, 3]));
+    assert!(rt; v.insert(1, 2).is_ok() && has(&v, &[1, 2, 3]));
 }
 
 #[test]
 fn test_extend(rt: HostRuntime) {
     let mut v = non_empty_vec!(rt.alloc() => 1).expect(&rt, "memory");
-    v.extend([2, 3, 4]).expect(&rt, "memory");
-    assert!(rt; v.len().get() == 4 && has(&v, &[1, 2, 3, 4]));
+    assert!(rt; v.extend([2, 3, 4]).is_ok() && has(&v, &[1, 2, 3, 4]));
 }
 
 #[test]
@@ -184,7 +187,7 @@ fn test_resize(rt: HostRuntime) {
         (NZUsize!(2), &[1, 2]),
         (NZUsize!(1), &[1]),
     ] {
-        assert!(rt; v.resize(len, 0) == Ok(()) && has(&v, items));
+        assert!(rt; v.resize(len, 0).is_ok() && has(&v, items));
     }
 }
 
@@ -213,7 +216,7 @@ fn test_pop(rt: HostRuntime) {
     for (out, left) in [(Some(3), 2), (Some(2), 1), (None, 1)] {
         assert!(rt; v.pop() == out && v.len().get() == left);
     }
-    assert!(rt; *v.first() == 1);
+    assert!(rt; has(&v, &[1]));
 }
 
 #[test]
@@ -249,7 +252,7 @@ fn test_mutate(rt: HostRuntime) {
 #[test]
 fn test_deref(rt: HostRuntime) {
     let v = non_empty_vec!(rt.alloc() => 3u8, 1, 2).expect(&rt, "memory");
-    assert!(rt; v.len().get() == 3 && v.as_slice().contains(&2) && v.as_slice().get(1) == Some(&1));
+    assert!(rt; has(&v, &[3, 1, 2]) && v.as_slice().contains(&2));
 }
 
 #[test]
@@ -303,37 +306,44 @@ fn test_index(rt: HostRuntime) {
     assert!(rt; has(&v, &[10, 20, 30]));
 }
 
+/// The sum of the items that a loop is lent.
+fn sum_of(list: &NonEmptyVec<u8, Global>) -> u8 {
+    let mut sum = 0u8;
+    for item in list {
+        sum = sum.wrapping_add(*item);
+    }
+    sum
+}
+
+/// Doubles the items, in a loop over the slice.
+fn double(list: &mut NonEmptyVec<u8, Global>) {
+    for item in list.as_mut_slice() {
+        *item = item.wrapping_mul(2);
+    }
+}
+
+/// Adds ten to the items, in a loop over the list.
+fn add_ten(list: &mut NonEmptyVec<u8, Global>) {
+    for item in list {
+        *item = item.wrapping_add(10);
+    }
+}
+
+/// Whether 1, 2 and 3 are lent, from both ends.
+fn lends(list: &NonEmptyVec<u8, Global>) -> bool {
+    sum_of(list) == 6
+        && list.into_iter().eq([1, 2, 3].iter())
+        && list.into_iter().rev().eq([3, 2, 1].iter())
+}
+
 #[test]
 fn test_iterators(rt: HostRuntime) {
     let mut v = one_two_three(&rt, rt.alloc());
-    let mut sum = 0u8;
-    for item in &v {
-        sum = sum.wrapping_add(*item);
-    }
-    assert!(rt; sum == 6);
-    let lent: Vec<u8> = (&v)
-        .into_iter()
-        .copied()
-        .collect(rt.alloc())
-        .expect(&rt, "memory");
-    assert!(rt; lent.as_slice() == [1, 2, 3].as_slice());
-    let back: Vec<u8> = (&v)
-        .into_iter()
-        .rev()
-        .copied()
-        .collect(rt.alloc())
-        .expect(&rt, "memory");
-    assert!(rt; back.as_slice() == [3, 2, 1].as_slice());
-    for item in v.as_mut_slice() {
-        *item = item.wrapping_mul(2);
-    }
+    assert!(rt; lends(&v));
+    double(&mut v);
     assert!(rt; has(&v, &[2, 4, 6]));
-    for item in &mut v {
-        *item = item.wrapping_add(10);
-    }
-    assert!(rt; has(&v, &[12, 14, 16]));
-    let given: Vec<u8> = v.into_iter().collect(rt.alloc()).expect(&rt, "memory");
-    assert!(rt; given.as_slice() == [12, 14, 16].as_slice());
+    add_ten(&mut v);
+    assert!(rt; has(&v, &[12, 14, 16]) && v.into_iter().eq([12, 14, 16]));
 }
 
 #[test]
