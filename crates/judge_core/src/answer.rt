@@ -9,7 +9,7 @@ use judge_questions::{Unreadable, read_question};
 use std::alloc::{AllocError, Allocator};
 
 /// The answer to a line.
-#[derive(Debug, PartialEq, Eq, Drop)]
+#[derive(PartialEq, Eq, Drop)]
 pub enum Answer {
     /// The line asks what a text is, and this is what it is.
     Judged(Verdict),

@@ -5,7 +5,7 @@ ghost use Rattle.judge_core.specs.Command.{IsAskedFor};
 use std::alloc::Allocator;
 
 /// What the program is asked to do.
-#[derive(Clone, Copy, Debug, PartialEq, Eq)]
+#[derive(Clone, Copy, PartialEq, Eq)]
 pub enum Command {
     /// Answer the lines of standard input.
     Judge,

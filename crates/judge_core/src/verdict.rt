@@ -3,7 +3,7 @@
 use commonware_utils::codec::Error;
 
 /// What a text is as a value of a type.
-#[derive(Debug, PartialEq, Eq, Drop)]
+#[derive(PartialEq, Eq, Drop)]
 pub enum Verdict {
     /// It begins with the bytes of a value that the limits allow: so many items, and so many bytes
     /// after the value. A number counts as one item, and a pair of a map as one.

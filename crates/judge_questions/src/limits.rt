@@ -12,7 +12,7 @@ use std::num::NonZeroUsize;
 use std::ops::Bound;
 
 /// A range of numbers, as a question writes it.
-#[derive(Clone, Copy, Debug)]
+#[derive(Clone, Copy)]
 pub struct Limit {
     lower: Option<usize>,
     upper: Bound<usize>,
@@ -115,7 +115,7 @@ fn between<T>(lower: Option<T>, upper: Bound<T>) -> RangeCfg<T>
 }
 
 /// The ranges of a type's lengths, the outermost first. Those that the type doesn't have are full.
-#[derive(Clone, Copy, Debug)]
+#[derive(Clone, Copy)]
 pub struct Limits {
     pub first: Limit,
     pub second: Limit,

@@ -27,7 +27,7 @@ pub struct Question<A: Allocator> {
 }
 
 /// What of a line can't be read.
-#[derive(Clone, Copy, Debug, PartialEq, Eq)]
+#[derive(Clone, Copy, PartialEq, Eq)]
 pub enum Unreadable {
     /// The first word is no type's name.
     Name,
