@@ -50,7 +50,11 @@ fn collections_equal_their_clones(rt: HostRuntime) {
     let two = Set::from_iter_dedup(alloc, [2u8, 1]).expect(&rt, "memory");
     let nest = Set::from_iter_dedup(alloc, [two, Set::empty(alloc)]).expect(&rt, "memory");
     assert!(rt; is_cloned(&nest));
-    let pairs = BiMap::try_from_iter(alloc, [(2u8, 'b'), (1, 'a')]).expect(&rt, "memory");
+}
+
+#[test]
+fn bimaps_equal_their_clones(rt: HostRuntime) {
+    let pairs = BiMap::try_from_iter(rt.alloc(), [(2u8, 'b'), (1, 'a')]).expect(&rt, "memory");
     assert!(rt; is_cloned(&pairs));
 }
 

@@ -206,9 +206,9 @@ const REFUSALS: [(MapError<u8>, &str, &str); 2] = [
 
 #[test]
 fn refusals_of_value_maps_have_texts(rt: HostRuntime) {
-    for (error, shown, debugged) in REFUSALS {
+    for (error, shown, debugged) in &REFUSALS {
         assert!(rt;
-            is_shown_as(rt.alloc(), &error, shown) && is_debugged_as(rt.alloc(), &error, debugged)
+            is_shown_as(rt.alloc(), error, shown) && is_debugged_as(rt.alloc(), error, debugged)
         );
     }
 }

@@ -172,8 +172,8 @@ fn nothing_is_refused(rt: HostRuntime) {
 
 #[test]
 fn refusals_have_messages(rt: HostRuntime) {
-    for (error, message) in MESSAGES {
-        assert!(rt; is_shown_as(rt.alloc(), &error, message));
+    for (error, message) in &MESSAGES {
+        assert!(rt; is_shown_as(rt.alloc(), error, message));
     }
 }
 

@@ -89,7 +89,7 @@ fn numbers_stay_in_their_range(rt: HostRuntime) {
 
 #[test]
 fn errors_say_what_is_wrong(rt: HostRuntime) {
-    for (error, text) in MESSAGES {
-        assert!(rt; is_shown_as(rt.alloc(), &error, text));
+    for (error, text) in &MESSAGES {
+        assert!(rt; is_shown_as(rt.alloc(), error, text));
     }
 }

@@ -117,7 +117,7 @@ fn test_set_try_from_iter_duplicate(rt: HostRuntime) {
 
 #[test]
 fn refusals_have_messages(rt: HostRuntime) {
-    for (error, message) in MESSAGES {
-        assert!(rt; is_shown_as(rt.alloc(), &error, message));
+    for (error, message) in &MESSAGES {
+        assert!(rt; is_shown_as(rt.alloc(), error, message));
     }
 }
