@@ -1,27 +1,10 @@
 //! Certificates of committees of four and of six members, as a user of both models calls them.
+use crate::signers::{are, certificate};
 use committee_certificates::{Certificate, ConflictError};
 use commonware_utils::Participant;
 use commonware_utils::ordered::Set;
 use std::alloc::{AllocError, Global};
-use std::test::Fail;
 use uses_certificates::{accused, conflict_n3f1, conflict_n5f1};
-
-/// The participants of these indices.
-fn participants(alloc: Global, indices: &[u32]) -> Result<Set<Participant, Global>, AllocError> {
-    Set::from_iter_dedup(alloc, indices.iter().map(|index| Participant::new(*index)))
-}
-
-/// A certificate of a value of one byte.
-fn certificate(
-    alloc: Global,
-    value: u8,
-    signers: &[u32],
-) -> Result<Certificate<Global>, AllocError> {
-    Ok(Certificate {
-        value: Vec::from_slice(alloc, &[value])?,
-        signers: participants(alloc, signers)?,
-    })
-}
 
 /// The signers of two certificates for different values, of a committee of so many members; those
 /// of both, or the error, under `N3f1` and under `N5f1`.
@@ -59,46 +42,56 @@ const ROWS: [Row; 3] = [
 
 /// Whether these participants are answered, or this error.
 fn answers(
-    answer: &Result<Set<Participant, Global>, ConflictError>,
+    answer: Result<Set<Participant, Global>, ConflictError>,
     wanted: Result<&[u32], ConflictError>,
 ) -> bool {
     match (answer, wanted) {
-        (Ok(both), Ok(indices)) => {
-            both.iter()
-                .map(|signer| signer.get())
-                .eq(indices.iter().copied())
-        }
-        (Err(error), Err(wanted)) => *error == wanted,
+        (Ok(both), Ok(indices)) => are(&both, indices),
+        (Err(error), Err(wanted)) => error == wanted,
         _ => false,
     }
 }
 
-#[test]
-fn signers_of_both_are_named_and_counted(rt: HostRuntime) -> Result<(), Fail> {
-    let alloc = rt.alloc();
-    for row in &ROWS {
-        let members = Set::from_iter_dedup(alloc, 0..row.members)?;
-        let first = certificate(alloc, 0xaa, row.first)?;
-        let second = certificate(alloc, 0xbb, row.second)?;
-        let count = members.len();
-        if first.value == second.value || count == 0 || count > 4294967295 {
-            return Err(Fail::from("no committee, or one value"));
-        }
-        let both = conflict_n3f1(alloc, &members, &first, &second);
-        assert!(rt; answers(&both, row.thirds), "{}", row.members);
-        let both = conflict_n5f1(alloc, &members, &first, &second);
-        assert!(rt; answers(&both, row.fifths), "{}", row.members);
-        let counted = accused(alloc, &members, &first, &second);
-        assert!(rt;
-            counted == row.thirds.map(|indices| indices.len()),
-            "{}",
-            row.members
-        );
-        assert!(rt;
-            accused(alloc, &members, &first, &first) == Ok(0),
-            "{}",
-            row.members
-        );
+/// Whether so many participants are counted as are wanted, or the wanted error is answered.
+fn counts(answer: Result<usize, ConflictError>, wanted: Result<&[u32], ConflictError>) -> bool {
+    match (answer, wanted) {
+        (Ok(count), Ok(indices)) => count == indices.len(),
+        (Err(error), Err(wanted)) => error == wanted,
+        _ => false,
     }
-    Ok(())
+}
+
+/// Whether the signers of both are named under each model, and counted. `None` where there is no
+/// committee, or the values are the same.
+fn are_named(
+    alloc: Global,
+    members: &Set<u32, Global>,
+    first: &Certificate<Global>,
+    second: &Certificate<Global>,
+    row: &Row,
+) -> Option<bool> {
+    let count = members.len();
+    if first.value == second.value || count == 0 || count > 4294967295 {
+        return None;
+    }
+    let named = answers(conflict_n3f1(alloc, members, first, second), row.thirds)
+        && answers(conflict_n5f1(alloc, members, first, second), row.fifths);
+    let counted = counts(accused(alloc, members, first, second), row.thirds)
+        && accused(alloc, members, first, first) == Ok(0);
+    Some(named && counted)
+}
+
+/// Whether the row's signers of both are named and counted.
+fn is_answered(alloc: Global, row: &Row) -> Result<bool, AllocError> {
+    let members = Set::from_iter_dedup(alloc, 0..row.members)?;
+    let first = certificate(alloc, 0xaa, row.first)?;
+    let second = certificate(alloc, 0xbb, row.second)?;
+    Ok(are_named(alloc, &members, &first, &second, row) == Some(true))
+}
+
+#[test]
+fn signers_of_both_are_named_and_counted(rt: HostRuntime) {
+    for (at, row) in ROWS.iter().enumerate() {
+        assert!(rt; is_answered(rt.alloc(), row).expect(&rt, "memory"), "{at}");
+    }
 }

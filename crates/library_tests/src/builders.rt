@@ -1,7 +1,7 @@
 //! The builders that sets and maps have alike.
 
 /// A way to make a set of items, or a map of pairs.
-#[derive(Clone, Copy, Debug)]
+#[derive(Clone, Copy)]
 pub(super) enum Builder {
     Dedup,
     Iterator,

@@ -1,4 +1,5 @@
 //! Certificates that are read, written and cloned, and texts that are none.
+use crate::signers::are;
 use committee_certificates::{Certificate, ConflictError};
 use commonware_utils::Participant;
 use commonware_utils::codec::{EncodeSize, Error, RangeCfg, Read, Source, Write};
@@ -74,9 +75,8 @@ fn is_accepted(alloc: Global, row: &Accepted) -> bool {
     let Ok(certificate) = read(alloc, &mut src) else {
         return false;
     };
-    let signers = certificate.signers.iter().map(|signer| signer.get());
     certificate.value.as_slice() == row.value
-        && signers.eq(row.signers.iter().copied())
+        && are(&certificate.signers, row.signers)
         && src.remaining() == row.left
 }
 
@@ -95,11 +95,11 @@ fn is_written(alloc: Global, row: &Accepted) -> Option<bool> {
 }
 
 /// Whether the text is refused for this, and the source stays.
-fn is_refused(alloc: Global, bytes: &[u8], wanted: Error) -> bool {
+fn is_refused(alloc: Global, bytes: &[u8], wanted: &Error) -> bool {
     let mut src = Source::new(bytes);
     match read(alloc, &mut src) {
         Ok(_) => false,
-        Err(error) => error == wanted && src.position() == 0,
+        Err(error) => error == *wanted && src.position() == 0,
     }
 }
 
@@ -117,7 +117,7 @@ fn certificates_are_read_and_written(rt: HostRuntime) {
 
 #[test]
 fn other_texts_are_refused(rt: HostRuntime) {
-    for (bytes, error) in REFUSED {
+    for (bytes, error) in &REFUSED {
         assert!(rt; is_refused(rt.alloc(), bytes, error), "{bytes:?}");
     }
 }
@@ -129,22 +129,31 @@ fn beginnings_are_refused(rt: HostRuntime) {
         let length = row.bytes.len().saturating_sub(row.left);
         for end in 0..length {
             let (beginning, _) = row.bytes.split_at(end);
-            let refused = is_refused(rt.alloc(), beginning, Error::EndOfBuffer);
+            let refused = is_refused(rt.alloc(), beginning, &Error::EndOfBuffer);
             assert!(rt; refused, "{beginning:?}");
         }
     }
 }
 
-#[test]
-fn certificates_and_errors_are_shown(rt: HostRuntime) -> Result<(), AllocError> {
-    let alloc = rt.alloc();
+/// Whether a certificate is shown to one who looks for faults.
+fn is_shown(alloc: Global) -> Result<bool, AllocError> {
     let certificate = Certificate {
         value: Vec::from_slice(alloc, &[0xaau8, 0])?,
         signers: Set::from_iter_dedup(alloc, [7u32, 0].map(Participant::new))?,
     };
     let shown = format!(in alloc; "{certificate:?}")?;
     let wanted = "Certificate { value: [170, 0], signers: Set([Participant(0), Participant(7)]) }";
-    assert!(rt; shown.as_str() == wanted, "{shown}");
+    Ok(shown.as_str() == wanted)
+}
+
+/// Whether the error is shown by these words.
+fn says(alloc: Global, error: ConflictError, words: &str) -> Result<bool, AllocError> {
+    Ok(format!(in alloc; "{error}")?.as_str() == words)
+}
+
+#[test]
+fn certificates_and_errors_are_shown(rt: HostRuntime) {
+    assert!(rt; is_shown(rt.alloc()) == Ok(true));
     for (error, words) in [
         (
             ConflictError::Outside,
@@ -153,8 +162,6 @@ fn certificates_and_errors_are_shown(rt: HostRuntime) -> Result<(), AllocError> 
         (ConflictError::TooFew, "fewer signers than a quorum"),
         (ConflictError::Memory, "out of memory"),
     ] {
-        let shown = format!(in alloc; "{error}")?;
-        assert!(rt; shown.as_str() == words, "{shown}");
+        assert!(rt; says(rt.alloc(), error, words) == Ok(true), "{words}");
     }
-    Ok(())
 }

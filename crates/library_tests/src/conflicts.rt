@@ -1,20 +1,21 @@
 //! The members that signed both of two certificates, with each request for memory refused in turn.
+use crate::signers::{are, certificate};
 use committee_certificates::{Certificate, ConflictError, conflict};
 use commonware_utils::Participant;
 use commonware_utils::faults::{Faults, N3f1, N5f1};
 use commonware_utils::ordered::Set;
-use std::alloc::{AllocError, Allocator};
+use std::alloc::Allocator;
 use test_equipment::walk::{Heap, Outcome, Refusable, full, refused, requests};
 
 /// A fault model.
-#[derive(Clone, Copy, Debug)]
+#[derive(Clone, Copy)]
 enum Model {
     N3f1,
     N5f1,
 }
 
 /// A committee and two certificates for different values.
-#[derive(Clone, Copy, Debug)]
+#[derive(Clone, Copy)]
 struct Row {
     /// How many members the committee has.
     members: u32,
@@ -86,19 +87,6 @@ const ROWS: [Row; 8] = [
     },
 ];
 
-/// A certificate of a value of one byte.
-fn certificate<A: Allocator + Copy>(
-    alloc: A,
-    value: u8,
-    signers: &[u32],
-) -> Result<Certificate<A>, AllocError> {
-    let signers = signers.iter().map(|signer| Participant::new(*signer));
-    Ok(Certificate {
-        value: Vec::from_slice(alloc, &[value])?,
-        signers: Set::from_iter_dedup(alloc, signers)?,
-    })
-}
-
 /// The members that signed both. `None` where the values are the same, or the committee has no
 /// members or too many.
 fn conflict_of<M: Faults, A: Allocator + Copy>(
@@ -114,6 +102,35 @@ fn conflict_of<M: Faults, A: Allocator + Copy>(
     Some(conflict::<M, _, _>(alloc, committee, first, second))
 }
 
+/// What the answer comes to where this one is wanted.
+fn outcome_of(
+    both: Option<Result<Set<Participant, Heap<'_>>, ConflictError>>,
+    wanted: Result<&[u32], ConflictError>,
+) -> Outcome {
+    match (both, wanted) {
+        (Some(Ok(both)), Ok(wanted)) => full(are(&both, wanted)),
+        (Some(Err(ConflictError::Memory)), Ok(_)) => refused(true),
+        (Some(Err(error)), Err(wanted)) => full(error == wanted),
+        _ => Outcome::Wrong,
+    }
+}
+
+impl Row {
+    /// The members that signed both certificates, under the row's model.
+    fn conflict<'a>(
+        &self,
+        heap: Heap<'a>,
+        committee: &Set<u32, Heap<'a>>,
+        first: &Certificate<Heap<'a>>,
+        second: &Certificate<Heap<'a>>,
+    ) -> Option<Result<Set<Participant, Heap<'a>>, ConflictError>> {
+        match self.model {
+            Model::N3f1 => conflict_of::<N3f1, _>(heap, committee, first, second),
+            Model::N5f1 => conflict_of::<N5f1, _>(heap, committee, first, second),
+        }
+    }
+}
+
 impl Refusable for Row {
     fn outcome(&self, heap: Heap<'_>, granted: u64) -> Outcome {
         let (Ok(first), Ok(second)) = (
@@ -126,27 +143,18 @@ impl Refusable for Row {
             return Outcome::Wrong;
         };
         heap.restart(granted);
-        let both = match self.model {
-            Model::N3f1 => conflict_of::<N3f1, _>(heap, &committee, &first, &second),
-            Model::N5f1 => conflict_of::<N5f1, _>(heap, &committee, &first, &second),
-        };
-        match (both, self.answer) {
-            (Some(Ok(both)), Ok(wanted)) => {
-                let indices = both.iter().map(|signer| signer.get());
-                full(indices.eq(wanted.iter().copied()))
-            }
-            (Some(Err(ConflictError::Memory)), Ok(_)) => refused(true),
-            (Some(Err(error)), Err(wanted)) => full(error == wanted),
-            _ => Outcome::Wrong,
-        }
+        outcome_of(
+            self.conflict(heap, &committee, &first, &second),
+            self.answer,
+        )
     }
 }
 
 /// An answer takes one request, and a refusal that isn't for memory takes none.
 #[test]
 fn signers_of_both_are_named(rt: HostRuntime) {
-    for row in ROWS {
+    for (at, row) in ROWS.iter().enumerate() {
         let asked = row.answer.is_ok() as u64;
-        assert!(rt; requests(rt.alloc(), &row) == Some(asked), "{row:?}");
+        assert!(rt; requests(rt.alloc(), row) == Some(asked), "{at}");
     }
 }

@@ -16,6 +16,8 @@ mod drawn;
 #[cfg(test)]
 mod memory_free_texts;
 #[cfg(test)]
+mod readings;
+#[cfg(test)]
 mod refused_bimaps;
 #[cfg(test)]
 mod refused_codec;
@@ -45,5 +47,7 @@ mod refusing_heaps;
 mod repeat_or_refusal;
 #[cfg(test)]
 mod scripted_devices;
+#[cfg(test)]
+mod signers;
 #[cfg(test)]
 mod stated_lengths;

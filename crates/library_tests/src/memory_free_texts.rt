@@ -1,5 +1,6 @@
 //! Texts that are read or refused without memory, the first request for it being refused.
-use commonware_utils::codec::{Error, RangeCfg, Read, Source};
+use crate::readings::outcome;
+use commonware_utils::codec::{Error, RangeCfg};
 use commonware_utils::ordered::{BiMap, Map, Set};
 use commonware_utils::vec::NonEmptyVec;
 use std::num::NonZeroUsize;
@@ -7,7 +8,7 @@ use test_equipment::Refusing;
 use test_equipment::walk::Heap;
 
 /// What a text is read as.
-#[derive(Clone, Copy, Debug)]
+#[derive(Clone, Copy)]
 enum Form {
     Set,
     /// A map of at most two pairs.
@@ -68,54 +69,35 @@ const TEXTS: [(Form, &[u8], Option<Error>); 23] = [
     ),
 ];
 
-/// The error of reading the form from the source.
-fn refusal<'a>(form: Form, heap: Heap<'a>, src: &mut Source<'_>) -> Option<Error> {
-    let any = RangeCfg::from(..);
-    match form {
-        Form::Set => {
-            let read: Result<Set<u8, Heap<'a>>, Error> = Read::read_cfg(heap, src, &(any, ()));
-            read.err()
-        }
-        Form::Map => {
-            let few = (RangeCfg::from(..=2), (), ());
-            let read: Result<Map<u8, u8, Heap<'a>>, Error> = Read::read_cfg(heap, src, &few);
-            read.err()
-        }
-        Form::BiMap => {
-            let read: Result<BiMap<u8, u8, Heap<'a>>, Error> = Read::read_cfg(
-                heap,
-                src,
-                &(any, (), ()),
-            );
-            read.err()
-        }
-        Form::List => {
-            let few = (RangeCfg::from(..=3), ());
-            let read: Result<Vec<u8, Heap<'a>>, Error> = Read::read_cfg(heap, src, &few);
-            read.err()
-        }
-        Form::NonEmpty => {
-            let some: RangeCfg<NonZeroUsize> = RangeCfg::from(..);
-            let read: Result<NonEmptyVec<u8, Heap<'a>>, Error> = Read::read_cfg(
-                heap,
-                src,
-                &(some, ()),
-            );
-            read.err()
+impl Form {
+    /// What reading the form from the bytes comes to.
+    fn read(self, heap: Heap<'_>, bytes: &[u8]) -> (Option<Error>, usize) {
+        let any = RangeCfg::from(..);
+        let some: RangeCfg<NonZeroUsize> = RangeCfg::from(..);
+        match self {
+            Form::Set => outcome::<Set<u8, _>, _>(heap, bytes, &(any, ())),
+            Form::Map => {
+                outcome::<Map<u8, u8, _>, _>(heap, bytes, &(RangeCfg::from(..=2), (), ()))
+            }
+            Form::BiMap => outcome::<BiMap<u8, u8, _>, _>(heap, bytes, &(any, (), ())),
+            Form::List => outcome::<Vec<u8, _>, _>(heap, bytes, &(RangeCfg::from(..=3), ())),
+            Form::NonEmpty => outcome::<NonEmptyVec<u8, _>, _>(heap, bytes, &(some, ())),
         }
     }
+}
+
+/// Whether the row's text is read to its end, or refused for its error and not read.
+fn is_read(heap: Heap<'_>, row: &(Form, &[u8], Option<Error>)) -> bool {
+    let (form, bytes, wanted) = row;
+    let (error, read) = form.read(heap, bytes);
+    let whole = if wanted.is_none() { bytes.len() } else { 0 };
+    error == *wanted && read == whole
 }
 
 #[test]
 fn what_needs_no_memory_is_read_without(rt: HostRuntime) {
     let heap = Refusing::all_after(rt.alloc(), 0);
-    for (form, bytes, wanted) in TEXTS {
-        let mut src = Source::new(bytes);
-        let error = refusal(form, &heap, &mut src);
-        let read = if wanted.is_none() { bytes.len() } else { 0 };
-        assert!(rt;
-            error == wanted && src.position() == read && !heap.has_refused(),
-            "{form:?} {bytes:?}"
-        );
+    for (at, row) in TEXTS.iter().enumerate() {
+        assert!(rt; is_read(&heap, row) && !heap.has_refused(), "{at}");
     }
 }

@@ -2,11 +2,12 @@
 //! calls that take none.
 use commonware_utils::ordered::{BiMap, Error, Map};
 use commonware_utils::{TryCollect, TryFromIterator};
+use std::alloc::Global;
 use test_equipment::Refusing;
 use test_equipment::walk::{Heap, Outcome, Refusable, asks_for, full, refused};
 
 /// A builder of bimaps.
-#[derive(Clone, Copy, Debug)]
+#[derive(Clone, Copy)]
 enum Builder {
     Iterator,
     Collect,
@@ -70,8 +71,10 @@ impl Refusable for Building {
     }
 }
 
+type Numbers<'a> = BiMap<u8, u8, Heap<'a>>;
+
 /// {1: 30, 2: 20, 3: 10}
-fn three(heap: Heap<'_>) -> Result<BiMap<u8, u8, Heap<'_>>, Error> {
+fn three(heap: Heap<'_>) -> Result<Numbers<'_>, Error> {
     BiMap::try_from_iter(heap, [(3u8, 10u8), (1, 30), (2, 20)])
 }
 
@@ -107,20 +110,32 @@ impl Refusable for FromMap {
     }
 }
 
-#[test]
-fn each_request_is_refused_in_turn(rt: HostRuntime) {
-    for builder in BUILDERS {
-        for (pairs, answer) in PAIRS {
-            let call = Building {
-                builder,
-                pairs,
-                answer,
-            };
-            assert!(rt; asks_for(rt.alloc(), &call, 1), "{builder:?} {pairs:?}");
+/// Whether the builder answers what it has to for all the pairs.
+fn is_right(alloc: Global, builder: Builder) -> bool {
+    for (pairs, answer) in PAIRS {
+        let call = Building {
+            builder,
+            pairs,
+            answer,
+        };
+        if !asks_for(alloc, &call, 1) {
+            return false;
         }
     }
-    assert!(rt; asks_for(rt.alloc(), &IntoPairs, 1));
-    assert!(rt; asks_for(rt.alloc(), &FromMap, 1));
+    true
+}
+
+#[test]
+fn each_request_is_refused_in_turn(rt: HostRuntime) {
+    for (at, builder) in BUILDERS.iter().enumerate() {
+        assert!(rt; is_right(rt.alloc(), *builder), "{at}");
+    }
+    assert!(rt; asks_for(rt.alloc(), &IntoPairs, 1) && asks_for(rt.alloc(), &FromMap, 1));
+}
+
+/// Whether the map is refused for memory when it is made a bimap.
+fn is_refused(map: Map<u8, u8, Heap<'_>>) -> bool {
+    BiMap::try_from_map(map).err() == Some(Error::Memory)
 }
 
 /// The map is there; the set in which its values are looked up is refused.
@@ -129,11 +144,11 @@ fn a_map_is_no_bimap_without_memory(rt: HostRuntime) {
     let heap = Refusing::all_after(rt.alloc(), u64::MAX);
     let map = Map::try_from_iter(&heap, [(1u8, 10u8), (2, 20)]).expect(&rt, "memory");
     heap.restart(0);
-    assert!(rt; BiMap::try_from_map(map).err() == Some(Error::Memory) && heap.has_refused());
+    assert!(rt; is_refused(map) && heap.has_refused());
 }
 
 /// Whether {1: 30, 2: 20, 3: 10} is looked up.
-fn is_looked_up(bimap: &BiMap<u8, u8, Heap<'_>>) -> bool {
+fn is_looked_up(bimap: &Numbers<'_>) -> bool {
     bimap.get_key(&10) == Some(&3)
         && bimap.get_value(&3) == Some(&10)
         && bimap.position(&3) == Some(2)
@@ -141,33 +156,32 @@ fn is_looked_up(bimap: &BiMap<u8, u8, Heap<'_>>) -> bool {
         && bimap.iter_pairs().next_back() == Some((&3, &10))
 }
 
-#[test]
-fn bimaps_are_looked_up_without_memory(rt: HostRuntime) {
-    let heap = Refusing::all_after(rt.alloc(), u64::MAX);
-    let (bimap, other) = (
-        three(&heap).expect(&rt, "memory"),
-        three(&heap).expect(&rt, "memory"),
-    );
-    heap.restart(0);
-    assert!(rt; is_looked_up(&bimap) && bimap == other && !heap.has_refused());
+/// Whether the keys of one {1: 30, 2: 20, 3: 10} and the first pair of another are given up.
+fn are_given_up(bimap: Numbers<'_>, other: Numbers<'_>) -> bool {
+    let first = other.into_iter().next();
+    bimap.into_keys().as_slice() == [1, 2, 3].as_slice() && first == Some((1, 30))
 }
 
 #[test]
-fn bimaps_are_given_up_without_memory(rt: HostRuntime) {
+fn bimaps_are_looked_up_and_given_up_without_memory(rt: HostRuntime) {
     let heap = Refusing::all_after(rt.alloc(), u64::MAX);
-    let (bimap, other) = (
-        three(&heap).expect(&rt, "memory"),
-        three(&heap).expect(&rt, "memory"),
-    );
+    let bimap = three(&heap).expect(&rt, "memory");
+    let other = three(&heap).expect(&rt, "memory");
     heap.restart(0);
-    assert!(rt; bimap.into_keys().as_slice() == [1, 2, 3].as_slice());
-    assert!(rt; other.into_iter().next() == Some((1, 30)) && !heap.has_refused());
+    let looked_up = is_looked_up(&bimap) && bimap == other;
+    let given_up = are_given_up(bimap, other);
+    assert!(rt; looked_up && given_up && !heap.has_refused());
+}
+
+/// Whether a bimap of no pairs is empty, and the same as one of a map of none.
+fn is_empty(heap: Heap<'_>) -> Result<bool, Error> {
+    let none: Numbers<'_> = BiMap::empty(heap);
+    let from_none = BiMap::try_from_map(Map::empty(heap))?;
+    Ok(none.is_empty() && from_none == none)
 }
 
 #[test]
 fn a_map_without_pairs_is_a_bimap_without_memory(rt: HostRuntime) {
     let heap = Refusing::all_after(rt.alloc(), 0);
-    let none: BiMap<u8, u8, Heap<'_>> = BiMap::empty(&heap);
-    let from_none = BiMap::try_from_map(Map::empty(&heap)).expect(&rt, "memory");
-    assert!(rt; none.is_empty() && from_none == none && !heap.has_refused());
+    assert!(rt; is_empty(&heap) == Ok(true) && !heap.has_refused());
 }

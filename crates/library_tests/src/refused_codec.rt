@@ -9,13 +9,13 @@ use commonware_utils::codec::{
 };
 use commonware_utils::ordered::{BiMap, Map, Set};
 use commonware_utils::vec::NonEmptyVec;
-use std::alloc::Allocator;
+use std::alloc::{AllocError, Allocator, Global};
 use std::num::NonZeroUsize;
 use test_equipment::Refusing;
 use test_equipment::walk::{Heap, Outcome, Refusable, asks_for, full, refused, requests};
 
 /// What is done with a value.
-#[derive(Clone, Copy, Debug)]
+#[derive(Clone, Copy)]
 enum Act {
     Write,
     Read,
@@ -24,7 +24,7 @@ enum Act {
 }
 
 /// A type of values, and one of them.
-#[derive(Clone, Copy, Debug)]
+#[derive(Clone, Copy)]
 enum Form {
     Byte,
     Word,
@@ -163,14 +163,24 @@ impl<'a> Trial<'a> {
 
     /// The value written into a sink, which a refusal leaves as it was. Its size takes no memory.
     fn write<T: Write<Heap<'a>>>(&self, value: &T, bytes: &[u8]) -> Outcome {
-        let Ok(mut sink) = vec![in self.heap; 0xaau8, 0xbb, 0xcc] else {
-            return Outcome::Wrong;
-        };
+        match vec![in self.heap; 0xaau8, 0xbb, 0xcc] {
+            Ok(mut sink) => self.write_after(value, &mut sink, bytes),
+            Err(_) => Outcome::Wrong,
+        }
+    }
+
+    /// The value written into this sink, of three bytes.
+    fn write_after<T: Write<Heap<'a>>>(
+        &self,
+        value: &T,
+        sink: &mut Vec<u8, Heap<'a>>,
+        bytes: &[u8],
+    ) -> Outcome {
         if !value.is_writable() {
             return Outcome::Wrong;
         }
         self.heap.restart(self.granted);
-        match value.write(&mut sink) {
+        match value.write(sink) {
             Ok(()) => {
                 let written = sink.strip_prefix(b"\xaa\xbb\xcc") == Some(bytes);
                 full(written && value.encode_size() == bytes.len())
@@ -252,25 +262,59 @@ impl<'b> Refusable for LongRead<'b> {
     }
 }
 
+/// The text of a list of 1,024 bytes.
+fn long(alloc: Global) -> Result<Vec<u8>, AllocError> {
+    let mut bytes = b"\x80\x08".to_vec(alloc)?;
+    for _ in 0..1024 {
+        bytes.push(0x55)?;
+    }
+    Ok(bytes)
+}
+
 /// A list of 1,024 items of one byte takes one request.
 #[test]
 fn a_list_takes_one_request(rt: HostRuntime) {
-    let mut bytes = b"\x80\x08".to_vec(rt.alloc()).expect(&rt, "memory");
-    for _ in 0..1024 {
-        bytes.push(0x55u8).expect(&rt, "memory");
-    }
+    let bytes = long(rt.alloc()).expect(&rt, "memory");
     assert!(rt; requests(rt.alloc(), &LongRead(&bytes)) == Some(1));
+}
+
+/// Whether each act on a value of the form makes so many requests at least.
+fn acts_ask_for(alloc: Global, form: Form, least: [u64; 4]) -> bool {
+    for (act, least) in ACTS.into_iter().zip(least) {
+        if !asks_for(alloc, &Call { form, act }, least) {
+            return false;
+        }
+    }
+    true
 }
 
 #[test]
 fn each_request_is_refused_in_turn(rt: HostRuntime) {
-    for (form, least) in FORMS {
-        for (act, least) in ACTS.into_iter().zip(least) {
-            let right = asks_for(rt.alloc(), &Call { form, act }, least);
-            assert!(rt; right, "{form:?} {act:?}");
-        }
+    for (at, (form, least)) in FORMS.iter().enumerate() {
+        assert!(rt; acts_ask_for(rt.alloc(), *form, *least), "{at}");
     }
     assert!(rt; asks_for(rt.alloc(), &ListRead, 3));
+}
+
+/// A sink of so many bytes.
+fn sink_of(heap: Heap<'_>, length: usize) -> Result<Vec<u8, Heap<'_>>, AllocError> {
+    let mut bytes = Vec::new(heap);
+    for _ in 0..length {
+        bytes.push(0xaau8)?;
+    }
+    Ok(bytes)
+}
+
+/// Whether the varint is written, or is refused and leaves the sink, with no memory but the sink's.
+/// How often it is refused is counted.
+fn is_written(heap: Heap<'_>, sink: &mut Vec<u8, Heap<'_>>, refusals: &mut u32) -> bool {
+    let length = sink.len();
+    heap.restart(0);
+    let fails = UInt(300).write(sink).is_err();
+    let refused = heap.has_refused();
+    *refusals = refusals.saturating_add(refused as u32);
+    let added = if refused { 0 } else { 2 };
+    fails == refused && sink.len() == length.saturating_add(added)
 }
 
 /// A varint is written into a sink with room for it, for a part of it and for none.
@@ -280,16 +324,8 @@ fn a_refused_varint_leaves_the_sink(rt: HostRuntime) {
     let mut refusals = 0u32;
     for length in 0..64usize {
         heap.restart(u64::MAX);
-        let mut sink = Vec::new(&heap);
-        for _ in 0..length {
-            sink.push(0xaau8).expect(&rt, "memory");
-        }
-        heap.restart(0);
-        let written = UInt(300).write(&mut sink);
-        let refused = heap.has_refused();
-        let added = if refused { 0 } else { 2 };
-        assert!(rt; written.is_err() == refused && sink.len() == length + added);
-        refusals = refusals.saturating_add(refused as u32);
+        let mut sink = sink_of(&heap, length).expect(&rt, "memory");
+        assert!(rt; is_written(&heap, &mut sink, &mut refusals), "{length}");
     }
     assert!(rt; refusals > 2, "{refusals}");
 }

@@ -7,7 +7,7 @@ use test_equipment::Refusing;
 use test_equipment::walk::{Heap, Outcome, Refusable, asks_for, full, refused};
 
 /// An order of the numbers below 40.
-#[derive(Clone, Copy, Debug)]
+#[derive(Clone, Copy)]
 enum Order {
     Rising,
     Falling,
@@ -30,6 +30,15 @@ impl Order {
         }
     }
 
+    /// The numbers.
+    fn items(self) -> [u32; 40] {
+        let mut items = [0; 40];
+        for (item, position) in items.iter_mut().zip(0..40) {
+            *item = self.at(position);
+        }
+        items
+    }
+
     /// The numbers, each with its position.
     fn pairs(self) -> [(u32, u8); 40] {
         let mut pairs = [(0, 0); 40];
@@ -38,6 +47,21 @@ impl Order {
         }
         pairs
     }
+
+    /// Whether the numbers at these positions are those below 40, in order.
+    fn rises_at(self, positions: &[u8]) -> bool {
+        for (position, number) in positions.iter().zip(0..40) {
+            if self.at(u32::from(*position)) != number {
+                return false;
+            }
+        }
+        positions.len() == 40
+    }
+}
+
+/// Whether these are the numbers below 40, in order.
+fn are_all(items: &[u32]) -> bool {
+    items.iter().copied().eq(0..40)
 }
 
 /// A builder of sets at the numbers in an order.
@@ -46,10 +70,10 @@ struct SetOf(Builder, Order);
 
 impl Refusable for SetOf {
     fn outcome(&self, heap: Heap<'_>, granted: u64) -> Outcome {
-        let items = self.1.pairs().map(|pair| pair.0);
+        let items = self.1.items();
         heap.restart(granted);
         match refused_sets::build(self.0, heap, &items) {
-            Ok(set) => full(set.iter().copied().eq(0..40)),
+            Ok(set) => full(are_all(set.as_slice())),
             Err(error) => refused(error == Error::Memory),
         }
     }
@@ -64,13 +88,7 @@ impl Refusable for MapOf {
         let pairs = self.1.pairs();
         heap.restart(granted);
         match refused_maps::build(self.0, heap, &pairs) {
-            Ok(map) => {
-                let keys = map
-                    .values()
-                    .iter()
-                    .map(|place| self.1.at(u32::from(*place)));
-                full(map.iter().copied().eq(0..40) && keys.eq(0..40))
-            }
+            Ok(map) => full(are_all(map.keys().as_slice()) && self.1.rises_at(map.values())),
             Err(error) => refused(error == Error::Memory),
         }
     }
@@ -78,34 +96,36 @@ impl Refusable for MapOf {
 
 #[test]
 fn each_request_of_a_set_is_refused_in_turn(rt: HostRuntime) {
-    for order in ORDERS {
-        for builder in BUILDERS {
+    for (place, order) in ORDERS.into_iter().enumerate() {
+        for (at, builder) in BUILDERS.into_iter().enumerate() {
             let call = SetOf(builder, order);
-            assert!(rt; asks_for(rt.alloc(), &call, 1), "{builder:?} {order:?}");
+            assert!(rt; asks_for(rt.alloc(), &call, 1), "{place} {at}");
         }
     }
 }
 
 #[test]
 fn each_request_of_a_map_is_refused_in_turn(rt: HostRuntime) {
-    for order in ORDERS {
-        for builder in BUILDERS {
+    for (place, order) in ORDERS.into_iter().enumerate() {
+        for (at, builder) in BUILDERS.into_iter().enumerate() {
             let call = MapOf(builder, order);
-            assert!(rt; asks_for(rt.alloc(), &call, 1), "{builder:?} {order:?}");
+            assert!(rt; asks_for(rt.alloc(), &call, 1), "{place} {at}");
         }
     }
+}
+
+/// Whether the numbers below the count are taken as a set without memory.
+fn are_taken(heap: Heap<'_>, items: Vec<u32, Heap<'_>>, count: u32) -> Result<bool, Error> {
+    heap.restart(0);
+    let set = Set::try_from_vec(items)?;
+    Ok(set.iter().copied().eq(0..count) && !heap.has_refused())
 }
 
 #[test]
 fn a_list_that_is_a_set_is_taken_without_memory(rt: HostRuntime) {
     for count in [0, 1, 2, 40] {
         let heap = Refusing::all_after(rt.alloc(), u64::MAX);
-        let items: Vec<u32, Heap<'_>> = (0..count).collect(&heap).expect(&rt, "memory");
-        heap.restart(0);
-        let set = Set::try_from_vec(items).expect(&rt, "memory");
-        assert!(rt;
-            set.iter().copied().eq(0..count) && !heap.has_refused(),
-            "{count}"
-        );
+        let items = (0..count).collect(&heap).expect(&rt, "memory");
+        assert!(rt; are_taken(&heap, items, count) == Ok(true), "{count}");
     }
 }

@@ -15,7 +15,7 @@ fn three(heap: Heap<'_>) -> Result<List<'_>, Error> {
 }
 
 /// A call that makes a list longer.
-#[derive(Clone, Copy, Debug)]
+#[derive(Clone, Copy)]
 enum Grow {
     Push,
     Insert,
@@ -54,25 +54,30 @@ const GROWTHS: [Growth; 5] = [
     },
 ];
 
-/// What the call answers, as the item that came back where one did, and how often a closure was
-/// called.
-fn grown_by(call: Grow, list: &mut List<'_>) -> (Result<(), Option<u8>>, u32) {
-    let mut calls = 0u32;
-    let answer = match call {
-        Grow::Push => list.push(9).map_err(Some),
-        Grow::Insert => list.insert(0, 9).map_err(Some),
-        Grow::Extend => list
-            .extend((4u8..=15).filter(|item| *item > 0))
-            .map_err(|_| None),
-        Grow::Resize => list.resize(NZUsize!(5), 9).map_err(|_| None),
-        Grow::ResizeWith => list
-            .resize_with(NZUsize!(5), || {
+/// Whether the call gave back what was handed in where it was refused, and called no closure.
+/// `None` if it was not refused.
+fn refusal_of(call: Grow, list: &mut List<'_>) -> Option<bool> {
+    match call {
+        Grow::Push => Some(list.push(9).err()? == 9),
+        Grow::Insert => Some(list.insert(0, 9).err()? == 9),
+        Grow::Extend => {
+            list.extend((4u8..=15).filter(|item| *item > 0)).err()?;
+            Some(true)
+        }
+        Grow::Resize => {
+            list.resize(NZUsize!(5), 9).err()?;
+            Some(true)
+        }
+        Grow::ResizeWith => {
+            let mut calls = 0u32;
+            list.resize_with(NZUsize!(5), || {
                 calls = calls.saturating_add(1);
                 9
             })
-            .map_err(|_| None),
-    };
-    (answer, calls)
+            .err()?;
+            Some(calls == 0)
+        }
+    }
 }
 
 impl Refusable for Growth {
@@ -81,17 +86,9 @@ impl Refusable for Growth {
             return Outcome::Wrong;
         };
         heap.restart(granted);
-        let (answer, calls) = grown_by(self.call, &mut list);
-        let handed_in = match self.call {
-            Grow::Push | Grow::Insert => Some(9),
-            Grow::Extend | Grow::Resize | Grow::ResizeWith => None,
-        };
-        match answer {
-            Ok(()) => full(list.as_slice() == self.grown),
-            Err(back) => {
-                let unchanged = list.as_slice() == [1, 2, 3].as_slice();
-                refused(unchanged && back == handed_in && calls == 0)
-            }
+        match refusal_of(self.call, &mut list) {
+            None => full(list.as_slice() == self.grown),
+            Some(right) => refused(right && list.as_slice() == [1, 2, 3].as_slice()),
         }
     }
 
@@ -101,7 +98,7 @@ impl Refusable for Growth {
 }
 
 /// A call that makes a list.
-#[derive(Clone, Copy, Debug)]
+#[derive(Clone, Copy)]
 enum Make {
     One,
     Iterator,
@@ -109,55 +106,35 @@ enum Make {
     Slice,
     Array,
     ArrayRef,
-    Clone,
-    Map,
-    MapInto,
     Macro,
     MacroOfNumber,
     MacroOfNonZero,
     MacroOfVariable,
 }
 
-const MAKES: [Make; 13] = [
-    Make::One,
-    Make::Iterator,
-    Make::Collect,
-    Make::Slice,
-    Make::Array,
-    Make::ArrayRef,
-    Make::Clone,
-    Make::Map,
-    Make::MapInto,
-    Make::Macro,
-    Make::MacroOfNumber,
-    Make::MacroOfNonZero,
-    Make::MacroOfVariable,
+/// Each of them, and the list that it makes.
+const MAKES: [(Make, &[u8]); 10] = [
+    (Make::One, &[7]),
+    (Make::Iterator, &[1, 2, 3]),
+    (Make::Collect, &[1, 2, 3]),
+    (Make::Slice, &[1, 2, 3]),
+    (Make::Array, &[1, 2, 3]),
+    (Make::ArrayRef, &[1, 2, 3]),
+    (Make::Macro, &[1, 2, 3]),
+    (Make::MacroOfNumber, &[4, 4, 4]),
+    (Make::MacroOfNonZero, &[4, 4, 4]),
+    (Make::MacroOfVariable, &[4, 4, 4]),
 ];
 
-/// What the call answers for 1, 2, 3, and how often a closure was called.
-fn made_by<'a>(
-    call: Make,
-    heap: Heap<'a>,
-    list: &List<'a>,
-    owned: List<'a>,
-) -> (Result<List<'a>, Error>, u32) {
-    let mut calls = 0u32;
-    let made = match call {
+/// What the call answers for 1, 2, 3.
+fn made_by<'a>(call: Make, heap: Heap<'a>, items: &[u8]) -> Result<List<'a>, Error> {
+    match call {
         Make::One => NonEmptyVec::new(heap, 7u8),
         Make::Iterator => NonEmptyVec::try_from_iter(heap, [1u8, 2, 3]),
         Make::Collect => TryCollect::try_collect([1u8, 2, 3].into_iter(), heap),
-        Make::Slice => NonEmptyVec::try_from_slice(heap, list.as_slice()),
+        Make::Slice => NonEmptyVec::try_from_slice(heap, items),
         Make::Array => NonEmptyVec::try_from_array(heap, [1u8, 2, 3]),
         Make::ArrayRef => NonEmptyVec::try_from_array_ref(heap, &[1u8, 2, 3]),
-        Make::Clone => list.clone().map_err(Error::from),
-        Make::Map => list.map(|item| {
-            calls = calls.saturating_add(1);
-            *item
-        }),
-        Make::MapInto => owned.map_into(|item| {
-            calls = calls.saturating_add(1);
-            item
-        }),
         Make::Macro => three(heap),
         Make::MacroOfNumber => non_empty_vec!(heap => 4u8; 3),
         Make::MacroOfNonZero => non_empty_vec!(heap => 4u8; NZUsize!(3)),
@@ -165,37 +142,98 @@ fn made_by<'a>(
             let count = NZUsize!(3);
             non_empty_vec!(heap => 4u8; @count)
         }
+    }
+}
+
+/// What the answer comes to where these items are wanted, and no closure is called before a
+/// refusal.
+fn outcome_of(made: Result<List<'_>, Error>, wanted: &[u8], calls: u32) -> Outcome {
+    match made {
+        Ok(made) => full(made.as_slice() == wanted),
+        Err(error) => refused(error == Error::Memory && calls == 0),
+    }
+}
+
+/// The outcome, if 1, 2, 3 are as they were.
+fn if_unchanged(list: &List<'_>, outcome: Outcome) -> Outcome {
+    if list.as_slice() == [1, 2, 3].as_slice() {
+        outcome
+    } else {
+        Outcome::Wrong
+    }
+}
+
+/// A call that makes a list, and the list.
+#[derive(Drop)]
+struct Making(Make, &'static [u8]);
+
+impl Refusable for Making {
+    fn outcome(&self, heap: Heap<'_>, granted: u64) -> Outcome {
+        let Ok(list) = three(heap) else {
+            return Outcome::Wrong;
+        };
+        heap.restart(granted);
+        let made = made_by(self.0, heap, list.as_slice());
+        if_unchanged(&list, outcome_of(made, self.1, 0))
+    }
+}
+
+/// A call that makes a list of another one.
+#[derive(Clone, Copy)]
+enum Remake {
+    Clone,
+    Map,
+    MapInto,
+}
+
+const REMAKES: [Remake; 3] = [Remake::Clone, Remake::Map, Remake::MapInto];
+
+/// A clone of the list.
+fn cloned<'a>(list: &List<'a>) -> Result<List<'a>, Error> {
+    Ok(list.clone()?)
+}
+
+/// The item, by a call that is counted.
+fn counted(item: u8, calls: &mut u32) -> u8 {
+    *calls = calls.saturating_add(1);
+    item
+}
+
+/// What the call answers for the list, lent and owned, and how often a closure was called.
+fn remade_by<'a>(call: Remake, list: &List<'a>, owned: List<'a>) -> (Result<List<'a>, Error>, u32) {
+    let mut calls = 0u32;
+    let made = match call {
+        Remake::Clone => cloned(list),
+        Remake::Map => list.map(|item| counted(*item, &mut calls)),
+        Remake::MapInto => owned.map_into(|item| counted(item, &mut calls)),
     };
     (made, calls)
 }
 
-impl Refusable for Make {
+impl Refusable for Remake {
     fn outcome(&self, heap: Heap<'_>, granted: u64) -> Outcome {
         let (Ok(list), Ok(owned)) = (three(heap), three(heap)) else {
             return Outcome::Wrong;
         };
         heap.restart(granted);
-        let (made, calls) = made_by(*self, heap, &list, owned);
-        let unchanged = list.as_slice() == [1, 2, 3].as_slice();
-        let wanted: &[u8] = match self {
-            Make::One => &[7],
-            Make::MacroOfNumber | Make::MacroOfNonZero | Make::MacroOfVariable => &[4, 4, 4],
-            _ => &[1, 2, 3],
-        };
-        match made {
-            Ok(made) => full(unchanged && made.as_slice() == wanted),
-            Err(error) => refused(unchanged && error == Error::Memory && calls == 0),
-        }
+        let (made, calls) = remade_by(*self, &list, owned);
+        if_unchanged(&list, outcome_of(made, &[1, 2, 3], calls))
     }
 }
 
 #[test]
 fn each_request_is_refused_in_turn(rt: HostRuntime) {
-    for growth in GROWTHS {
-        assert!(rt; asks_for(rt.alloc(), &growth, 1), "{:?}", growth.call);
+    for (at, growth) in GROWTHS.iter().enumerate() {
+        assert!(rt; asks_for(rt.alloc(), growth, 1), "a longer list: {at}");
     }
-    for call in MAKES {
-        assert!(rt; asks_for(rt.alloc(), &call, 1), "{call:?}");
+    for (at, (call, items)) in MAKES.into_iter().enumerate() {
+        assert!(rt;
+            asks_for(rt.alloc(), &Making(call, items), 1),
+            "a list: {at}"
+        );
+    }
+    for (at, call) in REMAKES.iter().enumerate() {
+        assert!(rt; asks_for(rt.alloc(), call, 1), "a list of another: {at}");
     }
 }
 
@@ -220,13 +258,31 @@ fn shorten(list: &mut List<'_>) -> Result<bool, Error> {
     Ok(back == (Some(2), Some(6)) && !called)
 }
 
+/// Whether six items get to be 1 and 3.
+fn is_shortened(list: &mut List<'_>) -> Option<bool> {
+    let right = shorten(list).ok()?;
+    Some(right && list.as_slice() == [1, 3].as_slice() && list.is_writable())
+}
+
 #[test]
 fn a_list_gets_shorter_without_memory(rt: HostRuntime) {
     let heap = Refusing::all_after(rt.alloc(), u64::MAX);
     let mut list = non_empty_vec!(&heap => 1u8, 2, 3, 4, 5, 6).expect(&rt, "memory");
     heap.restart(0);
-    assert!(rt; shorten(&mut list).expect(&rt, "memory") && list.as_slice() == [1, 3].as_slice());
-    assert!(rt; list.is_writable() && !heap.has_refused());
+    assert!(rt; is_shortened(&mut list) == Some(true) && !heap.has_refused());
+}
+
+/// Whether 1, 3 is reversed, and 7 written for the first of them.
+fn is_changed(list: &mut List<'_>) -> bool {
+    list.mutate(|items| items.reverse());
+    *list.first_mut() = 7;
+    list.len().get() == 2 && *list.last() == 1 && list[0] == 7
+}
+
+/// The items of a list that is given up and taken twice.
+fn given_up(list: List<'_>) -> Result<Vec<u8, Heap<'_>>, Error> {
+    let items = NonEmptyVec::from_unchecked(list.into_vec()).into_vec();
+    Ok(NonEmptyVec::try_from(items)?.into())
 }
 
 #[test]
@@ -234,12 +290,9 @@ fn a_list_is_changed_and_given_up_without_memory(rt: HostRuntime) {
     let heap = Refusing::all_after(rt.alloc(), u64::MAX);
     let mut list = non_empty_vec!(&heap => 1u8, 3).expect(&rt, "memory");
     heap.restart(0);
-    list.mutate(|items| items.reverse());
-    *list.first_mut() = 7;
-    assert!(rt; list.len().get() == 2 && *list.last() == 1 && list[0] == 7);
-    let items = NonEmptyVec::from_unchecked(list.into_vec()).into_vec();
-    let bytes: Vec<u8, Heap<'_>> = NonEmptyVec::try_from(items).expect(&rt, "memory").into();
-    assert!(rt; bytes.as_slice() == [7, 1].as_slice() && !heap.has_refused());
+    let changed = is_changed(&mut list);
+    let items = given_up(list).expect(&rt, "memory");
+    assert!(rt; changed && items.as_slice() == [7, 1].as_slice() && !heap.has_refused());
 }
 
 #[test]

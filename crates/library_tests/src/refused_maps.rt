@@ -4,6 +4,7 @@ use crate::builders::{BUILDERS, Builder};
 use commonware_utils::codec::EncodeSize;
 use commonware_utils::ordered::{Error, Map, Set};
 use commonware_utils::{TryCollect, TryFromIterator};
+use std::alloc::AllocError;
 use test_equipment::Refusing;
 use test_equipment::walk::{Heap, Outcome, Refusable, asks_for, full, refused};
 
@@ -30,12 +31,15 @@ pub(super) fn build<'a, const N: usize>(
     }
 }
 
+/// The keys and the values of a map, or the repeat.
+type Answer = Result<(&'static [u32], &'static [u8]), Error>;
+
 /// A builder at some pairs, and the keys and values of the map that it has to answer.
 #[derive(Drop)]
 struct Building {
     builder: Builder,
     pairs: [(u32, u8); 4],
-    answer: Result<(&'static [u32], &'static [u8]), Error>,
+    answer: Answer,
 }
 
 impl Refusable for Building {
@@ -74,40 +78,37 @@ impl Refusable for IntoPairs {
     }
 }
 
+/// What the builder has to answer where two pairs have the key 5.
+fn answer_of_repeat(builder: Builder) -> Answer {
+    match builder {
+        Builder::Dedup => Ok((&[1, 3, 5], &[10, 30, 50])),
+        _ => Err(Error::DuplicateKey),
+    }
+}
+
 #[test]
 fn each_request_is_refused_in_turn(rt: HostRuntime) {
-    for builder in BUILDERS {
-        let keeps_first = matches!(builder, Builder::Dedup);
-        let first: (&[u32], &[u8]) = (&[1, 3, 5], &[10, 30, 50]);
-        for (pairs, answer, least) in [
-            (
-                PAIRS,
-                Ok(([1u32, 3, 5, 9].as_slice(), [10u8, 30, 50, 90].as_slice())),
-                3,
-            ),
-            (
-                REPEAT,
-                if keeps_first {
-                    Ok(first)
-                } else {
-                    Err(Error::DuplicateKey)
-                },
-                1,
-            ),
-        ] {
-            let call = Building {
-                builder,
-                pairs,
-                answer,
-            };
-            assert!(rt; asks_for(rt.alloc(), &call, least), "{builder:?} {pairs:?}");
-        }
+    for (at, builder) in BUILDERS.into_iter().enumerate() {
+        let four = Building {
+            builder,
+            pairs: PAIRS,
+            answer: Ok((&[1, 3, 5, 9], &[10, 30, 50, 90])),
+        };
+        let repeat = Building {
+            builder,
+            pairs: REPEAT,
+            answer: answer_of_repeat(builder),
+        };
+        let right = asks_for(rt.alloc(), &four, 3) && asks_for(rt.alloc(), &repeat, 1);
+        assert!(rt; right, "{at}");
     }
     assert!(rt; asks_for(rt.alloc(), &IntoPairs, 1));
 }
 
+type Numbers<'a> = Map<u32, u8, Heap<'a>>;
+
 /// Whether the map of the pairs is looked up.
-fn is_looked_up(map: &Map<u32, u8, Heap<'_>>) -> bool {
+fn is_looked_up(map: &Numbers<'_>) -> bool {
     map.len() == 4
         && !map.is_empty()
         && map.is_writable()
@@ -118,7 +119,7 @@ fn is_looked_up(map: &Map<u32, u8, Heap<'_>>) -> bool {
 }
 
 /// Halves the values, writes 31 for 3, doubles the values and takes the last pair away.
-fn change(map: &mut Map<u32, u8, Heap<'_>>) {
+fn change(map: &mut Numbers<'_>) {
     for value in map.values_mut() {
         *value /= 2;
     }
@@ -131,33 +132,54 @@ fn change(map: &mut Map<u32, u8, Heap<'_>>) {
     map.truncate(3);
 }
 
+/// Whether the map of the pairs is changed.
+fn is_changed(map: &Numbers<'_>) -> bool {
+    map.values() == [10, 62, 50].as_slice() && map.get_value(&3) == Some(&62)
+}
+
 #[test]
 fn maps_are_looked_up_and_changed_without_memory(rt: HostRuntime) {
     let heap = Refusing::all_after(rt.alloc(), u64::MAX);
     let mut map = Map::try_from_slice(&heap, &PAIRS).expect(&rt, "memory");
     heap.restart(0);
-    assert!(rt; is_looked_up(&map));
+    let looked_up = is_looked_up(&map);
     change(&mut map);
-    assert!(rt; map.values() == [10, 62, 50].as_slice() && map.get_value(&3) == Some(&62));
-    assert!(rt; map.into_keys().as_slice() == [1, 3, 5].as_slice() && !heap.has_refused());
+    let changed = is_changed(&map);
+    let keys = map.into_keys();
+    let right = looked_up && changed && keys.as_slice() == [1, 3, 5].as_slice();
+    assert!(rt; right && !heap.has_refused());
+}
+
+/// Keys and their values.
+type Parts<'a> = (Set<u32, Heap<'a>>, Vec<u8, Heap<'a>>);
+
+/// The keys 1, 3, 5 and their values.
+fn parts(heap: Heap<'_>) -> Result<Parts<'_>, AllocError> {
+    let keys = Set::from_iter_dedup(heap, [1u32, 3, 5])?;
+    Ok((keys, vec![in heap; 10u8, 31, 50]?))
+}
+
+/// Whether the parts make a map that is not this one, and ends with (5, 50).
+fn make_another<'a>(parts: Parts<'a>, map: &Numbers<'a>) -> Option<bool> {
+    let made = Map::from_parts(parts.0, parts.1)?;
+    let differs = made != *map;
+    let last = made.into_iter().next_back();
+    Some(differs && last == Some((5, 50)))
 }
 
 #[test]
 fn maps_of_parts_take_no_memory(rt: HostRuntime) {
     let heap = Refusing::all_after(rt.alloc(), u64::MAX);
     let map = Map::try_from_slice(&heap, &PAIRS).expect(&rt, "memory");
-    let keys = Set::from_iter_dedup(&heap, [1u32, 3, 5]).expect(&rt, "memory");
-    let values = vec![in &heap; 10u8, 31, 50].expect(&rt, "memory");
+    let parts = parts(&heap).expect(&rt, "memory");
     heap.restart(0);
-    let parts = Map::from_parts(keys, values).expect(&rt, "uneven");
-    assert!(rt; parts != map);
-    assert!(rt; parts.into_iter().next_back() == Some((5, 50)) && !heap.has_refused());
+    assert!(rt; make_another(parts, &map) == Some(true) && !heap.has_refused());
 }
 
 #[test]
 fn a_map_of_nothing_takes_no_memory(rt: HostRuntime) {
     let heap = Refusing::all_after(rt.alloc(), 0);
-    let none: Map<u32, u8, Heap<'_>> = Map::empty(&heap);
-    let most = Map::<u32, u8, Heap<'_>>::max_encode_size(128, 1);
+    let none: Numbers<'_> = Map::empty(&heap);
+    let most = Numbers::max_encode_size(128, 1);
     assert!(rt; none.is_empty() && most == 644 && !heap.has_refused());
 }

@@ -4,6 +4,7 @@ use crate::builders::{BUILDERS, Builder};
 use commonware_utils::codec::EncodeSize;
 use commonware_utils::ordered::{Error, Quorum, Set};
 use commonware_utils::{N3f1, N5f1, Participant, TryCollect, TryFromIterator};
+use std::alloc::Global;
 use test_equipment::Refusing;
 use test_equipment::walk::{Heap, Outcome, Refusable, asks_for, full, refused};
 
@@ -54,23 +55,31 @@ impl Refusable for Building {
     }
 }
 
+/// Whether the builder answers what it has to for all the items.
+fn is_right(alloc: Global, builder: Builder) -> bool {
+    let keeps_first = matches!(builder, Builder::Dedup);
+    let least = if keeps_first { 2 } else { 1 };
+    for (items, set, differ) in ITEMS {
+        let call = Building {
+            builder,
+            items,
+            answer: if differ || keeps_first {
+                Ok(set)
+            } else {
+                Err(Error::DuplicateKey)
+            },
+        };
+        if !asks_for(alloc, &call, least) {
+            return false;
+        }
+    }
+    true
+}
+
 #[test]
 fn each_request_is_refused_in_turn(rt: HostRuntime) {
-    for builder in BUILDERS {
-        for (items, set, differ) in ITEMS {
-            let keeps_first = matches!(builder, Builder::Dedup);
-            let call = Building {
-                builder,
-                items,
-                answer: if differ || keeps_first {
-                    Ok(set)
-                } else {
-                    Err(Error::DuplicateKey)
-                },
-            };
-            let least = if keeps_first { 2 } else { 1 };
-            assert!(rt; asks_for(rt.alloc(), &call, least), "{builder:?} {items:?}");
-        }
+    for (at, builder) in BUILDERS.iter().enumerate() {
+        assert!(rt; is_right(rt.alloc(), *builder), "{at}");
     }
 }
 
@@ -92,24 +101,27 @@ fn is_committee(set: &Set<u32, Heap<'_>>) -> bool {
         && (set.quorum::<N3f1>(), set.max_faults::<N5f1>()) == (3, 0)
 }
 
-#[test]
-fn sets_are_read_without_memory(rt: HostRuntime) {
-    let heap = Refusing::all_after(rt.alloc(), u64::MAX);
-    let set = Set::from_iter_dedup(&heap, [5u32, 1, 3]).expect(&rt, "memory");
-    heap.restart(0);
-    assert!(rt; is_read(&set) && is_committee(&set) && !heap.has_refused());
+/// Whether the set comes before another one, and can be written.
+fn is_before<'a>(set: &Set<u32, Heap<'a>>, other: &Set<u32, Heap<'a>>) -> bool {
+    *set < *other && *set != *other && set.is_writable()
+}
+
+/// Whether the items of {1, 3, 5} and the last of {1, 5} are given up.
+fn are_given_up(set: Set<u32, Heap<'_>>, other: Set<u32, Heap<'_>>) -> bool {
+    let last = other.into_iter().next_back();
+    let items: Vec<u32, Heap<'_>> = set.into();
+    items.as_slice() == [1, 3, 5].as_slice() && last == Some(5)
 }
 
 #[test]
-fn sets_are_compared_and_given_up_without_memory(rt: HostRuntime) {
+fn sets_are_read_compared_and_given_up_without_memory(rt: HostRuntime) {
     let heap = Refusing::all_after(rt.alloc(), u64::MAX);
     let set = Set::from_iter_dedup(&heap, [5u32, 1, 3]).expect(&rt, "memory");
     let other = Set::from_iter_dedup(&heap, [5u32, 1]).expect(&rt, "memory");
     heap.restart(0);
-    assert!(rt; set < other && set != other && set.is_writable());
-    let items: Vec<u32, Heap<'_>> = set.into();
-    assert!(rt; items.as_slice() == [1, 3, 5].as_slice());
-    assert!(rt; other.into_iter().next_back() == Some(5) && !heap.has_refused());
+    let read = is_read(&set) && is_committee(&set) && is_before(&set, &other);
+    let given_up = are_given_up(set, other);
+    assert!(rt; read && given_up && !heap.has_refused());
 }
 
 #[test]

@@ -5,7 +5,7 @@ use std::fmt::{Debug, Display};
 use test_equipment::walk::{Heap, Outcome, Refusable, asks_for, full, refused};
 
 /// What is shown.
-#[derive(Clone, Copy, Debug)]
+#[derive(Clone, Copy)]
 enum Collection {
     Set,
     Map,
@@ -13,7 +13,7 @@ enum Collection {
 }
 
 /// A collection of three entries, whether it is shown to one who looks for faults, and its text.
-#[derive(Clone, Copy, Debug)]
+#[derive(Clone, Copy)]
 struct Shown(Collection, bool, &'static str);
 
 const SHOWN: [Shown; 6] = [
@@ -78,7 +78,7 @@ impl Refusable for Shown {
 
 #[test]
 fn each_request_is_refused_in_turn(rt: HostRuntime) {
-    for shown in SHOWN {
-        assert!(rt; asks_for(rt.alloc(), &shown, 1), "{shown:?}");
+    for (at, shown) in SHOWN.iter().enumerate() {
+        assert!(rt; asks_for(rt.alloc(), shown, 1), "{at}");
     }
 }

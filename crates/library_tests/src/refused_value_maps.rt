@@ -1,11 +1,10 @@
 //! The value maps with each of their requests for memory refused in turn: before a refusal the
 //! closure was called for no entry, or for every one where the clone of the keys is refused.
 use commonware_utils::ordered::{Map, MapError, Set};
-use std::alloc::AllocError;
 use test_equipment::walk::{Heap, Outcome, Refusable, full, refused, requests};
 
 /// A call that maps the values of a map.
-#[derive(Clone, Copy, Debug)]
+#[derive(Clone, Copy)]
 enum Call {
     Lent,
     LentTried,
@@ -29,10 +28,10 @@ const CALLS: [(Call, u64); 6] = [
 
 type Tens<'a> = Map<u8, u8, Heap<'a>>;
 
-/// {1: 10, 2: 20, 3: 30}
-fn tens(heap: Heap<'_>) -> Result<Option<Tens<'_>>, AllocError> {
-    let keys = Set::from_iter_dedup(heap, [1u8, 2, 3])?;
-    Ok(Map::from_parts(keys, vec![in heap; 10, 20, 30]?))
+/// {1: 10, 2: 20, 3: 30}, if there is memory for it.
+fn tens(heap: Heap<'_>) -> Option<Tens<'_>> {
+    let keys = Set::from_iter_dedup(heap, [1u8, 2, 3]).ok()?;
+    Map::from_parts(keys, vec![in heap; 10, 20, 30].ok()?)
 }
 
 /// Half of a value, which is counted.
@@ -64,29 +63,35 @@ fn call_on<'a>(
     (answer, calls)
 }
 
+/// What the answer comes to, after so many calls of the closure, where so many requests were
+/// granted.
+fn outcome_of(answer: (Result<Tens<'_>, MapError<u8>>, u32), granted: u64) -> Outcome {
+    match answer.0 {
+        Ok(halves) => full(halves.values() == [5, 10, 15].as_slice()),
+        Err(MapError::Closure(key)) => full(key == 1),
+        // The second request is for the clone of the keys, after the last call.
+        Err(MapError::Memory) => refused(answer.1 == if granted == 0 { 0 } else { 3 }),
+    }
+}
+
 impl Refusable for Call {
     fn outcome(&self, heap: Heap<'_>, granted: u64) -> Outcome {
-        let (Ok(Some(map)), Ok(Some(owned))) = (tens(heap), tens(heap)) else {
+        let (Some(map), Some(owned)) = (tens(heap), tens(heap)) else {
             return Outcome::Wrong;
         };
         heap.restart(granted);
-        let (answer, calls) = call_on(*self, &map, owned);
-        let unchanged = map.values() == [10, 20, 30].as_slice();
-        match answer {
-            Ok(halves) => full(unchanged && halves.values() == [5, 10, 15].as_slice()),
-            Err(MapError::Closure(key)) => full(unchanged && key == 1),
-            Err(MapError::Memory) => {
-                // The second request is for the clone of the keys, after the last call.
-                refused(unchanged && calls == if granted == 0 { 0 } else { 3 })
-            }
+        let outcome = outcome_of(call_on(*self, &map, owned), granted);
+        if map.values() == [10, 20, 30].as_slice() {
+            outcome
+        } else {
+            Outcome::Wrong
         }
     }
 }
 
 #[test]
 fn the_closure_is_called_after_there_is_room(rt: HostRuntime) {
-    for (call, wanted) in CALLS {
-        let asked = requests(rt.alloc(), &call);
-        assert!(rt; asked == Some(wanted), "{call:?} {asked:?}");
+    for (at, (call, wanted)) in CALLS.iter().enumerate() {
+        assert!(rt; requests(rt.alloc(), call) == Some(*wanted), "{at}");
     }
 }

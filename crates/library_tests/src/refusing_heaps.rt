@@ -1,6 +1,13 @@
 //! The heap of these tests: which requests it refuses, and that it says so.
 use std::alloc::Global;
 use test_equipment::Refusing;
+use test_equipment::walk::Heap;
+
+/// Whether room for so many bytes is granted.
+fn grants(heap: Heap<'_>, count: usize) -> bool {
+    let bytes: Result<Vec<u8, Heap<'_>>, _> = Vec::with_capacity(heap, count);
+    bytes.is_ok()
+}
 
 #[test]
 fn one_request_alone_is_refused(rt: HostRuntime) {
@@ -26,12 +33,10 @@ fn later_requests_are_granted_again(rt: HostRuntime) {
 fn all_later_requests_are_refused(rt: HostRuntime) {
     let heap = Refusing::all_after(rt.alloc(), 1);
     for granted in [true, false, false, false] {
-        let bytes: Result<Vec<u8, &Refusing<Global>>, _> = Vec::with_capacity(&heap, 4);
-        assert!(rt; bytes.is_ok() == granted && heap.has_refused() != granted);
+        assert!(rt; grants(&heap, 4) == granted && heap.has_refused() != granted);
     }
     heap.relent();
-    let bytes: Result<Vec<u8, &Refusing<Global>>, _> = Vec::with_capacity(&heap, 4);
-    assert!(rt; bytes.is_ok() && heap.has_refused());
+    assert!(rt; grants(&heap, 4) && heap.has_refused());
 }
 
 #[test]
@@ -39,9 +44,8 @@ fn large_requests_are_refused_each_time(rt: HostRuntime) {
     let heap = Refusing::above(rt.alloc(), 64);
     for (items, granted) in [(64, true), (65, false), (1, true), (65, false), (64, true)] {
         heap.restart(u64::MAX);
-        let bytes: Result<Vec<u8, &Refusing<Global>>, _> = Vec::with_capacity(&heap, items);
         assert!(rt;
-            bytes.is_ok() == granted && heap.has_refused() != granted,
+            grants(&heap, items) == granted && heap.has_refused() != granted,
             "{items}"
         );
     }

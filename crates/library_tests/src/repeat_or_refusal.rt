@@ -17,22 +17,52 @@ const MANY: u32 = 10_000;
 const FEW: u64 = 8;
 
 /// What is made of the items.
-#[derive(Clone, Copy, Debug)]
+#[derive(Clone, Copy)]
 enum Kind {
     Set,
     Map,
 }
 
-const KINDS: [Kind; 2] = [Kind::Set, Kind::Map];
+/// What is made of the items, and whether these tell how many they are.
+#[derive(Clone, Copy)]
+struct Way(Kind, bool);
+
+const WAYS: [Way; 4] = [
+    Way(Kind::Set, false),
+    Way(Kind::Set, true),
+    Way(Kind::Map, false),
+    Way(Kind::Map, true),
+];
 
 /// How many requests make room for the first item, at most: keys and values may have a room each.
 const ROOMS: u64 = 2;
 
-/// The refusal that the items are answered, if they are refused.
-fn refusal(kind: Kind, heap: Heap<'_>, items: Drawn<'_, u32>) -> Option<Error> {
-    match kind {
-        Kind::Set => Set::try_from_iter(heap, items).err(),
-        Kind::Map => Map::try_from_iter(heap, items.map(|item| (item, 'v'))).err(),
+/// The item with a value.
+fn pair(item: u32) -> (u32, char) {
+    (item, 'v')
+}
+
+/// What the items come to: the refusal that they are answered, if they are refused, whether a
+/// request for memory was refused, and how often an item was asked for.
+type Answer = (Option<Error>, bool, usize);
+
+impl Way {
+    /// The refusal that the items are answered, if they are refused. The questions for one are
+    /// counted.
+    fn refusal(self, heap: Heap<'_>, items: &[u32], asked: &Cell<u32>) -> Option<Error> {
+        let items = Drawn::new(items, asked, self.1);
+        match self.0 {
+            Kind::Set => Set::try_from_iter(heap, items).err(),
+            Kind::Map => Map::try_from_iter(heap, items.map(pair)).err(),
+        }
+    }
+
+    /// What the items come to where the request after so many granted ones is refused.
+    fn answer(self, alloc: Global, items: &[u32], granted: u64) -> Answer {
+        let asked = Cell::new(0);
+        let heap = Refusing::after(alloc, granted);
+        let refusal = self.refusal(&heap, items, &asked);
+        (refusal, heap.has_refused(), asked.get() as usize)
     }
 }
 
@@ -48,16 +78,12 @@ fn items_of(alloc: Global, first: &[u32], last: &[u32]) -> Result<Vec<u32>, Allo
 
 #[test]
 fn a_refusal_before_the_first_repeat_is_told(rt: HostRuntime) {
-    for kind in KINDS {
-        for tells in [false, true] {
-            let asked = Cell::new(0);
-            let heap = Refusing::after(rt.alloc(), 0);
-            let answer = refusal(kind, &heap, Drawn::new(&[5, 5, 7], &asked, tells));
-            assert!(rt;
-                answer == Some(Error::Memory) && heap.has_refused() && asked.get() <= 1,
-                "{kind:?} {tells}"
-            );
-        }
+    for (at, way) in WAYS.into_iter().enumerate() {
+        let (error, refused, asked) = way.answer(rt.alloc(), &[5, 5, 7], 0);
+        assert!(rt;
+            error == Some(Error::Memory) && refused && asked <= 1,
+            "{at}"
+        );
     }
 }
 
@@ -66,18 +92,10 @@ fn a_refusal_before_the_first_repeat_is_told(rt: HostRuntime) {
 fn a_refusal_before_a_late_repeat_is_told(rt: HostRuntime) {
     for last in [MANY - 1, 50, 1] {
         let items = items_of(rt.alloc(), &[1, 2], &[last]).expect(&rt, "memory");
-        for kind in KINDS {
-            for tells in [false, true] {
-                let asked = Cell::new(0);
-                let heap = Refusing::after(rt.alloc(), ROOMS);
-                let answer = refusal(kind, &heap, Drawn::new(&items, &asked, tells));
-                assert!(rt;
-                    answer == Some(Error::Memory)
-                        && heap.has_refused()
-                        && (asked.get() as usize) < items.len(),
-                    "{kind:?} {last} {tells}"
-                );
-            }
+        for (at, way) in WAYS.into_iter().enumerate() {
+            let (error, refused, asked) = way.answer(rt.alloc(), &items, ROOMS);
+            let right = error == Some(Error::Memory) && refused && asked < items.len();
+            assert!(rt; right, "{at} {last}");
         }
     }
 }
@@ -85,33 +103,20 @@ fn a_refusal_before_a_late_repeat_is_told(rt: HostRuntime) {
 #[test]
 fn a_repeat_before_the_first_refusal_is_told(rt: HostRuntime) {
     let items = items_of(rt.alloc(), &[5, 5], &[]).expect(&rt, "memory");
-    for kind in KINDS {
-        for tells in [false, true] {
-            let asked = Cell::new(0);
-            let heap = Refusing::after(rt.alloc(), ROOMS);
-            let answer = refusal(kind, &heap, Drawn::new(&items, &asked, tells));
-            assert!(rt;
-                answer == Some(Error::DuplicateKey) && !heap.has_refused(),
-                "{kind:?} {tells}"
-            );
-        }
+    for (at, way) in WAYS.into_iter().enumerate() {
+        let (error, refused, _) = way.answer(rt.alloc(), &items, ROOMS);
+        assert!(rt; error == Some(Error::DuplicateKey) && !refused, "{at}");
     }
 }
 
 /// Items of which two of the first few are equal.
 #[derive(Drop)]
-struct Repeated {
-    kind: Kind,
-    items: Vec<u32>,
-    tells: bool,
-}
+struct Repeated<'a>(Way, &'a [u32]);
 
-impl Refusable for Repeated {
+impl<'b> Refusable for Repeated<'b> {
     fn outcome(&self, heap: Heap<'_>, granted: u64) -> Outcome {
-        let asked = Cell::new(0);
         heap.restart(granted);
-        let items = Drawn::new(&self.items, &asked, self.tells);
-        match refusal(self.kind, heap, items) {
+        match self.0.refusal(heap, self.1, &Cell::new(0)) {
             Some(Error::Memory) => refused(true),
             answer => full(answer == Some(Error::DuplicateKey)),
         }
@@ -132,15 +137,10 @@ const STARTS: [&[u32]; 6] = [
 #[test]
 fn no_room_is_made_for_what_follows_a_repeat(rt: HostRuntime) {
     for start in STARTS {
-        for kind in KINDS {
-            for tells in [false, true] {
-                let items = items_of(rt.alloc(), start, &[]).expect(&rt, "memory");
-                let asked = requests(rt.alloc(), &Repeated { kind, items, tells });
-                assert!(rt;
-                    matches!(asked, Some(1..=FEW)),
-                    "{kind:?} {start:?} {tells} {asked:?}"
-                );
-            }
+        let items = items_of(rt.alloc(), start, &[]).expect(&rt, "memory");
+        for (at, way) in WAYS.into_iter().enumerate() {
+            let asked = requests(rt.alloc(), &Repeated(way, &items));
+            assert!(rt; matches!(asked, Some(1..=FEW)), "{at} {start:?} {asked:?}");
         }
     }
 }
@@ -149,16 +149,10 @@ fn no_room_is_made_for_what_follows_a_repeat(rt: HostRuntime) {
 fn no_item_is_asked_for_after_a_repeat(rt: HostRuntime) {
     for start in STARTS {
         let items = items_of(rt.alloc(), start, &[]).expect(&rt, "memory");
-        for kind in KINDS {
-            for tells in [false, true] {
-                let asked = Cell::new(0);
-                let heap = Refusing::after(rt.alloc(), u64::MAX);
-                let answer = refusal(kind, &heap, Drawn::new(&items, &asked, tells));
-                assert!(rt;
-                    answer == Some(Error::DuplicateKey) && asked.get() as usize == start.len(),
-                    "{kind:?} {start:?} {tells}"
-                );
-            }
+        for (at, way) in WAYS.into_iter().enumerate() {
+            let (error, _, asked) = way.answer(rt.alloc(), &items, u64::MAX);
+            let right = error == Some(Error::DuplicateKey) && asked == start.len();
+            assert!(rt; right, "{at} {start:?}");
         }
     }
 }

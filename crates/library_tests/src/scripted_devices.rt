@@ -1,10 +1,18 @@
 //! The reader and the writer of these tests: they do what their script says, call by call.
-use std::io::{ErrorKind, Read, Write};
+use std::io::{Error, ErrorKind, Read, Write};
 use std::test::Fail;
 use test_equipment::{ReadFault, ScriptedReader, ScriptedWriter, WriteFault};
 
 /// What a call answers: how many bytes, or the kind of its error.
 type Answer = Result<usize, ErrorKind>;
+
+/// What the call answered.
+fn answer_of(answered: Result<usize, Error>) -> Answer {
+    match answered {
+        Ok(count) => Ok(count),
+        Err(error) => Err(error.kind()),
+    }
+}
 
 const BROKEN: Answer = Err(ErrorKind::BrokenPipe);
 
@@ -82,21 +90,30 @@ const READS: [(u32, ReadFault, [(Answer, &[u8]); 4]); 6] = [
     ),
 ];
 
+/// Whether a call of the reader answers this, and leaves these bytes.
+fn is_call(input: &mut ScriptedReader<'_>, wanted: Answer, rest: &[u8]) -> bool {
+    let mut buf = [0; 9];
+    let before = input.rest;
+    let answer = answer_of(input.read(&mut buf));
+    let given = answer.unwrap_or(0).min(9);
+    answer == wanted && input.rest == rest && before.starts_with(&buf[..given])
+}
+
+/// Whether a reader whose call at a place goes wrong answers and leaves this, in so many calls.
+fn goes_wrong(at: u32, way: ReadFault, calls: &[(Answer, &[u8]); 4]) -> bool {
+    let mut input = ScriptedReader::new(b"abcd", 2).with_fault(at, way);
+    for (wanted, rest) in calls {
+        if !is_call(&mut input, *wanted, rest) {
+            return false;
+        }
+    }
+    input.calls == 4
+}
+
 #[test]
 fn a_reader_goes_wrong_at_one_call_alone(rt: HostRuntime) {
-    for (at, way, calls) in READS {
-        let mut input = ScriptedReader::new(b"abcd", 2).with_fault(at, way);
-        for (wanted, rest) in calls {
-            let mut buf = [0; 9];
-            let before = input.rest;
-            let answer = input.read(&mut buf).map_err(|error| error.kind());
-            let given = answer.unwrap_or(0).min(9);
-            assert!(rt;
-                answer == wanted && input.rest == rest && before.starts_with(&buf[..given]),
-                "{at} {way:?}"
-            );
-        }
-        assert!(rt; input.calls == 4, "{at} {way:?}");
+    for (row, (at, way, calls)) in READS.iter().enumerate() {
+        assert!(rt; goes_wrong(*at, *way, calls), "{row}");
     }
 }
 
@@ -136,7 +153,7 @@ fn a_writer_goes_wrong_at_one_call_or_from_it_on(rt: HostRuntime) {
     for (fault, answers, taken) in WRITES {
         let mut output = ScriptedWriter::new(rt.alloc(), 2).with_fault(1, fault);
         for wanted in answers {
-            let answer = output.write(b"abc").map_err(|error| error.kind());
+            let answer = answer_of(output.write(b"abc"));
             assert!(rt; answer == wanted, "{fault:?}");
         }
         assert!(rt;

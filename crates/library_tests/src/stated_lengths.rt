@@ -5,10 +5,11 @@
 //! for as many more as the bytes hold that are left. A reader that made room for a stated length,
 //! or for all the bytes there are, would be refused memory for it here: it would answer `Memory`,
 //! or read on and have been refused.
-use commonware_utils::codec::{Error, RangeCfg, Read, Source};
+use crate::readings::outcome;
+use commonware_utils::codec::{Error, RangeCfg};
 use commonware_utils::ordered::{BiMap, Map, Set};
 use commonware_utils::vec::NonEmptyVec;
-use std::alloc::{AllocError, Allocator, Global};
+use std::alloc::{AllocError, Global};
 use std::num::NonZeroUsize;
 use test_equipment::Refusing;
 use test_equipment::walk::Heap;
@@ -23,7 +24,7 @@ const MOST_ROOM: usize = 1024;
 const NUMBER: usize = 8;
 
 /// What a text is read as.
-#[derive(Clone, Copy, Debug)]
+#[derive(Clone, Copy)]
 enum Form {
     List,
     Set,
@@ -42,17 +43,6 @@ enum Form {
     NumberSet,
     /// A list of numbers, which is never empty.
     SomeNumbers,
-}
-
-/// What is said of a reading: the error, if there is one, and how many bytes were read.
-fn outcome<T: Read<A> + Drop, A: Allocator>(
-    alloc: A,
-    bytes: &[u8],
-    cfg: &T::Cfg,
-) -> (Option<Error>, usize) {
-    let mut src = Source::new(bytes);
-    let read: Result<T, Error> = T::read_cfg(alloc, &mut src, cfg);
-    (read.err(), src.position())
 }
 
 impl Form {
@@ -95,20 +85,42 @@ const SHORT: [(Form, &[u8], &[u8]); 10] = [
     (Form::Lists, b"\x01\x09\x01", b"\x05\x06"),
 ];
 
+/// Whether reading the form from the bytes comes to this with little memory at once, and none is
+/// refused.
+fn comes_to(alloc: Global, form: Form, bytes: &[u8], wanted: (Option<Error>, usize)) -> bool {
+    let heap = Refusing::above(alloc, MOST_BYTES);
+    form.read(&heap, bytes) == wanted && !heap.has_refused()
+}
+
+/// The bytes of a stated length, with those before and after it.
+fn joined(
+    alloc: Global,
+    before: &[u8],
+    stated: &[u8],
+    after: &[u8],
+) -> Result<Vec<u8>, AllocError> {
+    let mut bytes = before.to_vec(alloc)?;
+    bytes.extend_from_slice(stated)?;
+    bytes.extend_from_slice(after)?;
+    Ok(bytes)
+}
+
+/// Whether the end of the text is met after each stated length, between these bytes.
+fn is_short(alloc: Global, form: Form, before: &[u8], after: &[u8]) -> Result<bool, AllocError> {
+    for stated in STATED {
+        let bytes = joined(alloc, before, stated, after)?;
+        if !comes_to(alloc, form, &bytes, (Some(Error::EndOfBuffer), 0)) {
+            return Ok(false);
+        }
+    }
+    Ok(true)
+}
+
 #[test]
 fn a_stated_length_alone_makes_no_room(rt: HostRuntime) {
-    for (form, before, after) in SHORT {
-        for stated in STATED {
-            let heap = Refusing::above(rt.alloc(), MOST_BYTES);
-            let mut bytes = before.to_vec(rt.alloc()).expect(&rt, "memory");
-            bytes.extend_from_slice(stated).expect(&rt, "memory");
-            bytes.extend_from_slice(after).expect(&rt, "memory");
-            let outcome = form.read(&heap, &bytes);
-            assert!(rt;
-                outcome == (Some(Error::EndOfBuffer), 0) && !heap.has_refused(),
-                "{form:?} {bytes:?}"
-            );
-        }
+    for (at, (form, before, after)) in SHORT.iter().enumerate() {
+        let short = is_short(rt.alloc(), *form, before, after).expect(&rt, "memory");
+        assert!(rt; short, "{at}");
     }
 }
 
@@ -125,11 +137,9 @@ fn short_lists_are_accepted(rt: HostRuntime) {
         (Form::NonEmptyNest, b"\x02\x01\x07\x02\x05\x06"),
         (Form::Lists, b"\x01\x09\x01\x02\x05\x06"),
     ] {
-        let heap = Refusing::above(rt.alloc(), MOST_BYTES);
-        let outcome = form.read(&heap, bytes);
         assert!(rt;
-            outcome == (None, bytes.len()) && !heap.has_refused(),
-            "{form:?} {bytes:?}"
+            comes_to(rt.alloc(), form, bytes, (None, bytes.len())),
+            "{bytes:?}"
         );
     }
 }
@@ -165,28 +175,34 @@ const ROOMS: [(&[u8], usize, usize, usize); 7] = [
     (b"\x87\x01", MOST_ROOM + 1, 9000, MOST_ROOM + 1 + 4500),
 ];
 
+/// Whether the fault is met with so many bytes at once, and with one less memory is refused.
+fn takes(alloc: Global, form: Form, bytes: &[u8], most: usize) -> bool {
+    let heap = Refusing::above(alloc, most);
+    let less = Refusing::above(alloc, most.saturating_sub(1));
+    form.read(&heap, bytes) == (Some(Error::InvalidVarint), 0)
+        && !heap.has_refused()
+        && form.read(&less, bytes) == (Some(Error::Memory), 0)
+        && less.has_refused()
+}
+
+/// Whether each form of numbers takes just this much memory at once for the bytes.
+fn each_takes(alloc: Global, bytes: &[u8], most: usize) -> bool {
+    for form in [Form::Numbers, Form::NumberSet, Form::SomeNumbers] {
+        if !takes(alloc, form, bytes, most) {
+            return false;
+        }
+    }
+    true
+}
+
 /// Room goes by the bytes that are there, whatever length is stated.
 #[test]
 fn room_goes_by_the_bytes_that_are_there(rt: HostRuntime) {
-    for form in [Form::Numbers, Form::NumberSet, Form::SomeNumbers] {
-        for stated in STATED {
-            for (number, times, faulty, room) in ROOMS {
-                let bytes = numbers(rt.alloc(), stated, number, times, faulty).expect(
-                    &rt, "memory",
-                );
-                let heap = Refusing::above(rt.alloc(), room * NUMBER);
-                let outcome = form.read(&heap, &bytes);
-                assert!(rt;
-                    outcome == (Some(Error::InvalidVarint), 0) && !heap.has_refused(),
-                    "{form:?} {stated:?} {times} {faulty}"
-                );
-                let less = Refusing::above(rt.alloc(), room * NUMBER - 1);
-                let outcome = form.read(&less, &bytes);
-                assert!(rt;
-                    outcome == (Some(Error::Memory), 0) && less.has_refused(),
-                    "{form:?} {stated:?} {times} {faulty}"
-                );
-            }
+    for stated in STATED {
+        for (number, times, faulty, room) in ROOMS {
+            let bytes = numbers(rt.alloc(), stated, number, times, faulty).expect(&rt, "memory");
+            let right = each_takes(rt.alloc(), &bytes, room.saturating_mul(NUMBER));
+            assert!(rt; right, "{stated:?} {times} {faulty}");
         }
     }
 }

@@ -9,6 +9,7 @@ use committee_core::{Command, RunError, Watched, parse_args, run, session};
 use commonware_base::codec::Error;
 use std::alloc::Global;
 use std::io::ErrorKind;
+use test_equipment::ScriptedWriter;
 use test_equipment::walk::{Heap, Outcome, Refusable, asks_for, full, refused};
 
 /// What a program is asked and given, and what it comes to.
@@ -64,8 +65,58 @@ impl Asked {
 
     /// What it writes where it isn't refused.
     fn written(&self) -> &'static str {
-        self.outcome.as_ref().map_or("", |report| *report)
+        match &self.outcome {
+            Ok(report) => report,
+            Err(_) => "",
+        }
     }
+}
+
+/// Whether the writer was never called.
+fn is_silent(output: &ScriptedWriter<Global>) -> bool {
+    (output.calls, output.flushes) == (0, 0)
+}
+
+impl Asked {
+    /// Whether the writer has taken what is written.
+    fn is_taken_by(&self, output: &ScriptedWriter<Global>) -> bool {
+        output.taken.as_slice() == self.written().as_bytes()
+    }
+
+    /// What a run comes to that answers this and has called the writer so.
+    fn run_outcome(
+        &self,
+        answer: Result<(), RunError>,
+        output: &ScriptedWriter<Global>,
+    ) -> Outcome {
+        match (answer, &self.outcome) {
+            (Err(RunError::Memory), _) => refused(is_silent(output)),
+            (Ok(()), Ok(_)) => full(self.is_taken_by(output)),
+            (Err(error), Err(wanted)) => full(error == *wanted && self.is_taken_by(output)),
+            _ => Outcome::Wrong,
+        }
+    }
+
+    /// What a session comes to that ends with this status and has called the writers so.
+    fn session_outcome(
+        &self,
+        status: u8,
+        output: &ScriptedWriter<Global>,
+        errors: &ScriptedWriter<Global>,
+    ) -> Outcome {
+        let said = errors.taken.as_slice();
+        if status == 3 {
+            return refused(is_silent(output) && said == b"failed: out of memory\n".as_slice());
+        }
+        let right = status == self.status && said == self.line.as_bytes();
+        full(right && self.is_taken_by(output))
+    }
+}
+
+/// The command that the words ask for.
+fn command_of(heap: Heap<'_>, words: &[&str]) -> Option<Command> {
+    let words = words_of(heap, words).ok()?;
+    parse_args(&words)
 }
 
 /// Programs, each to be done by `run` and by `session`.
@@ -122,10 +173,7 @@ struct Run<'a>(Global, &'a Asked);
 impl<'b> Refusable for Run<'b> {
     fn outcome(&self, heap: Heap<'_>, granted: u64) -> Outcome {
         let Run(alloc, asked) = self;
-        let command = words_of(heap, asked.words)
-            .ok()
-            .and_then(|words| parse_args(&words));
-        let Some(command) = command else {
+        let Some(command) = command_of(heap, asked.words) else {
             return Outcome::Wrong;
         };
         let mut input = asked.input().reader();
@@ -133,18 +181,11 @@ impl<'b> Refusable for Run<'b> {
         heap.restart(granted);
         let outcome = run(heap, command, &mut input, &mut output);
         let read = command == Command::Read || input.inner().calls == 0;
-        let whole = read && !input.failed() && !output.failed();
-        let taken = output.inner().taken.as_slice();
-        if outcome == Err(RunError::Memory) {
-            let device = output.inner();
-            return refused(whole && (device.calls, device.flushes) == (0, 0));
+        if read && !input.failed() && !output.failed() {
+            asked.run_outcome(outcome, output.inner())
+        } else {
+            Outcome::Wrong
         }
-        let right = match (&outcome, &asked.outcome) {
-            (Ok(()), Ok(_)) => true,
-            (Err(error), Err(wanted)) => *error == *wanted,
-            _ => false,
-        };
-        full(whole && right && taken == asked.written().as_bytes())
     }
 }
 
@@ -163,14 +204,7 @@ impl<'b> Refusable for Session<'b> {
         let mut errors = TAKEN.writer(*alloc);
         heap.restart(granted);
         let status = session(heap, &words, &mut input, &mut output, &mut errors);
-        let device = output.inner();
-        let (taken, said) = (device.taken.as_slice(), errors.taken.as_slice());
-        if status == 3 {
-            let silent = (device.calls, device.flushes) == (0, 0);
-            return refused(silent && said == b"failed: out of memory\n".as_slice());
-        }
-        let right = status == asked.status && said == asked.line.as_bytes();
-        full(right && taken == asked.written().as_bytes())
+        asked.session_outcome(status, output.inner(), &errors)
     }
 }
 

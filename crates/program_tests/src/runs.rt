@@ -11,7 +11,7 @@ use std::test::Fail;
 use test_equipment::{Refusing, ScriptedReader, ScriptedWriter, WriteFault};
 
 /// How a run ends that has memory, and bytes that are a committee.
-#[derive(Clone, Copy, Debug, PartialEq, Eq)]
+#[derive(Clone, Copy, PartialEq, Eq)]
 pub enum End {
     Done,
     ReadFailed,
@@ -55,17 +55,6 @@ pub struct Run<'a> {
     pub written: &'a [u8],
 }
 
-/// What is called with the devices.
-#[derive(Clone, Copy, Debug, PartialEq, Eq)]
-enum Call {
-    /// `run`, with the command.
-    Run,
-    /// `session`, with the words.
-    Session,
-    /// `start`, with the words after the program's name.
-    Start,
-}
-
 /// Whether the devices are left as they have to be.
 fn are_right(
     input: &Watched<ScriptedReader<'_>>,
@@ -82,43 +71,47 @@ fn are_right(
         && device.taken.as_slice() == wanted.written
 }
 
-/// Whether the call comes to what it has to.
-fn is_right_by(alloc: Global, call: Call, wanted: &Run<'_>) -> Result<bool, AllocError> {
+/// Whether the status is that of the end, and standard error has taken its line.
+fn is_told(status: u8, errors: &ScriptedWriter<Global>, end: End) -> bool {
+    let (wanted, line) = end.status();
+    status == wanted && errors.taken.as_slice() == line.as_bytes()
+}
+
+/// Whether `run` comes to what it has to, with the command.
+fn is_run(alloc: Global, wanted: &Run<'_>) -> bool {
+    let heap = Refusing::after(alloc, u64::MAX);
+    let mut input = wanted.input.reader();
+    let mut output = Watched::new(wanted.output.writer(alloc));
+    let answer = run(&heap, wanted.command, &mut input, &mut output);
+    answer == wanted.end.answer() && are_right(&input, &output, wanted)
+}
+
+/// Whether `session` comes to what it has to, with the words.
+fn is_session(alloc: Global, wanted: &Run<'_>) -> Result<bool, AllocError> {
     let heap = Refusing::after(alloc, u64::MAX);
     let words = words_of(&heap, wanted.words)?;
-    let texts = arguments_of(&heap, wanted.words)?;
     let mut input = wanted.input.reader();
     let mut output = Watched::new(wanted.output.writer(alloc));
     let mut errors = TAKEN.writer(alloc);
-    let (status, line) = wanted.end.status();
-    let (answered, said) = match call {
-        Call::Run => {
-            let answer = run(&heap, wanted.command, &mut input, &mut output);
-            (answer == wanted.end.answer(), "")
-        }
-        Call::Session => {
-            let answer = session(&heap, &words, &mut input, &mut output, &mut errors);
-            (answer == status, line)
-        }
-        Call::Start => {
-            let arguments = Ok(texts.into_iter());
-            let answer = start(&heap, arguments, &mut input, &mut output, &mut errors);
-            (answer == status, line)
-        }
-    };
-    let told = errors.taken.as_slice() == said.as_bytes();
-    Ok(answered && told && are_right(&input, &output, wanted))
+    let status = session(&heap, &words, &mut input, &mut output, &mut errors);
+    Ok(is_told(status, &errors, wanted.end) && are_right(&input, &output, wanted))
+}
+
+/// Whether `start` comes to what it has to, with the words after the program's name.
+fn is_start(alloc: Global, wanted: &Run<'_>) -> Result<bool, AllocError> {
+    let heap = Refusing::after(alloc, u64::MAX);
+    let arguments = Ok(arguments_of(&heap, wanted.words)?.into_iter());
+    let mut input = wanted.input.reader();
+    let mut output = Watched::new(wanted.output.writer(alloc));
+    let mut errors = TAKEN.writer(alloc);
+    let status = start(&heap, arguments, &mut input, &mut output, &mut errors);
+    Ok(is_told(status, &errors, wanted.end) && are_right(&input, &output, wanted))
 }
 
 /// Whether the run comes to what it has to by itself, in a session, and from the program's
 /// arguments.
 pub fn is_right(alloc: Global, wanted: &Run<'_>) -> Result<bool, AllocError> {
-    for call in [Call::Run, Call::Session, Call::Start] {
-        if !is_right_by(alloc, call, wanted)? {
-            return Ok(false);
-        }
-    }
-    Ok(true)
+    Ok(is_run(alloc, wanted) && is_session(alloc, wanted)? && is_start(alloc, wanted)?)
 }
 
 /// A run that reads these bytes at once, and writes this report at once.

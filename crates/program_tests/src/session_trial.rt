@@ -3,8 +3,8 @@ use crate::committees::{TWO, TWO_REPORT};
 use crate::devices::{Input, Output, TAKEN};
 use committee_core::{Watched, session};
 use std::alloc::{AllocError, Global};
-use test_equipment::Refusing;
 use test_equipment::walk::Heap;
+use test_equipment::{Refusing, ScriptedReader, ScriptedWriter};
 
 /// A session, and what it has to come to.
 #[derive(Clone, Copy)]
@@ -69,9 +69,35 @@ pub fn arguments_of<'a>(
     Ok(strings)
 }
 
-/// Whether the session comes to what it has to. Nothing is read but for the word `read`, the
-/// writer isn't called where nothing is to be written, and standard error isn't called again
-/// where it failed.
+/// Whether the reader is called for the word `read` alone, and the writer has taken what it has to
+/// and isn't called where nothing is to be written.
+fn are_right(
+    input: &Watched<ScriptedReader<'_>>,
+    output: &Watched<ScriptedWriter<Global>>,
+    wanted: &Session<'_>,
+) -> bool {
+    let device = output.inner();
+    let written = match wanted.written {
+        Some(text) => {
+            let silent = !text.is_empty() || (device.calls, device.flushes) == (0, 0);
+            silent && device.taken.as_slice() == text.as_bytes()
+        }
+        None => true,
+    };
+    (wanted.words == READ || input.inner().calls == 0)
+        && output.failed() == wanted.written.is_none()
+        && written
+}
+
+/// Whether the status is the wanted one, and standard error has taken what is said, and isn't
+/// called again where it failed.
+fn is_told(status: u8, errors: &ScriptedWriter<Global>, wanted: &Session<'_>) -> bool {
+    status == wanted.status
+        && (wanted.errors.fault.is_none() || errors.calls == (status > 0) as u32)
+        && errors.taken.as_slice() == wanted.said.as_bytes()
+}
+
+/// Whether the session comes to what it has to.
 pub fn is_right(alloc: Global, wanted: &Session<'_>) -> Result<bool, AllocError> {
     let heap = Refusing::after(alloc, u64::MAX);
     let words = words_of(&heap, wanted.words)?;
@@ -80,19 +106,5 @@ pub fn is_right(alloc: Global, wanted: &Session<'_>) -> Result<bool, AllocError>
     let mut errors = wanted.errors.writer(alloc);
     heap.restart(wanted.granted);
     let status = session(&heap, &words, &mut input, &mut output, &mut errors);
-    let device = output.inner();
-    let taken = device.taken.as_slice();
-    let reads = wanted.words == READ || input.inner().calls == 0;
-    let told = output.failed() == wanted.written.is_none();
-    let silent = wanted.written != Some("") || (device.calls, device.flushes) == (0, 0);
-    let tried = wanted.errors.fault.is_none() || errors.calls == (status > 0) as u32;
-    Ok(
-        status == wanted.status
-            && reads
-            && told
-            && silent
-            && tried
-            && !matches!(wanted.written, Some(text) if text.as_bytes() != taken)
-            && errors.taken.as_slice() == wanted.said.as_bytes(),
-    )
+    Ok(is_told(status, &errors, wanted) && are_right(&input, &output, wanted))
 }

@@ -13,7 +13,7 @@ use test_equipment::{Refusing, ScriptedWriter, WriteFault};
 const WRITE: &[&str] = &["write"];
 
 /// What fails in a session, besides standard error.
-#[derive(Clone, Copy, Debug, PartialEq, Eq)]
+#[derive(Clone, Copy)]
 enum Failing {
     Nothing,
     /// The reader, after its bytes.
@@ -94,7 +94,7 @@ fn session_on(
         _ => TAKEN.writer(alloc),
     });
     let mut device = errors.writer(alloc);
-    if failing == Failing::Memory {
+    if matches!(failing, Failing::Memory) {
         heap.restart(0);
     }
     let status = session(&heap, &words, &mut input, &mut output, &mut device);
@@ -165,6 +165,6 @@ fn a_standard_error_that_takes_no_byte_is_called_once(rt: HostRuntime) {
     let errors = Output { step: 0, ..TAKEN };
     for row in &LINES {
         let right = is_right(rt.alloc(), row, errors, b"", 1).expect(&rt, "memory");
-        assert!(rt; right, "{row:?}");
+        assert!(rt; right, "{}", row.3);
     }
 }

@@ -7,8 +7,8 @@ use committee_core::{Watched, start};
 use std::alloc::{AllocError, Global};
 use std::io;
 use std::io::ErrorKind;
-use test_equipment::Refusing;
 use test_equipment::walk::{Heap, Outcome, Refusable, asks_for, full, refused};
+use test_equipment::{Refusing, ScriptedWriter};
 
 /// What is said to other words.
 const USAGE: &str = "usage: committee read, or committee bounds <n>\n";
@@ -33,12 +33,8 @@ fn is_right(heap: Heap<'_>, alloc: Global, row: &Row) -> Result<bool, AllocError
     let mut output = Watched::new(TAKEN.writer(alloc));
     let mut errors = TAKEN.writer(alloc);
     let status = start(heap, arguments, &mut input, &mut output, &mut errors);
-    let taken = output.inner().taken.as_slice();
-    Ok(
-        status == wanted
-            && taken == written.as_bytes()
-            && errors.taken.as_slice() == said.as_bytes(),
-    )
+    let told = status == wanted && errors.taken.as_slice() == said.as_bytes();
+    Ok(told && output.inner().taken.as_slice() == written.as_bytes())
 }
 
 #[test]
@@ -55,8 +51,18 @@ fn the_words_follow_the_programs_name(rt: HostRuntime) {
         (None, 3, "", "failed: out of memory\n"),
     ];
     let heap = Refusing::after(rt.alloc(), u64::MAX);
-    for row in &rows {
-        assert!(rt; is_right(&heap, rt.alloc(), row) == Ok(true), "{row:?}");
+    for (at, row) in rows.iter().enumerate() {
+        assert!(rt; is_right(&heap, rt.alloc(), row) == Ok(true), "{at}");
+    }
+}
+
+/// What the start comes to that ends with this status, after these calls of its writer and these
+/// bytes on standard error.
+fn outcome_of(status: u8, output: &ScriptedWriter<Global>, said: &[u8]) -> Outcome {
+    match status {
+        0 => full(output.taken.as_slice() == TWO_REPORT.as_bytes() && said.is_empty()),
+        3 => refused(output.calls == 0 && said == b"failed: out of memory\n".as_slice()),
+        _ => Outcome::Wrong,
     }
 }
 
@@ -77,13 +83,7 @@ impl Refusable for TwoStart {
         heap.restart(granted);
         let arguments = Ok(texts.into_iter());
         let status = start(heap, arguments, &mut input, &mut output, &mut errors);
-        let device = output.inner();
-        let (taken, said) = (device.taken.as_slice(), errors.taken.as_slice());
-        match status {
-            0 => full(taken == TWO_REPORT.as_bytes() && said.is_empty()),
-            3 => refused(device.calls == 0 && said == b"failed: out of memory\n".as_slice()),
-            _ => Outcome::Wrong,
-        }
+        outcome_of(status, output.inner(), errors.taken.as_slice())
     }
 
     fn may_do_without(&self) -> bool {
