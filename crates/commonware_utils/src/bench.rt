@@ -110,9 +110,10 @@ fn is_read_as<T: Read<A> + PartialEq + Drop, A: Allocator + Copy>(
     value: &T,
     taken: usize,
 ) -> bool {
-    match read::<T, A>(alloc, bytes, cfg) {
-        (Ok(again), position) => again == *value && position == taken,
-        _ => false,
+    let (result, position) = read::<T, A>(alloc, bytes, cfg);
+    match result {
+        Ok(again) => again == *value && position == taken,
+        Err(_) => false,
     }
 }
 
