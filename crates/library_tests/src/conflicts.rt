@@ -89,7 +89,7 @@ const ROWS: [Row; 8] = [
 
 /// The members that signed both. `None` where the values are the same, or the committee has no
 /// members or too many.
-fn conflict_of<M: Faults, A: Allocator + Copy>(
+pub(super) fn conflict_of<M: Faults, A: Allocator + Copy>(
     alloc: A,
     committee: &Set<u32, A>,
     first: &Certificate<A>,

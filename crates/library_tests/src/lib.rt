@@ -14,6 +14,8 @@ mod conflicts;
 #[cfg(test)]
 mod drawn;
 #[cfg(test)]
+mod large_inputs;
+#[cfg(test)]
 mod memory_free_texts;
 #[cfg(test)]
 mod readings;

@@ -18,6 +18,7 @@ pub fn write_whole<W: Write>(output: &mut Watched<W>, bytes: &[u8]) -> Result<()
     ensures bytes { OnOk result
         (Appends (W.contents output.old.inner) (W.contents output.new.inner) bytes.now) }
     ensures sound { OnOk result (output.new.failed ≡ output.old.failed) }
+    ensures ended { output.new.ended ≡ output.old.ended }
 
     // Where it gives up.
     ensures failed { OnErr result (output.new.failed ≡ true) }

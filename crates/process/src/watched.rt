@@ -136,6 +136,7 @@ impl<S: Write> Watched<S> {
         ensures bytes { OnOk result
             (Appends (S.contents self.old.inner) (S.contents self.new.inner) bytes.now) }
         ensures sound { OnOk result (self.new.failed ≡ self.old.failed) }
+        ensures ended { self.new.ended ≡ self.old.ended }
         ensures failed { OnErr result (self.new.failed ≡ true) }
         ensures beginning { (front back : List ℕ) × (bytes.now ≡ front ++ back)
             × Appends (S.contents self.old.inner) (S.contents self.new.inner) front }

@@ -1,0 +1,101 @@
+//! Builders and `conflict` at inputs that are longer than every buffer and every first room of the
+//! library, in an order that is neither rising nor falling: with ample memory they answer.
+use crate::conflicts::conflict_of;
+use committee_certificates::Certificate;
+use commonware_utils::faults::N3f1;
+use commonware_utils::ordered::{BiMap, Error, Map, Set};
+use commonware_utils::{Participant, TryFromIterator};
+use std::alloc::{AllocError, Global};
+use std::ops::Range;
+
+/// How many items there are: more than 65,536.
+const COUNT: u32 = 70_000;
+
+/// The number at a position: 27,449 has no divisor in common with 70,000, so each number below
+/// 70,000 stands at one position.
+fn number(position: u32) -> u32 {
+    (u64::from(position) * 27_449 % u64::from(COUNT)) as u32
+}
+
+/// The numbers below 70,000 in a mixed order, each with its position.
+fn pairs(alloc: Global) -> Result<Vec<(u32, u32)>, AllocError> {
+    let mut pairs = Vec::new(alloc);
+    for position in 0..COUNT {
+        pairs.push((number(position), position))?;
+    }
+    Ok(pairs)
+}
+
+/// Whether these are the numbers below 70,000, in order.
+fn are_all(keys: &[u32]) -> bool {
+    keys.iter().copied().eq(0..COUNT)
+}
+
+/// Whether the number of each key stands at the position that is its value.
+fn are_at(keys: &[u32], values: &[u32]) -> bool {
+    for (key, position) in keys.iter().zip(values) {
+        if number(*position) != *key {
+            return false;
+        }
+    }
+    keys.len() == values.len()
+}
+
+fn is_whole_set(alloc: Global, pairs: &[(u32, u32)]) -> Result<bool, Error> {
+    let set = Set::try_from_iter(alloc, pairs.iter().map(|pair| pair.0))?;
+    let kept = Set::from_iter_dedup(alloc, pairs.iter().chain(pairs).map(|pair| pair.0))?;
+    Ok(are_all(set.as_slice()) && are_all(kept.as_slice()))
+}
+
+fn is_whole_map(alloc: Global, pairs: &[(u32, u32)]) -> Result<bool, Error> {
+    let map = Map::try_from_iter(alloc, pairs.iter().copied())?;
+    Ok(are_all(map.keys().as_slice()) && are_at(map.keys().as_slice(), map.values()))
+}
+
+fn is_whole_bimap(alloc: Global, pairs: &[(u32, u32)]) -> Result<bool, Error> {
+    let bimap = BiMap::try_from_iter(alloc, pairs.iter().copied())?;
+    Ok(are_all(bimap.keys().as_slice()) && are_at(bimap.keys().as_slice(), bimap.values()))
+}
+
+#[test]
+fn many_mixed_items_are_taken(rt: HostRuntime) {
+    let pairs = pairs(rt.alloc()).expect(&rt, "memory");
+    assert!(rt; is_whole_set(rt.alloc(), pairs.as_slice()) == Ok(true));
+    assert!(rt; is_whole_map(rt.alloc(), pairs.as_slice()) == Ok(true));
+    assert!(rt; is_whole_bimap(rt.alloc(), pairs.as_slice()) == Ok(true));
+}
+
+/// A certificate of a value of one byte that the members in a range of indices signed.
+fn signed(
+    alloc: Global,
+    value: u8,
+    signers: Range<u32>,
+) -> Result<Certificate<Global>, AllocError> {
+    Ok(Certificate {
+        value: Vec::from_slice(alloc, &[value])?,
+        signers: Set::from_iter_dedup(alloc, signers.map(Participant::new))?,
+    })
+}
+
+/// Whether members 30,000 to 69,999 of 100,000 are named where the first 70,000 signed one value
+/// and the last 70,000 another. 66,667 are a quorum.
+fn are_named(
+    alloc: Global,
+    committee: &Set<u32, Global>,
+    first: &Certificate<Global>,
+    second: &Certificate<Global>,
+) -> bool {
+    match conflict_of::<N3f1, _>(alloc, committee, first, second) {
+        Some(Ok(both)) => both.iter().map(|signer| signer.get()).eq(30_000..COUNT),
+        _ => false,
+    }
+}
+
+#[test]
+fn many_signers_of_both_are_named(rt: HostRuntime) {
+    let alloc = rt.alloc();
+    let committee = Set::from_iter_dedup(alloc, 0..100_000u32).expect(&rt, "memory");
+    let first = signed(alloc, 1, 0..COUNT).expect(&rt, "memory");
+    let second = signed(alloc, 2, 30_000..100_000).expect(&rt, "memory");
+    assert!(rt; are_named(alloc, &committee, &first, &second));
+}
