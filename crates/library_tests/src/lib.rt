@@ -14,7 +14,11 @@ mod conflicts;
 #[cfg(test)]
 mod drawn;
 #[cfg(test)]
+mod held_heaps;
+#[cfg(test)]
 mod large_inputs;
+#[cfg(test)]
+mod long_texts;
 #[cfg(test)]
 mod memory_free_texts;
 #[cfg(test)]

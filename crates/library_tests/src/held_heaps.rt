@@ -1,0 +1,47 @@
+//! Which allocator a set and a map answer, where there are two.
+use commonware_utils::TryFromIterator;
+use commonware_utils::ordered::{BiMap, Error, Map, Set};
+use std::alloc::Global;
+use test_equipment::Refusing;
+use test_equipment::walk::Heap;
+
+/// Whether the allocator is the heap: it refuses a request where the heap refuses all of them.
+fn is_heap(allocator: Heap<'_>, heap: Heap<'_>) -> bool {
+    heap.restart(0);
+    let refused = Vec::<u8, _>::with_capacity(allocator, 1).is_err();
+    heap.restart(u64::MAX);
+    refused
+}
+
+/// Whether a set, a map and a bimap answer the heap that they were made on, and no other one.
+fn are_held(heap: Heap<'_>, other: Heap<'_>) -> Result<bool, Error> {
+    let set = Set::try_from_iter(heap, [3u8, 1, 2])?;
+    let map = Map::try_from_iter(heap, [(3u8, 30u8), (1, 10)])?;
+    let bimap = BiMap::try_from_iter(heap, [(3u8, 30u8), (1, 10)])?;
+    let mut held = true;
+    for allocator in [*set.allocator(), *map.allocator(), *bimap.allocator()] {
+        held = held && is_heap(allocator, heap) && !is_heap(allocator, other);
+    }
+    Ok(held)
+}
+
+/// Whether a map of keys on one heap and values on another answers that of the keys, and its keys
+/// do.
+fn is_that_of_the_keys(keys: Heap<'_>, values: Heap<'_>) -> Result<bool, Error> {
+    let set = Set::try_from_iter(keys, [1u8, 2])?;
+    let list = Vec::from_slice(values, &[10u8, 20])?;
+    let Some(map) = Map::from_parts(set, list) else {
+        return Ok(false);
+    };
+    let held = is_heap(*map.allocator(), keys) && !is_heap(*map.allocator(), values);
+    Ok(held && is_heap(*map.into_keys().allocator(), keys))
+}
+
+#[test]
+fn collections_answer_the_heap_that_they_hold(rt: HostRuntime) {
+    let first = Refusing::<Global>::all_after(rt.alloc(), u64::MAX);
+    let second = Refusing::<Global>::all_after(rt.alloc(), u64::MAX);
+    assert!(rt; are_held(&first, &second) == Ok(true));
+    assert!(rt; are_held(&second, &first) == Ok(true));
+    assert!(rt; is_that_of_the_keys(&first, &second) == Ok(true));
+}
