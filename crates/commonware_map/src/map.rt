@@ -70,7 +70,8 @@ impl<K: Ord, V, A: Allocator> Map<K, V, A> {
         (keys, values)
     }
 
-    /// The allocator of the map.
+    /// The allocator of the map, which is that of its keys. The values of a map that `from_parts`
+    /// made may lie on another.
     pub fn allocator(&self) -> &A {
         self.keys.allocator()
     }

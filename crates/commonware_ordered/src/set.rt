@@ -48,7 +48,7 @@ impl<T: Ord, A: Allocator> Set<T, A> {
         }
     }
 
-    /// The allocator of the set.
+    /// The allocator that the set was made on, which holds its items.
     pub fn allocator(&self) -> &A {
         self.items.allocator()
     }
