@@ -11,7 +11,8 @@ use Rattle.std.proofs.lemmas.List.FromFn.{get_or-map-range_with_len}
 use Rattle.std.proofs.lemmas.Map.Views.{Contains-from_any, list_any-from_Contains}
 use Rattle.std.proofs.lemmas.Option.{slice_get-get_or, slice_get_within}
 use Rattle.commonware_faults.specs.Subsets.{size, shared, passing, IsIn, IsOutside, Overlap, Greatest3, Greatest5}
-use Rattle.commonware_faults.specs.SubsetLaws.{Overlap-at_least, beyond}
+use Rattle.commonware_faults.specs.SubsetLaws.{Overlap-at_ends, beyond}
+use Rattle.commonware_faults.specs.ToleranceLaws.{quorums_share, Greatest-fit, Greatest-three}
 use Rattle.commonware_faults.specs.SubsetSizeLaws.{shared-map, size-agree, length-passing}
 use Rattle.commonware_ordered.specs.Strict.{IsStrict}
 use Rattle.committee_certificates.specs.Signers.{AreInBoth, AreMembers, LeavesOneOutside}
@@ -76,25 +77,20 @@ module _ {n f : ℕ} {xs ys zs : List ℕ} (c : AreQuorumsAndBoth n f xs ys zs) 
       let in_both = (c.both.exactly (get_or zs k 0)).0 (Contains-get_or zs k 0 h) in
       All-contains (λ p. p < n) xs _ c.first_members in_both.0)
 
-  -- as many are in both as any two sub-sets of n - f share
-  many : (k : ℕ) → Overlap n (n - f) (n - f) k → k ≤ length zs
-  many k h =
+  -- at least n - 2f are in both, whatever f is
+  pub both-many : n ≤ 2 * f + length zs
+  both-many =
       let size_xs = size-truths n xs c.first_strict c.first_members in
       let size_ys = size-truths n ys c.second_strict c.second_members in
       let size_zs = size-truths n zs c.both.strict members in
-      let at_least = Overlap-at_least n (n - f) (n - f) k (omega arith) (omega arith) h in
-      let shared_least =
-      at_least.shares (truths n xs) (truths n ys) (length-passing _ n) (length-passing _ n)
+      let share =
+      (quorums_share n f).shares (truths n xs) (truths n ys) (length-passing _ n) (length-passing _ n)
       (omega (arith, size_xs, c.first_enough)) (omega (arith, size_ys, c.second_enough)) in
-      omega (arith, shared-truths n xs ys zs c.both, size_zs, shared_least)
+      omega (arith, shared-truths n xs ys zs c.both, size_zs, share)
 
-  -- where any two sub-sets of n - f share f + 1, so many are in both
-  pub both-thirds : Greatest3 n f → f + 1 ≤ length zs
-  both-thirds h = many (f + 1) h.overlaps
-
-  -- where they share 3f + 1, so many are
-  pub both-fifths : Greatest5 n f → 3 * f + 1 ≤ length zs
-  both-fifths h = many (3 * f + 1) h.overlaps
+  -- as many as any two subsets of n - f share
+  pub both-overlap : (k : ℕ) → Overlap n (n - f) (n - f) k → k ≤ length zs
+  both-overlap k h = omega (arith, both-many, Overlap-at_ends n (n - f) (n - f) k (omega arith) (omega arith) h)
 
   -- more members than a sub-set has include one outside it
   outside : (faulty : List Bool) → length faulty ≡ n → size faulty < length zs
@@ -114,7 +110,11 @@ module _ {n f : ℕ} {xs ys zs : List ℕ} (c : AreQuorumsAndBoth n f xs ys zs) 
         (r.0, r.1, outside_not_listed n faulty r.0 r.2);
   }
 
-  -- in either case one of them is outside any f
+  -- where 3f + 1 is up to n, one of them is outside any f
+  pub both-leave : 3 * f + 1 ≤ n → LeavesOneOutside n f zs
+  both-leave h = leaves_one (omega (arith, both-many))
+
+  -- so it is where f is the greatest at three or at five
   pub both-outlast : Greatest3 n f ⊎ Greatest5 n f → LeavesOneOutside n f zs
-  both-outlast (inl h) = leaves_one (omega (arith, both-thirds h))
-  both-outlast (inr h) = leaves_one (omega (arith, both-fifths h))
+  both-outlast (inl h) = both-leave (Greatest-fit 3 n f (omega arith) (Greatest-three n f h)).fits
+  both-outlast (inr h) = both-leave (omega (arith, (Greatest-fit 5 n f (omega arith) h).fits))

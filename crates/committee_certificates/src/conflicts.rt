@@ -34,11 +34,11 @@ pub enum ConflictError {
 /// signer is a member, a certificate with fewer signers than a quorum of the fault model, as
 /// `TooFew`. Both are looked at before any memory is taken, so `Memory` comes after them.
 ///
-/// Where the model's number of faults f is the greatest for which any two quorums share f + 1
-/// members, at least f + 1 members are answered; where it is the greatest for which they share
-/// 3f + 1, at least 3f + 1 are. In either case, whichever f members are faulty, one that is
-/// answered isn't among them. Nothing is said of whether those who are named did sign, or are
-/// honest.
+/// With f the model's number of faults, at least n - 2f of n members are answered, in every model;
+/// and where 3f + 1 is at most n, whichever f members are faulty, one that is answered isn't among
+/// them. So where f is the greatest for which any two quorums share f + 1 members, at least f + 1
+/// are answered; where it is the greatest for which they share 3f + 1, at least 3f + 1 are. Nothing
+/// is said of whether those who are named did sign, or are honest.
 ///
 /// It walks the signers of each certificate a constant number of times, and makes one request for
 /// memory, for as many indices as the certificate with fewer signers has.
@@ -62,10 +62,15 @@ pub fn conflict<M: Faults, T: Ord, A: Allocator>(
         (AreQuorum M.faults (length committee.now) first.now.signers
         × AreQuorum M.faults (length committee.now) second.now.signers) }
     ensures both { IfOk result (AreInBoth first.now.signers second.now.signers) }
+    ensures shared { IfOk result (λ both. length committee.now
+        ≤ 2 * M.faults (length committee.now) + length both) }
     ensures thirds { Greatest3 (length committee.now) (M.faults (length committee.now))
         → IfOk result (λ both. M.faults (length committee.now) + 1 ≤ length both) }
     ensures fifths { Greatest5 (length committee.now) (M.faults (length committee.now))
         → IfOk result (λ both. 3 * M.faults (length committee.now) + 1 ≤ length both) }
+    ensures leaves { 3 * M.faults (length committee.now) + 1 ≤ length committee.now
+        → IfOk result
+        (LeavesOneOutside (length committee.now) (M.faults (length committee.now))) }
     ensures outlasts { (Greatest3 (length committee.now) (M.faults (length committee.now))
         ⊎ Greatest5 (length committee.now) (M.faults (length committee.now)))
         → IfOk result

@@ -1,6 +1,6 @@
 //! Why no better numbers of the fault models hold: two sub-sets of the positions that share too
 //! few.
-ghost use Rattle.std.specs.Prelude.{◌≡◌, ◌+◌, ◌-◌, ◌*◌, ◌<◌, ◌≤◌};
+ghost use Rattle.std.specs.Prelude.{◌≡◌, ◌+◌, ◌-◌, ◌*◌, ◌/◌, ℕ, ◌<◌, ◌≤◌};
 ghost use Rattle.commonware_faults.specs.Subsets.{shared, size};
 ghost use Rattle.committee_core.specs.Refutations.{subset_of};
 
@@ -10,8 +10,9 @@ use commonware_faults::{Faults, N3f1, N5f1};
 /// The first n - f and the last n - f of `n` positions, and how many stand in both. `n` is at
 /// least 1 and `f` at most `n`.
 ///
-/// Where `f` is above the faults of `N3f1`, fewer than f + 1 stand in both; above those of
-/// `N5f1`, fewer than 3f + 1. So no such f can be tolerated.
+/// Where `f` is above (n - 1) / k, for a k of at least 2, fewer than (k - 2)f + 1 stand in both.
+/// So above the faults of `N3f1` fewer than f + 1 do, and above those of `N5f1` fewer than 3f + 1,
+/// and no such f can be tolerated.
 pub fn refutation(n: u32, f: u32) -> Refutation
     requires some { 1 ≤ n }
     requires at_most { f ≤ n }
@@ -23,6 +24,7 @@ pub fn refutation(n: u32, f: u32) -> Refutation
         ≡ shared (subset_of n result.first) (subset_of n result.second) }
 
     // What it refutes.
+    ensures refutes { (k : ℕ) → 2 ≤ k → (n - 1) / k < f → result.shared < (k - 2) * f + 1 }
     ensures refutes_n3f1 { ⟦<N3f1 as Faults>⟧.faults n < f → result.shared < f + 1 }
     ensures refutes_n5f1 { ⟦<N5f1 as Faults>⟧.faults n < f → result.shared < 3 * f + 1 }
 {

@@ -1,10 +1,8 @@
 -- Which numbers of faults the sizes of sub-sets allow.
-use Rattle.std.proofs.Common.{◌≡◌, inl, inr, ℕ, zero, suc, ◌+◌, ◌-◌, ◌*◌, ◌/◌, ◌<◌, ◌≤◌, Bool, true, false, ◌&&◌, List}
+use Rattle.std.proofs.Common.{◌≡◌, ℕ, zero, suc, ◌+◌, ◌-◌, ◌*◌, ◌<◌, ◌≤◌, Bool, true, false, ◌&&◌, List}
 use Rattle.std.proofs.Common.{[], ◌∷◌, length, refl, ap, sym, ◌∙◌, arith}
-use Rattle.std.proofs.lemmas.Bool.{cases_order}
-use Rattle.commonware_faults.specs.Counts.{GreatestFit}
-use Rattle.commonware_faults.specs.Subsets.{size, shared, places, Overlap, OverlapAtLeast, Greatest3}
-use Rattle.commonware_faults.specs.Subsets.{Greatest5, LeastM, IsIn, IsOutside, MeetsOutside}
+use Rattle.commonware_faults.specs.Subsets.{size, shared, places, Overlap, OverlapAtLeast}
+use Rattle.commonware_faults.specs.Subsets.{LeastM, IsIn, IsOutside, MeetsOutside}
 use Rattle.commonware_faults.specs.SubsetSizeLaws.{size-le-shared, size-places, shared-places, length-passing}
 
 -- sub-sets of sizes a and b share at least a + b - n
@@ -31,40 +29,6 @@ pub Overlap-at_least : (n a b k : ℕ) → a ≤ n → b ≤ n → Overlap n a b
 Overlap-at_least n a b k below_a below_b h = record {
   shares = λ xs ys l m s t. omega (arith, Overlap-at_ends n a b k below_a below_b h, size-le-shared xs ys (l ∙ sym m));
 }
-
--- the greatest f with 3f + 1 up to n is the greatest f by counting
-pub Greatest3-by_thirds : (n f : ℕ) → 3 * f + 1 ≤ n → n < 3 * f + 4 → Greatest3 n f
-Greatest3-by_thirds n f low high = record {
-  at_most = omega arith;
-  overlaps = Overlap-by_size n (n - f) (n - f) (f + 1) (omega arith);
-  greatest = λ g above within h. omega (arith, Overlap-at_ends n (n - g) (n - g) (g + 1) (omega arith) (omega arith) h);
-}
-
--- the greatest f with 5f + 1 up to n is the greatest f by counting
-pub Greatest5-by_fifths : (n f : ℕ) → 5 * f + 1 ≤ n → n < 5 * f + 6 → Greatest5 n f
-Greatest5-by_fifths n f low high = record {
-  at_most = omega arith;
-  overlaps = Overlap-by_size n (n - f) (n - f) (3 * f + 1) (omega arith);
-  greatest =
-      λ g above within h. omega (arith, Overlap-at_ends n (n - g) (n - g) (3 * g + 1) (omega arith) (omega arith) h);
-}
-
--- n is below what the next greater f asks for
-fit_ends : (k n f : ℕ) → GreatestFit k n f → n < k * (f + 1) + 1
-fit_ends k n f h =
-    elim (cases_order (k * (f + 1) + 1) n) [
-      | inl same ↦ absurd (omega (arith, h.greatest (f + 1) (omega (arith, same))))
-      | inr (inl less) ↦ absurd (omega (arith, h.greatest (f + 1) (omega (arith, less))))
-      | inr (inr more) ↦ more
-    ]
-
--- the greatest f that the division gives is the greatest f by counting
-pub Greatest3-from_fit : (n f : ℕ) → GreatestFit 3 n f → Greatest3 n f
-Greatest3-from_fit n f h = Greatest3-by_thirds n f h.fits (omega (arith, fit_ends 3 n f h))
-
--- the same of fifths
-pub Greatest5-from_fit : (n f : ℕ) → GreatestFit 5 n f → Greatest5 n f
-Greatest5-from_fit n f h = Greatest5-by_fifths n f h.fits (omega (arith, fit_ends 5 n f h))
 
 -- twice f and one more is the least m by counting
 pub LeastM-by_double : (n f : ℕ) → 2 * f + 1 ≤ n → LeastM n f (2 * f + 1)
@@ -138,15 +102,3 @@ MeetsOutside-by_overlap n q f within h = record {
 pub MeetsOutside-by_thirds : (n f : ℕ) → 3 * f + 1 ≤ n → MeetsOutside n (n - f) f
 MeetsOutside-by_thirds n f h =
     MeetsOutside-by_overlap n (n - f) f (omega arith) (Overlap-by_size n (n - f) (n - f) (f + 1) (omega arith))
-
--- the number of `N3f1` is the greatest f
-pub n3f1_greatest : (n : ℕ) → 1 ≤ n → Greatest3 n ((n - 1) / 3)
-n3f1_greatest n h = Greatest3-by_thirds n ((n - 1) / 3) (omega arith) (omega arith)
-
--- the number of `N5f1` is the greatest f
-pub n5f1_greatest : (n : ℕ) → 1 ≤ n → Greatest5 n ((n - 1) / 5)
-n5f1_greatest n h = Greatest5-by_fifths n ((n - 1) / 5) (omega arith) (omega arith)
-
--- the smaller quorum of `N5f1` is the least m
-pub n5f1_least_m : (n : ℕ) → 1 ≤ n → LeastM n ((n - 1) / 5) (2 * ((n - 1) / 5) + 1)
-n5f1_least_m n h = LeastM-by_double n ((n - 1) / 5) (omega arith)

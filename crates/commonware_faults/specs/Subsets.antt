@@ -33,6 +33,11 @@ pub record GreatestFor (needed : ℕ → ℕ) (n f : ℕ) : Type 0 where
   pub overlaps : Overlap n (n - f) (n - f) (needed f)
   pub greatest : (g : ℕ) → f < g → g ≤ n → Overlap n (n - g) (n - g) (needed g) → ⊥
 
+-- f is the greatest number, up to n, for which any two subsets of n - f share at least (k - 2)f + 1: 1 at a k of 2,
+-- f + 1 at 3, 3f + 1 at 5
+abbrev pub Greatest : ℕ → ℕ → ℕ → Type 0
+Greatest k n f = GreatestFor (λ g. (k - 2) * g + 1) n f
+
 -- f is the greatest number for which any two sub-sets of n - f share at least f + 1
 abbrev pub Greatest3 : ℕ → ℕ → Type 0
 Greatest3 n f = GreatestFor (λ g. g + 1) n f

@@ -10,6 +10,7 @@ ghost use Rattle.commonware_faults.specs.Counts.{IsCommitteeSize, GreatestFit, a
 ghost use Rattle.commonware_faults.specs.Subsets.{Greatest3, Greatest5, LeastM, MeetsOutside, OverlapAtLeast};
 
 use crate::count::Count;
+use crate::resilience::smaller_quorum;
 
 /// A fault model. Its numbers depend on the number of participants alone.
 pub trait Faults {
@@ -129,6 +130,6 @@ impl N5f1 {
         ensures shares { let total = amount (N.number n) in
             OverlapAtLeast total (total - n5f1_faults total) result (n5f1_faults total + 1) }
     {
-        2 * Self::max_faults(n) + 1
+        smaller_quorum::<Self, N>(n)
     }
 }

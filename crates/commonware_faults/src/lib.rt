@@ -4,6 +4,8 @@
 
 mod count;
 mod faults;
+mod resilience;
 
 pub use count::Count;
 pub use faults::{Faults, N3f1, N5f1};
+pub use resilience::{Resilience, counting_law, overlap_law, resilience_law, smaller_quorum};

@@ -25,6 +25,7 @@ mod numbers;
 mod participants;
 mod quorums;
 mod ranges;
+mod resilience;
 mod set_builders;
 mod set_calls;
 mod sets;

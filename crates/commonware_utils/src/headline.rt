@@ -4,12 +4,12 @@
 ghost use Rattle.std.specs.Prelude.{◌≡◌, ◌-◌, ◌≤◌, ◌↔◌, ℕ, List, IfErr, IfOk, true};
 ghost use Rattle.std.specs.Cmp.Lexicographic.{pointwise};
 ghost use Rattle.commonware_utils.specs.Codec.{Accepts, Refuses, list_enc};
-ghost use Rattle.commonware_utils.specs.Faults.{Greatest3, Greatest5};
+ghost use Rattle.commonware_utils.specs.Faults.{Greatest3, Greatest5, IsFaultTolerance};
 ghost use Rattle.commonware_utils.specs.Ordered.{IsWritableBiMap, IsWritableMap, IsWritableSet};
 ghost use Rattle.commonware_utils.specs.Ordered.{are_equal_pairs, map_enc};
 
 use crate::codec::{Canonical, Error, Read, Source};
-use crate::faults::{Faults, N3f1, N5f1};
+use crate::faults::{Faults, N3f1, N5f1, Resilience, resilience_law};
 use crate::ordered::{BiMap, Map, Set};
 use std::alloc::Allocator;
 use std::hash::Hash;
@@ -79,6 +79,24 @@ pub struct Numbers {
     pub max_faults: u32,
     /// How many of them make a quorum.
     pub quorum: u32,
+}
+
+/// What a fault model of a resilience `n >= kf + 1` answers for `n` participants, one of your own
+/// among them. `n` is at least 1.
+///
+/// The faults are the greatest f for which any two subsets of n - f share at least (k - 2)f + 1,
+/// with all that `IsFaultTolerance` says; a quorum is n - f.
+pub fn resilience_numbers<M: Resilience>(n: u32) -> Numbers
+    requires { 1 ≤ n }
+    ensures value { result.max_faults ≡ M.faults n }
+    ensures faults { IsFaultTolerance M.factor n result.max_faults }
+    ensures quorum { result.quorum ≡ n - result.max_faults }
+{
+    resilience_law::<M>();
+    Numbers {
+        max_faults: M::max_faults(n),
+        quorum: M::quorum(n),
+    }
 }
 
 /// What the models answer for `n` participants, `N3f1` first and then `N5f1`. `n` is at least 1.

@@ -1,10 +1,10 @@
 //! Certificates of committees of four and of six members, as a user of both models calls them.
 use crate::signers::{are, certificate};
 use committee_certificates::{Certificate, ConflictError};
-use commonware_utils::Participant;
 use commonware_utils::ordered::Set;
+use commonware_utils::{N3f1, N5f1, Participant};
 use std::alloc::{AllocError, Global};
-use uses_certificates::{accused, conflict_n3f1, conflict_n5f1};
+use uses_certificates::{accused, conflict_under};
 
 /// The signers of two certificates for different values, of a committee of so many members; those
 /// of both, or the error, under `N3f1` and under `N5f1`.
@@ -74,8 +74,8 @@ fn are_named(
     if first.value == second.value || count == 0 || count > 4294967295 {
         return None;
     }
-    let named = answers(conflict_n3f1(alloc, members, first, second), row.thirds)
-        && answers(conflict_n5f1(alloc, members, first, second), row.fifths);
+    let named = answers(conflict_under::<N3f1>(alloc, members, first, second), row.thirds)
+        && answers(conflict_under::<N5f1>(alloc, members, first, second), row.fifths);
     let counted = counts(accused(alloc, members, first, second), row.thirds)
         && accused(alloc, members, first, first) == Ok(0);
     Some(named && counted)

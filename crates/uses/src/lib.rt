@@ -3,6 +3,7 @@
 
 mod committees;
 mod messages;
+mod models;
 mod peers;
 mod queues;
 mod ranges;
@@ -11,6 +12,7 @@ mod roots;
 
 pub use committees::{is_member, signatures_needed};
 pub use messages::{read_members, write_members};
+pub use models::{N2f1, N4f1, crash_numbers, fourth_numbers, is_safe};
 pub use peers::{Peer, read_peers};
 pub use queues::{doubled, keep_the_first, latest, remember};
 pub use ranges::{only, only_one_above_zero};

@@ -7,13 +7,14 @@ ghost use Rattle.commonware_utils.specs.Faults.{IsCommitteeSize};
 
 use committee_certificates::{Certificate, ConflictError, conflict};
 use commonware_utils::Participant;
-use commonware_utils::faults::{Faults, N3f1, N5f1};
+use commonware_utils::faults::{Faults, N3f1, Resilience, resilience_law};
 use commonware_utils::ordered::Set;
 use std::alloc::Global;
 
-/// The members that signed both of two certificates for different values, under `N3f1`: more than
-/// the third part of the others, so one of them isn't faulty.
-pub fn conflict_n3f1(
+/// The members that signed both of two certificates for different values, under any fault model of
+/// a resilience `n >= kf + 1`: more than k - 2 times its faults. From a k of 3 on, one of them isn't
+/// faulty.
+pub fn conflict_under<M: Resilience>(
     alloc: Global,
     members: &Set<u32, Global>,
     first: &Certificate<Global>,
@@ -22,29 +23,13 @@ pub fn conflict_n3f1(
     requires differ { first.now.value.items ≢ second.now.value.items }
     requires some { IsCommitteeSize (pos (length members.now)) }
     ensures both { IfOk result (AreInBoth first.now.signers second.now.signers) }
-    ensures many { IfOk result (λ both. (length members.now - 1) / 3 + 1 ≤ length both) }
-    ensures outlast { IfOk result
-        (LeavesOneOutside (length members.now) ((length members.now - 1) / 3)) }
+    ensures many { IfOk result (λ both.
+        (M.factor - 2) * M.faults (length members.now) + 1 ≤ length both) }
+    ensures outlast { 3 ≤ M.factor → IfOk result
+        (LeavesOneOutside (length members.now) (M.faults (length members.now))) }
 {
-    conflict::<N3f1, _, _>(alloc, members, first, second)
-}
-
-/// The members that signed both of two certificates for different values, under `N5f1`: more than
-/// three times the fifth part of the others, so one of them isn't faulty.
-pub fn conflict_n5f1(
-    alloc: Global,
-    members: &Set<u32, Global>,
-    first: &Certificate<Global>,
-    second: &Certificate<Global>,
-) -> Result<Set<Participant, Global>, ConflictError>
-    requires differ { first.now.value.items ≢ second.now.value.items }
-    requires some { IsCommitteeSize (pos (length members.now)) }
-    ensures both { IfOk result (AreInBoth first.now.signers second.now.signers) }
-    ensures many { IfOk result (λ both. 3 * ((length members.now - 1) / 5) + 1 ≤ length both) }
-    ensures outlast { IfOk result
-        (LeavesOneOutside (length members.now) ((length members.now - 1) / 5)) }
-{
-    conflict::<N5f1, _, _>(alloc, members, first, second)
+    resilience_law::<M>();
+    conflict::<M, _, _>(alloc, members, first, second)
 }
 
 /// How many members signed two different values, under `N3f1`: no one where the values are the

@@ -1,6 +1,6 @@
 -- The overlap of the committee's sub-sets, at the signers of both certificates.
 use Rattle.std.proofs.Common.{length, ap, arith}
-use Rattle.committee_certificates.proofs.Members.{AreQuorumsAndBoth, both-thirds, both-fifths, both-outlast}
+use Rattle.committee_certificates.proofs.Members.{AreQuorumsAndBoth, both-many, both-overlap, both-leave, both-outlast}
 use Rattle.committee_certificates.proofs.conflicts.conflict.Goals as goal
 use Rattle.committee_certificates.proofs.conflicts.conflict.Given.{Over}
 
@@ -24,11 +24,17 @@ quorums g c =
       both = in_both;
     }
 
+pub returns-in-Ok-clause-shared : goal.returns-in-Ok-clause-shared
+returns-in-Ok-clause-shared g c = both-many (quorums g c)
+
 pub returns-in-Ok-clause-thirds : goal.returns-in-Ok-clause-thirds
-returns-in-Ok-clause-thirds g c = both-thirds (quorums g c)
+returns-in-Ok-clause-thirds g c = λ h. both-overlap (quorums g c) _ h.overlaps
 
 pub returns-in-Ok-clause-fifths : goal.returns-in-Ok-clause-fifths
-returns-in-Ok-clause-fifths g c = both-fifths (quorums g c)
+returns-in-Ok-clause-fifths g c = λ h. both-overlap (quorums g c) _ h.overlaps
+
+pub returns-in-Ok-clause-leaves : goal.returns-in-Ok-clause-leaves
+returns-in-Ok-clause-leaves g c = both-leave (quorums g c)
 
 pub returns-in-Ok-clause-outlasts : goal.returns-in-Ok-clause-outlasts
 returns-in-Ok-clause-outlasts g c = both-outlast (quorums g c)
