@@ -1,3 +1,4 @@
+pub mod BigEndian
 pub mod Chunks
 pub mod CommitteeFronts
 pub mod Counts

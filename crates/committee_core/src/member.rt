@@ -4,6 +4,7 @@ ghost use Rattle.std.proofs.lemmas.Cmp.{nat_list_eq_equiv};
 ghost use Rattle.commonware_base.specs.CloneLaws.{equal_from_same};
 
 mod codec;
+mod order;
 mod text;
 
 use commonware_base::EqClone;
@@ -11,7 +12,7 @@ use std::marker::Model;
 
 /// A member of a committee, by its 32 bytes. Members are compared as the lists of their bytes
 /// are, and seen as these lists.
-#[derive(Clone, Copy, Debug, PartialEq, Eq, PartialOrd, Ord, Hash)]
+#[derive(Clone, Copy, Debug, PartialEq, Eq, Hash)]
 pub struct Member([u8; 32]);
 
 impl Model for Member {

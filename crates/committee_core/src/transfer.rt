@@ -12,7 +12,7 @@ use process::Watched;
 use std::io::Read;
 
 /// How many bytes are asked for at once, where they are only counted.
-const CHUNK: usize = 4096;
+const CHUNK: usize = 65_536;
 
 /// How many bytes a reader gave up to its end, and how many of them were kept.
 #[derive(Drop)]

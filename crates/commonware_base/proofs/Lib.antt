@@ -1,3 +1,4 @@
+pub mod ByteSteps
 pub mod ListSteps
 pub mod ReadSteps
 pub mod RoundTrip

@@ -1,5 +1,5 @@
 -- Steps of the reader of lists.
-use Rattle.std.proofs.Common.{◌≡◌, ℕ, ◌+◌, ◌<◌, ◌^◌, List, [], ◌∷◌, ◌++◌, length, refl, ap, sym, ◌∙◌, arith, subst, length-append}
+use Rattle.std.proofs.Common.{◌≡◌, ℕ, zero, suc, ◌+◌, ◌<◌, ◌^◌, List, [], ◌∷◌, ◌++◌, length, refl, ap, sym, ◌∙◌, arith, subst, length-append, inl, inr}
 use Rattle.std.specs.List.{AllByRecursion, flat_map}
 use Rattle.std.proofs.lemmas.List.{append_assoc, append-nil}
 use Rattle.std.proofs.lemmas.List.Concat.{flat_map-append}
@@ -10,7 +10,7 @@ use Rattle.commonware_base.specs.Text.{Accepts}
 use Rattle.commonware_base.specs.Range.{Within}
 use Rattle.commonware_base.specs.Source.{Consumes, rest_of}
 use Rattle.commonware_base.specs.Varint.{varint}
-use Rattle.commonware_base.specs.Lists.{list_enc, IsWritableList, IsAllowedList, ListFault, bad_length, bad_item, IsListMemoryFree}
+use Rattle.commonware_base.specs.Lists.{list_enc, IsWritableList, IsAllowedList, ListFault, bad_length, bad_item, IsListMemoryFree, ItemsFault, IsItemsMemoryFree}
 use Rattle.commonware_base.specs.ListLaws.{list_wants_memory}
 use Rattle.commonware_base.proofs.SourceLemmas.{consumes_both}
 
@@ -92,3 +92,37 @@ module _ {T : Type 0} (enc : T → List ℕ) (Writable Allowed : T → Type 0) (
         go : (xs : List T) → length xs ≡ done → AllByRecursion Writable xs → AllByRecursion Allowed xs → ItemMemoryFree (flat_map enc xs ++ rest_of now) → (f : Fault) → item_fault (flat_map enc xs ++ rest_of now) f → ⊥
         go [] n w a free f fault = first_wants (sym n) free
         go (x ∷ xs) n w a free f fault = accepted_no_fault _ x (flat_map enc xs ++ rest_of now) f (record { writable = w.0; allowed = a.0; begins = append_assoc (enc x) (flat_map enc xs) (rest_of now) }) fault
+
+-- one more item was taken
+pub items_more : {T : Type 0} (enc : T → List ℕ) (start now next : Source) (items : List T) (v : T) → Consumes start now (flat_map enc items) → Consumes now next (enc v) → Consumes start next (flat_map enc (items ++ v ∷ []))
+items_more enc start now next items v s t =
+    let one : flat_map enc (v ∷ []) ≡ enc v = append-nil (enc v) in
+    let e : flat_map enc items ++ enc v ≡ flat_map enc (items ++ v ∷ []) =
+    ap (λ u. flat_map enc items ++ u) (sym one) ∙ sym (flat_map-append enc items (v ∷ [])) in
+    subst (Consumes start next) e (consumes_both start now next (flat_map enc items) (enc v) s t)
+
+-- The length was read, and it is in the range.
+module _ {T : Type 0} (enc : T → List ℕ) (Writable Allowed : T → Type 0) (range : Bounds ℕ) (count : ℕ) (start now : Source) (short : count < 2 ^ 32) (taken : Consumes start now (varint count)) (item_fault : List ℕ → Fault → Type 0) (ItemMemoryFree : List ℕ → Type 0) (in_range : Within range count) where
+  -- the fault of the items is the list's
+  pub list_faulty : (f : Fault) → ItemsFault enc Writable Allowed item_fault count (rest_of now) f → ListFault enc Writable Allowed item_fault range (rest_of start) f
+  list_faulty f w = bad_item (record {
+    count = count;
+    items = w.items;
+    rest = w.rest;
+    short = short;
+    in_range = in_range;
+    begins = taken.rest ∙ ap (λ u. varint count ++ u) w.begins;
+    fewer = w.fewer;
+    writable = w.writable;
+    allowed = w.allowed;
+    faulty = w.faulty;
+  })
+
+  -- where the items want memory, the list does
+  pub list_wants : ((s : List ℕ) (v : T) (r : List ℕ) (f : Fault) → Accepts enc Writable Allowed s v r → item_fault s f → ⊥) → ¬ IsItemsMemoryFree enc Writable Allowed ItemMemoryFree count (rest_of now) → ¬ IsListMemoryFree item_fault ItemMemoryFree range (rest_of start)
+  list_wants accepted_no_fault wants = list_wants_memory item_fault ItemMemoryFree range (rest_of start) count (rest_of now) short (positive count (λ z. wants (inl z))) in_range taken.rest
+      (λ free f fault. wants (inr (free, (λ a. accepted_no_fault (rest_of now) a.0 a.1 f a.2 fault))))
+    where
+      positive : (n : ℕ) → ¬ (n ≡ 0) → 0 < n
+      positive zero h = absurd (h refl)
+      positive (suc n) h = omega arith

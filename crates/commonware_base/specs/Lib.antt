@@ -8,6 +8,7 @@ pub mod Fault
 pub mod FrontLaws
 pub mod Fronts
 pub mod Given
+pub mod ItemsLaws
 pub mod ListLaws
 pub mod Lists
 pub mod NumberLaws
@@ -19,6 +20,7 @@ pub mod RefusalLaws
 pub mod Sequence
 pub mod SequenceLaws
 pub mod Source
+pub mod SourceLaws
 pub mod Taken
 pub mod Text
 pub mod TextLaws

@@ -1,8 +1,9 @@
 -- A list: its length, and then each item.
-use Rattle.std.specs.Prelude.{◌≡◌, ℕ, ◌<◌, ◌^◌, List, ◌++◌, length}
+use Rattle.std.specs.Prelude.{◌≡◌, ℕ, ◌<◌, ◌^◌, List, ◌++◌, ◌⊎◌, length}
 use Rattle.std.specs.List.{AllByRecursion, flat_map}
 use Rattle.commonware_base.specs.Fault.{Fault, InvalidLength}
 use Rattle.commonware_base.specs.Range.{Bounds, Within}
+use Rattle.commonware_base.specs.Text.{Accepts}
 use Rattle.commonware_base.specs.Varint.{varint, varint_fault}
 
 -- the varint of the length, and then the bytes of each item
@@ -72,3 +73,21 @@ pub data IsListMemoryFree (item_fault : List ℕ → Fault → Type 0) (ItemMemo
   empty : (rest : List ℕ) → text ≡ varint 0 ++ rest → IsListMemoryFree item_fault ItemMemoryFree range text
   first : (count : ℕ) (rest : List ℕ) (fault : Fault) → count < 2 ^ 32 → text ≡ varint count ++ rest
       → ItemMemoryFree rest → item_fault rest fault → IsListMemoryFree item_fault ItemMemoryFree range text
+
+-- Fewer than `count` items come, and then a text with a fault of an item.
+pub record ItemsFault {T : Type 0} (enc : T → List ℕ) (Writable Allowed : T → Type 0)
+    (item_fault : List ℕ → Fault → Type 0) (count : ℕ) (text : List ℕ) (fault : Fault) : Type 0 where
+  pub items : List T
+  pub rest : List ℕ
+  pub begins : text ≡ flat_map enc items ++ rest
+  pub fewer : length items < count
+  pub writable : AllByRecursion Writable items
+  pub allowed : AllByRecursion Allowed items
+  pub faulty : item_fault rest fault
+
+-- `count` items are read or refused with no memory where they are none, or where no item comes first and that is found
+-- with no memory.
+abbrev pub IsItemsMemoryFree : {T : Type 0} → (T → List ℕ) → (T → Type 0) → (T → Type 0) → (List ℕ → Type 0) → ℕ
+    → List ℕ → Type 0
+IsItemsMemoryFree {T} enc Writable Allowed ItemMemoryFree count text =
+    (count ≡ 0) ⊎ (ItemMemoryFree text × ¬ ((v : T) × (rest : List ℕ) × Accepts enc Writable Allowed text v rest))

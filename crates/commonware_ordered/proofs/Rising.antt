@@ -90,13 +90,13 @@ module _ {X : Type 0} {cmp : X → X → Ordering} (o : IsTotalOrder cmp) where
   put_at_end r s x false a h = absurd (true≢false (sym h.0 ∙ none_equal r x a))
 
   -- strict items, and one that is greater than all
-  strict_more : (r : List X) (x : X) → IsStrictlySortedBy cmp r → AllByRecursion (λ y. cmp y x ≡ Less) r → IsStrictlySortedBy cmp (r ++ x ∷ [])
+  pub strict_more : (r : List X) (x : X) → IsStrictlySortedBy cmp r → AllByRecursion (λ y. cmp y x ≡ Less) r → IsStrictlySortedBy cmp (r ++ x ∷ [])
   unfolding IsStrictlySortedBy
   strict_more [] x s a = (tt, tt)
   strict_more (z ∷ r) x s a = (all_more (λ y. cmp z y ≡ Less) r x s.0 a.0, strict_more r x s.1 a.1)
 
   -- the items before one are less than it
-  below_next : (xs : List X) (x : X) (ys : List X) → IsStrictlySortedBy cmp (xs ++ x ∷ ys) → AllByRecursion (λ y. cmp y x ≡ Less) xs
+  pub below_next : (xs : List X) (x : X) (ys : List X) → IsStrictlySortedBy cmp (xs ++ x ∷ ys) → AllByRecursion (λ y. cmp y x ≡ Less) xs
   unfolding IsStrictlySortedBy
   below_next [] x ys s = tt
   below_next (z ∷ xs) x ys s = (all_amidst (λ y. cmp z y ≡ Less) xs x ys s.0, below_next xs x ys s.1)

@@ -7,16 +7,13 @@ ghost use Rattle.commonware_ordered.specs.Strict.{IsStrict};
 mod run;
 mod tree;
 
+use crate::kept::MOST_ROOM;
 use run::Run;
 use std::alloc::{AllocError, Allocator};
 use std::cmp::Ordering;
 use std::collections::BTreeMap;
 use std::marker::Model;
 use tree::put;
-
-/// The most pairs for which room is made before the first has come: a few pages, whatever an
-/// iterator promises.
-const MOST_ROOM: usize = 4096;
 
 /// Pairs in the order of their keys, each key once. They stand in a run while each key is greater
 /// than the last, which takes constant time a pair; the first lesser key moves them all into a

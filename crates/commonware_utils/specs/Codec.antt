@@ -9,10 +9,12 @@ pub use Rattle.commonware_base.specs.Fault.{InvalidVarint}
 pub use Rattle.commonware_base.specs.FrontLaws.{list_fault_settled, list_memory_free_settled}
 pub use Rattle.commonware_base.specs.FrontLaws.{settled_front, varint_fault_settled}
 pub use Rattle.commonware_base.specs.Fronts.{IsFront, IsSettledBy}
+pub use Rattle.commonware_base.specs.ItemsLaws.{each_allowed, items_lack, items_want}
 pub use Rattle.commonware_base.specs.ListLaws.{list_bytes, list_canonical, list_laws}
 pub use Rattle.commonware_base.specs.ListLaws.{list_prefix_free}
 pub use Rattle.commonware_base.specs.Lists.{BeginsOutOfRange, BeginsWithFaultyItem, IsAllowedList}
 pub use Rattle.commonware_base.specs.Lists.{IsWritableList, list_enc}
+pub use Rattle.commonware_base.specs.Lists.{IsItemsMemoryFree, ItemsFault}
 pub use Rattle.commonware_base.specs.Lists.{ListFault, bad_item, bad_length, bad_spelling}
 pub use Rattle.commonware_base.specs.Lists.{ListCut, at_item, at_length, at_spelling, list_cut}
 pub use Rattle.commonware_base.specs.Lists.{IsListMemoryFree, empty, first, outside, spelling}
@@ -30,6 +32,7 @@ pub use Rattle.commonware_base.specs.Sequence.{SequenceCut, at_first, at_second,
 pub use Rattle.commonware_base.specs.SequenceLaws.{sequence_bytes, sequence_canonical, sequence_laws}
 pub use Rattle.commonware_base.specs.SequenceLaws.{sequence_prefix_free}
 pub use Rattle.commonware_base.specs.Source.{Consumes, bytes_of, position_of, rest_of}
+pub use Rattle.commonware_base.specs.SourceLaws.{rest_bytes}
 pub use Rattle.commonware_base.specs.Text.{AcceptedOrFaulty, Accepts, AreBytes, CanonicalLaws}
 pub use Rattle.commonware_base.specs.Text.{IsByte, IsPrefixFree, ReadLaws}
 pub use Rattle.commonware_base.specs.TextLaws.{bytes_append, bytes_right, canonical_on, laws_on}

@@ -1,5 +1,5 @@
 //! Inputs that are longer than any committee, below, at and above the 8197 bytes that are kept,
-//! and the 4096 after them that the reader is asked for at once.
+//! and the 65,536 after them that the reader is asked for at once.
 use crate::committees::committee_of;
 use crate::devices::{Input, WHOLE};
 use crate::session_trial::{Session, is_right, two_session};
@@ -7,11 +7,11 @@ use std::alloc::{AllocError, Global};
 
 /// How many bytes an input has.
 const LENGTHS: [usize; 9] = [
-    8195, 8196, 8197, 8198, 12_292, 12_293, 12_294, 16_389, 30_000,
+    8195, 8196, 8197, 8198, 73_732, 73_733, 73_734, 139_269, 150_000,
 ];
 
 /// How many bytes of it are given a call.
-const STEPS: [usize; 5] = [WHOLE, 7, 4095, 4096, 8197];
+const STEPS: [usize; 5] = [WHOLE, 7, 65_535, 65_536, 8197];
 
 /// An input of so many bytes that starts with these.
 fn input_of(alloc: Global, start: &[u8], length: usize) -> Result<Vec<u8>, AllocError> {

@@ -1,4 +1,6 @@
 //! The byte form of a member, which is its bytes.
+ghost use Rattle.std.specs.Prelude.{◌≤◌, length};
+ghost use Rattle.commonware_base.specs.Source.{rest_of, Consumes};
 ghost use Rattle.committee_core.specs.MemberLaws.{member_canonical, member_laws, member_length, member_prefix_free};
 ghost use Rattle.committee_core.specs.Members.{IsMember, member_bytes, member_fault};
 
@@ -30,6 +32,22 @@ impl<A: Allocator> Write<A> for Member {
     fn write(&self, sink: &mut Vec<u8, A>) -> Result<(), AllocError> {
         sink.extend_from_slice(&self.0)
     }
+
+    /// The members go into room that is made for all of them.
+    #[inline(always)]
+    fn write_at_once(items: &[Member], sink: &mut Vec<u8, A>) -> Option<Result<(), AllocError>> {
+        if let Err(error) = sink.reserve(items.len() * 32) {
+            return Some(Err(error));
+        }
+        let start = sink.len();
+        for item in items {
+            if let Err(error) = sink.extend_from_slice(&item.0) {
+                sink.truncate(start);
+                return Some(Err(error));
+            }
+        }
+        Some(Ok(()))
+    }
 }
 
 impl MaxEncodeSize for Member {
@@ -52,13 +70,49 @@ impl<A: Allocator> Read<A> for Member {
     ghost read_laws = { λ _ _. member_laws };
 
     fn read_cfg(_alloc: A, src: &mut Source<'_>, _cfg: &()) -> Result<Member, Error> {
-        match src.rest().first_chunk::<32>() {
-            None => Err(Error::EndOfBuffer),
-            Some(bytes) => {
-                let member = Member(*bytes);
-                src.advance(32);
-                Ok(member)
-            }
+        if src.remaining() < 32 {
+            return Err(Error::EndOfBuffer);
+        }
+        Ok(take_member(src))
+    }
+
+    /// The members are taken into room for just that count; where fewer are left, none is, and no
+    /// memory is asked for.
+    #[inline(always)]
+    fn read_at_once(
+        alloc: A,
+        src: &mut Source<'_>,
+        count: usize,
+        _cfg: &(),
+    ) -> Option<Result<Vec<Member, A>, Error>> {
+        if src.remaining() / 32 < count {
+            return Some(Err(Error::EndOfBuffer));
+        }
+        let Ok(mut items) = Vec::with_capacity(alloc, count) else {
+            return Some(Err(Error::Memory));
+        };
+        let mut here = *src;
+        for _ in 0..count {
+            items.push_reserved(take_member(&mut here));
+        }
+        *src = here;
+        Some(Ok(items))
+    }
+}
+
+/// Takes the member at the front, whose bytes are there.
+#[inline(always)]
+fn take_member(src: &mut Source<'_>) -> Member
+    requires { 32 ≤ length (rest_of src.old) }
+    ensures consumed { Consumes src.old src.new (member_bytes result) }
+    ensures member { IsMember result }
+{
+    match src.rest().first_chunk::<32>() {
+        None => unreachable!(),
+        Some(bytes) => {
+            let member = Member(*bytes);
+            src.advance(32);
+            member
         }
     }
 }

@@ -66,8 +66,9 @@ fn push_items<T: Write<A>, A: Allocator>(
 
 /// Appends the bytes of the list. Where memory is refused, some of them may stand there.
 ///
-/// Once the first item is written, room is made for the others, as if each took as many bytes as
-/// the first, but for no more than they take in memory.
+/// The items of a type that writes many at once are written so. Of other types, once the first item
+/// is written, room is made for the others, as if each took as many bytes as the first, but for no
+/// more than they take in memory.
 ///
 /// It is put in line, and so are its loop and what calls it, so that a loop over a list that the
 /// caller holds keeps the length in a register.
@@ -81,6 +82,10 @@ fn push_list<T: Write<A>, A: Allocator>(
     ensures err { OnErr result ((more : List ℕ) × (sink.new.items ≡ sink.old.items ++ more)) }
 {
     push_varint(sink, items.len() as u32)?;
+    match T::write_at_once(items, sink) {
+        Some(written) => return written,
+        None => {}
+    }
     let Some((first, others)) = items.split_first() else {
         return Ok(());
     };
@@ -175,7 +180,8 @@ fn put<T: Drop, A: Allocator>(
 /// text states, but for no more than there are bytes after the length, nor than 1024. Where that
 /// is full, it makes room for as many others as are stated, but for no more than the bytes that
 /// are left hold, if each takes as many as those before it. After an error the source stands where
-/// it stood.
+/// it stood. The items of a type that reads many at once are read so, and then room is made as its
+/// `read_at_once` says.
 pub fn read_list<T: Read<A> + Drop, A: Allocator + Copy>(
     alloc: A,
     src: &mut Source<'_>,
@@ -197,6 +203,18 @@ pub fn read_list<T: Read<A> + Drop, A: Allocator + Copy>(
     };
     if !range.contains(&count) {
         return Err(Error::InvalidLength(count));
+    }
+    match T::read_at_once(alloc, &mut here, count, item) {
+        Some(read) => {
+            return match read {
+                Ok(items) => {
+                    *src = here;
+                    Ok(items)
+                }
+                Err(error) => Err(error),
+            };
+        }
+        None => {}
     }
     let bytes = here.remaining();
     let stated = Stated { count, bytes };

@@ -1,5 +1,5 @@
 //! Bytes, words of four bytes, and numbers in a range.
-ghost use Rattle.std.specs.Prelude.{ℕ, ◌≡◌, ◌<◌, ◌≤◌, ◌^◌};
+ghost use Rattle.std.specs.Prelude.{ℕ, ◌≡◌, ◌+◌, ◌<◌, ◌≤◌, ◌^◌, ◌++◌, length, vec_capacity, vec_len};
 ghost use Rattle.commonware_base.specs.Text.{IsByte};
 ghost use Rattle.commonware_base.specs.Bytes.{byte, byte_fault};
 ghost use Rattle.commonware_base.specs.ByteLaws.{byte_prefix_free, byte_laws, byte_canonical, byte_length};
@@ -10,6 +10,7 @@ ghost use Rattle.commonware_base.specs.WordLaws.{word_prefix_free, word_laws, wo
 ghost use Rattle.commonware_base.specs.Numbers.{NumberFault};
 ghost use Rattle.commonware_base.specs.NumberLaws.{number_prefix_free, number_laws, number_canonical};
 ghost use Rattle.commonware_base.specs.Range.{Within};
+ghost use Rattle.commonware_base.specs.Source.{rest_of, Consumes};
 
 use crate::codec::config::RangeCfg;
 use crate::codec::error::Error;
@@ -43,6 +44,12 @@ impl<A: Allocator> Write<A> for u8 {
         sink.push(*self)?;
         Ok(())
     }
+
+    /// The bytes stand for themselves, so they are copied.
+    #[inline(always)]
+    fn write_at_once(items: &[u8], sink: &mut Vec<u8, A>) -> Option<Result<(), AllocError>> {
+        Some(sink.extend_from_slice(items))
+    }
 }
 
 impl<A: Allocator> Read<A> for u8 {
@@ -65,6 +72,29 @@ impl<A: Allocator> Read<A> for u8 {
                 Ok(byte)
             }
         }
+    }
+
+    /// The bytes stand for themselves, so they are copied, into room for just that count; where
+    /// fewer are left, none is, and no memory is asked for.
+    #[inline(always)]
+    fn read_at_once(
+        alloc: A,
+        src: &mut Source<'_>,
+        count: usize,
+        _cfg: &(),
+    ) -> Option<Result<Vec<u8, A>, Error>> {
+        if src.lacks(count) {
+            return Some(Err(Error::EndOfBuffer));
+        }
+        if count == 0 {
+            return Some(Ok(Vec::new(alloc)));
+        }
+        let rest = src.rest();
+        let Ok(items) = Vec::from_slice(alloc, &rest[..count]) else {
+            return Some(Err(Error::Memory));
+        };
+        src.advance(count);
+        Some(Ok(items))
     }
 }
 
@@ -104,13 +134,35 @@ impl<A: Allocator> Write<A> for u32 {
     fn write(&self, sink: &mut Vec<u8, A>) -> Result<(), AllocError> {
         // Four bytes into room that is there, which are one store where the list is at hand.
         sink.reserve(4)?;
-        let [first, second, third, fourth] = self.to_be_bytes();
-        sink.push_reserved(first);
-        sink.push_reserved(second);
-        sink.push_reserved(third);
-        sink.push_reserved(fourth);
+        push_word(sink, *self);
         Ok(())
     }
+
+    /// The words go into room that is made for all of them.
+    #[inline(always)]
+    fn write_at_once(items: &[u32], sink: &mut Vec<u8, A>) -> Option<Result<(), AllocError>> {
+        if let Err(error) = sink.reserve(items.len() * 4) {
+            return Some(Err(error));
+        }
+        for item in items {
+            push_word(sink, *item);
+        }
+        Some(Ok(()))
+    }
+}
+
+/// Appends the bytes of the word, for which there is room.
+#[inline(always)]
+fn push_word<A: Allocator>(sink: &mut Vec<u8, A>, word: u32)
+    requires { vec_len sink.old + 4 ≤ vec_capacity sink.old }
+    ensures items { sink.new.items ≡ sink.old.items ++ word_bytes word }
+    ensures capacity { vec_capacity sink.new ≡ vec_capacity sink.old }
+{
+    let [first, second, third, fourth] = word.to_be_bytes();
+    sink.push_reserved(first);
+    sink.push_reserved(second);
+    sink.push_reserved(third);
+    sink.push_reserved(fourth);
 }
 
 impl<A: Allocator> Read<A> for u32 {
@@ -128,11 +180,45 @@ impl<A: Allocator> Read<A> for u32 {
         if src.lacks(4) {
             return Err(Error::EndOfBuffer);
         }
-        let rest = src.rest();
-        let number = u32::from_be_bytes([rest[0], rest[1], rest[2], rest[3]]);
-        src.advance(4);
-        Ok(number)
+        Ok(take_word(src))
     }
+
+    /// The words are taken into room for just that count; where fewer are left, none is, and no
+    /// memory is asked for.
+    #[inline(always)]
+    fn read_at_once(
+        alloc: A,
+        src: &mut Source<'_>,
+        count: usize,
+        _cfg: &(),
+    ) -> Option<Result<Vec<u32, A>, Error>> {
+        if src.remaining() / 4 < count {
+            return Some(Err(Error::EndOfBuffer));
+        }
+        let Ok(mut items) = Vec::with_capacity(alloc, count) else {
+            return Some(Err(Error::Memory));
+        };
+        let mut here = *src;
+        for _ in 0..count {
+            items.push_reserved(take_word(&mut here));
+        }
+        *src = here;
+        Some(Ok(items))
+    }
+}
+
+/// Takes the word at the front, whose bytes are there.
+///
+/// It is inlined and tests nothing, so that a loop of it works on several words at a time.
+#[inline(always)]
+fn take_word(src: &mut Source<'_>) -> u32
+    requires { 4 ≤ length (rest_of src.old) }
+    ensures { Consumes src.old src.new (word_bytes result) }
+{
+    let rest = src.rest();
+    let number = u32::from_be_bytes([rest[0], rest[1], rest[2], rest[3]]);
+    src.advance(4);
+    number
 }
 
 impl MaxEncodeSize for u32 {

@@ -1,6 +1,8 @@
 //! What has a byte form: how it is written and read, and the laws.
-ghost use Rattle.std.specs.Prelude.{◌≡◌, ℕ, ◌<◌, ◌≤◌, ◌^◌, ◌↔◌, ◌++◌, List, length, IsTrue, OnOk, OnErr, IfOk, IfErr};
+ghost use Rattle.std.specs.Prelude.{◌≡◌, ℕ, ◌<◌, ◌≤◌, ◌^◌, ◌↔◌, ◌++◌, List, length, IsTrue, OnOk, OnErr, IfOk, IfErr, IfSome, IfNone};
+ghost use Rattle.std.specs.List.{AllByRecursion, flat_map};
 ghost use Rattle.commonware_base.specs.Fault.{Fault};
+ghost use Rattle.commonware_base.specs.Lists.{ItemsFault, IsItemsMemoryFree};
 ghost use Rattle.commonware_base.specs.Refusal.{Refuses};
 ghost use Rattle.commonware_base.specs.Source.{rest_of, Consumes};
 ghost use Rattle.commonware_base.specs.Text.{AreBytes, Accepts, IsPrefixFree, ReadLaws, CanonicalLaws};
@@ -43,6 +45,28 @@ pub trait Write<A: Allocator>: EncodeSize {
         requires { Self.writable self.now }
         ensures ok { OnOk result (sink.new.items ≡ sink.old.items ++ Self.enc self.now) }
         ensures err { OnErr result (sink.new.items ≡ sink.old.items) };
+
+    /// Appends the bytes of the items, one after another, and answers `Some`; each is writable.
+    /// Where memory is refused, the sink is as it was. Or it does nothing and answers `None`: then
+    /// a caller writes them one by one by `write`, as the writer of lists does.
+    ///
+    /// A type need not have a body of its own: this one does nothing. Those of `u8` and `u32` write
+    /// all items into room that is made once.
+    #[inline(always)]
+    fn write_at_once(items: &[Self], sink: &mut Vec<u8, A>) -> Option<Result<(), AllocError>>
+    where
+        Self: Sized,
+        requires { AllByRecursion Self.writable items.now }
+        ensures ok { IfSome result (λ written. OnOk written
+            (sink.new.items ≡ sink.old.items ++ flat_map Self.enc items.now)) }
+        ensures err { IfSome result (λ written. OnErr written
+            (sink.new.items ≡ sink.old.items)) }
+        ensures none { IfNone result (sink.new.items ≡ sink.old.items) }
+    {
+        // The contract alone speaks of them.
+        let _ = (items.len(), sink.len());
+        None
+    }
 }
 
 /// A bound on the number of bytes of a value.
@@ -80,6 +104,39 @@ pub trait Read<A: Allocator>: EncodeSize + Sized {
         ensures refused { IfErr result
             (Refuses (fault cfg.now (rest_of src.old)) (memory_free cfg.now (rest_of src.old))) }
         ensures stays { OnErr result (src.new ≡ src.old) };
+
+    /// The next `count` values, or the first fault of one of them; `Memory` only where the reading
+    /// isn't memory-free. What follows them is left. After an error the source stands where it
+    /// stood. Or it does nothing and answers `None`: then a caller reads them one by one by
+    /// `read_cfg`, as the reader of lists does.
+    ///
+    /// A type need not have a body of its own: this one does nothing. Those of `u8` and `u32` make
+    /// room for just that count, once its bytes are known to be there.
+    #[inline(always)]
+    fn read_at_once(
+        alloc: A,
+        src: &mut Source<'_>,
+        count: usize,
+        cfg: &Self::Cfg,
+    ) -> Option<Result<Vec<Self, A>, Error>>
+        ensures consumed { IfSome result (λ read. IfOk read (λ v.
+            Consumes src.old src.new (flat_map Self.enc v.items))) }
+        ensures counted { IfSome result (λ read. IfOk read (λ v. length v.items ≡ count)) }
+        ensures writable { IfSome result (λ read. IfOk read (λ v.
+            AllByRecursion Self.writable v.items)) }
+        ensures allowed { IfSome result (λ read. IfOk read (λ v.
+            AllByRecursion (allowed cfg.now) v.items)) }
+        ensures refused { let text = rest_of src.old in IfSome result (λ read. IfErr read (Refuses
+            (ItemsFault Self.enc Self.writable (allowed cfg.now) (fault cfg.now) count text)
+            (IsItemsMemoryFree Self.enc Self.writable (allowed cfg.now) (memory_free cfg.now)
+            count text))) }
+        ensures stays { IfSome result (λ read. OnErr read (src.new ≡ src.old)) }
+        ensures none { IfNone result (src.new ≡ src.old) }
+    {
+        // The contract alone speaks of them.
+        let _ = (alloc, src.position(), count, cfg);
+        None
+    }
 
     /// A text that is accepted has no fault, each other text has one, and what is allowed goes by
     /// the bytes.

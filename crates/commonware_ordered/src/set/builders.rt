@@ -6,9 +6,11 @@ ghost use Rattle.commonware_ordered.specs.Dedup.{EqualsSameItems, IsDedup};
 ghost use Rattle.commonware_ordered.specs.Whole.{IsRefusedFor, IsSetOfAll, IsWholeSet, IsWholeSetOfClones};
 
 use super::{Set, is_strict};
-use crate::{Error, Gathered};
+use crate::Error;
+use crate::kept::{all_kept, keep, room};
 use commonware_base::{EqClone, TryFromIterator};
 use std::alloc::{AllocError, Allocator};
+use std::collections::BTreeSet;
 
 impl<T: Ord + Drop, A: Allocator + Copy> Set<T, A> {
     /// The set of the items that an iterator gives, where of equal items the first stays. It is
@@ -21,11 +23,13 @@ impl<T: Ord + Drop, A: Allocator + Copy> Set<T, A> {
             (λ xs s. IsDedup T.eq T.cmp xs s × EqualsSameItems T.eq T.cmp xs s)) }
     {
         let rest = iter.into_iter();
-        let mut gathered = Gathered::with_room(alloc, rest.size_hint().0)?;
+        let mut run = room(alloc, rest.size_hint().0)?;
+        let mut tree = BTreeSet::new(alloc);
         for item in rest {
-            gathered.insert(item, ())?;
+            let (more, _) = keep(run, &mut tree, item)?;
+            run = more;
         }
-        let (items, _) = gathered.into_columns()?;
+        let items = all_kept(run, tree)?;
         Ok(Set { items })
     }
 }
@@ -55,13 +59,16 @@ impl<T: Ord + Drop, A: Allocator + Copy> TryFromIterator<T, A> for Set<T, A> {
     /// none is drawn after the first repeat. It takes O(n log n) comparisons.
     fn try_from_iter<I: IntoIterator<Item = T>>(alloc: A, iter: I) -> Result<Self, Error> {
         let rest = iter.into_iter();
-        let mut gathered = Gathered::with_room(alloc, rest.size_hint().0)?;
+        let mut run = room(alloc, rest.size_hint().0)?;
+        let mut tree = BTreeSet::new(alloc);
         for item in rest {
-            if !gathered.insert(item, ())? {
+            let (more, new) = keep(run, &mut tree, item)?;
+            if !new {
                 return Err(Error::DuplicateKey);
             }
+            run = more;
         }
-        let (items, _) = gathered.into_columns()?;
+        let items = all_kept(run, tree)?;
         Ok(Set { items })
     }
 }

@@ -1,7 +1,10 @@
-use Rattle.std.proofs.Common.{arith, refl, ◌≡◌, ◌+◌, sym, subst}
+use Rattle.std.proofs.Common.{arith, [], refl, ◌≡◌, ◌+◌, sym, subst}
+use Rattle.std.specs.Prelude.{IfErr}
+use Rattle.commonware_base.specs.Lists.{ItemsFault, IsItemsMemoryFree}
+use Rattle.commonware_base.specs.Refusal.{Refuses}
 use Rattle.commonware_base.specs.RefusalLaws.{refuses_from}
 use Rattle.commonware_base.specs.Source.{rest_of}
-use Rattle.commonware_base.proofs.ReadSteps.{ReadSoFar, read_none, read_more, read_all, read_all_writable, read_all_allowed, read_outside, read_faulty, read_wants}
+use Rattle.commonware_base.proofs.ReadSteps.{ReadSoFar, read_none, read_more, read_all, read_all_writable, read_all_allowed, read_outside, read_faulty, read_wants, list_faulty, list_wants}
 use Rattle.commonware_base.proofs.codec.list.read_list.Goals as goal
 
 pub returns-then-not-contains-clause-refused : goal.returns-then-not-contains-clause-refused
@@ -12,7 +15,8 @@ returns-then-not-contains-clause-refused g c =
 pub loop-init : goal.loop-init
 loop-init g c =
     let none = read_none g.T.EncodeSize.enc g.T.EncodeSize.writable (g.T.Read.allowed c.args.item.now) c.args.range c.in-Ok.count c.args.src.now c.read_varint.new.src c.in-Ok.ensures.fits (c.if-not-contains.ensures.0 refl) c.in-Ok.ensures.consumed in
-    subst (ReadSoFar g.T.EncodeSize.enc g.T.EncodeSize.writable (g.T.Read.allowed c.args.item.now) c.args.range c.in-Ok.count 0 c.args.src.now c.read_varint.new.src) (sym c.new-items.ensures.items) none
+    let here = subst (λ s. ReadSoFar g.T.EncodeSize.enc g.T.EncodeSize.writable (g.T.Read.allowed c.args.item.now) c.args.range c.in-Ok.count 0 c.args.src.now s []) (sym c.in-None.ensures.none) none in
+    subst (ReadSoFar g.T.EncodeSize.enc g.T.EncodeSize.writable (g.T.Read.allowed c.args.item.now) c.args.range c.in-Ok.count 0 c.args.src.now c.read_at_once.new.src) (sym c.new-items.ensures.items) here
 
 pub returns-in_default-clause-refused : goal.returns-in_default-clause-refused
 returns-in_default-clause-refused g c =
@@ -50,3 +54,11 @@ returns-clause-allowed g c =
     let n : c.loop.counter ≡ c.in-Ok.count = omega arith in
     read_all_allowed g.T.EncodeSize.enc g.T.EncodeSize.writable (g.T.Read.allowed c.args.item.now) c.args.range c.in-Ok.count c.args.src.now c.loop.here c.loop.items.items
     (subst (λ k. ReadSoFar g.T.EncodeSize.enc g.T.EncodeSize.writable (g.T.Read.allowed c.args.item.now) c.args.range c.in-Ok.count k c.args.src.now c.loop.here c.loop.items.items) n c.loop.invariant)
+
+pub returns-in-Err-read-clause-refused : goal.returns-in-Err-read-clause-refused
+returns-in-Err-read-clause-refused g c =
+    let refused : Refuses (ItemsFault g.T.EncodeSize.enc g.T.EncodeSize.writable (g.T.Read.allowed c.args.item.now) (g.T.Read.fault c.args.item.now) c.in-Ok.count (rest_of c.read_varint.new.src)) (IsItemsMemoryFree g.T.EncodeSize.enc g.T.EncodeSize.writable (g.T.Read.allowed c.args.item.now) (g.T.Read.memory_free c.args.item.now) c.in-Ok.count (rest_of c.read_varint.new.src)) c.in-Err-read.error = subst (λ r. IfErr r (Refuses (ItemsFault g.T.EncodeSize.enc g.T.EncodeSize.writable (g.T.Read.allowed c.args.item.now) (g.T.Read.fault c.args.item.now) c.in-Ok.count (rest_of c.read_varint.new.src)) (IsItemsMemoryFree g.T.EncodeSize.enc g.T.EncodeSize.writable (g.T.Read.allowed c.args.item.now) (g.T.Read.memory_free c.args.item.now) c.in-Ok.count (rest_of c.read_varint.new.src)))) c.in-Err-read.is c.in-Some.ensures.refused in
+    refuses_from (ItemsFault g.T.EncodeSize.enc g.T.EncodeSize.writable (g.T.Read.allowed c.args.item.now) (g.T.Read.fault c.args.item.now) c.in-Ok.count (rest_of c.read_varint.new.src)) _ (IsItemsMemoryFree g.T.EncodeSize.enc g.T.EncodeSize.writable (g.T.Read.allowed c.args.item.now) (g.T.Read.memory_free c.args.item.now) c.in-Ok.count (rest_of c.read_varint.new.src)) _
+    (list_faulty g.T.EncodeSize.enc g.T.EncodeSize.writable (g.T.Read.allowed c.args.item.now) c.args.range c.in-Ok.count c.args.src.now c.read_varint.new.src c.in-Ok.ensures.fits c.in-Ok.ensures.consumed (g.T.Read.fault c.args.item.now) (g.T.Read.memory_free c.args.item.now) (c.if-not-contains.ensures.0 refl))
+    (list_wants g.T.EncodeSize.enc g.T.EncodeSize.writable (g.T.Read.allowed c.args.item.now) c.args.range c.in-Ok.count c.args.src.now c.read_varint.new.src c.in-Ok.ensures.fits c.in-Ok.ensures.consumed (g.T.Read.fault c.args.item.now) (g.T.Read.memory_free c.args.item.now) (c.if-not-contains.ensures.0 refl) (g.met.T.Read.read_laws c.args.alloc c.args.item.now).accepted_no_fault)
+    c.in-Err-read.error refused
