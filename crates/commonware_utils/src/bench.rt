@@ -18,6 +18,7 @@ mod map_builders;
 mod map_pairs;
 mod map_values;
 mod maps;
+mod messages;
 mod non_empty_lists;
 mod non_zero;
 mod nothing;
@@ -75,32 +76,6 @@ fn is_written_as<T: Write<A>, A: Allocator>(alloc: A, value: &T, bytes: &[u8]) -
         && value.write(&mut sink).is_ok()
         && sink.as_slice() == bytes
         && value.encode_size() == bytes.len()
-}
-
-/// What the reader answers for lists of bytes that are written one after the other.
-fn read_lists<T: Read<A>, A: Allocator + Copy>(
-    alloc: A,
-    lists: &[&[u8]],
-    cfg: &T::Cfg,
-) -> Result<Result<T, Error>, AllocError> {
-    let mut sink = Vec::new(alloc);
-    for list in lists {
-        write_list(alloc, list, &mut sink)?;
-    }
-    Ok(read::<T, A>(alloc, &sink, cfg).0)
-}
-
-/// Writes the bytes as a list, if they can be.
-fn write_list<A: Allocator + Copy>(
-    alloc: A,
-    bytes: &[u8],
-    sink: &mut Vec<u8, A>,
-) -> Result<(), AllocError> {
-    let list = Vec::from_slice(alloc, bytes)?;
-    if !list.is_writable() {
-        return Ok(());
-    }
-    list.write(sink)
 }
 
 /// Whether the reader answers an equal value for the bytes, and takes so many of them.

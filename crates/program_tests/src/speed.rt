@@ -1,14 +1,12 @@
-//! Numbers, lines, logarithms and axes, and sessions over streams of memory.
+//! Numbers, logarithms and axes, and rounds over a clock of their own.
 
-use speed_calls::{Calls, time_bimaps, time_size};
+use speed_calls::{time_bimaps, time_size};
 use speed_core::logarithm::logarithm;
-use speed_core::{Axis, Bench, Failure, Sample, failed_read, parse_line, random, session};
-use std::alloc::{AllocError, Global};
+use speed_core::{Axis, Bench, Failure, failed_read, random};
 use std::cell::Cell;
 use std::io;
 use std::io::ErrorKind;
 use std::num::NonZeroU64;
-use std::test::Fail;
 use std::time::{Clock, Duration};
 
 /// A clock that goes on by a millisecond whenever it is read.
@@ -63,35 +61,6 @@ fn logarithms_are_rounded_down(rt: HostRuntime) {
     for (number, hundredths) in rows {
         let number = NonZeroU64::new(number).expect(&rt, "no number");
         assert!(rt; logarithm(number) == hundredths, "{number}");
-    }
-}
-
-#[test]
-fn lines_are_read(rt: HostRuntime) {
-    let sample = Sample {
-        name: "set_read",
-        entries: 300,
-        cost: 265,
-    };
-    let none = Sample { cost: 0, ..sample };
-    assert!(rt;
-        parse_line("set_read 1000 1000000 451") == Some(sample)
-            && parse_line("set_read 1000 0 0") == Some(none)
-    );
-}
-
-#[test]
-fn other_lines_are_refused(rt: HostRuntime) {
-    for line in [
-        "",
-        "set_read 1000 1000000",
-        "set_read 1000 1000000 451 7",
-        "set_read 0 1000000 451",
-        "set_read 1000 1000000 4.5",
-        "set-read 1000 1000000 451",
-        "set_read  1000 1000000 451",
-    ] {
-        assert!(rt; parse_line(line) == None, "{line}");
     }
 }
 
@@ -151,87 +120,6 @@ fn two_rounds_have_their_check_sums(rt: HostRuntime) {
     let timed = time_size(&mut bench, 10, 2).is_ok() && time_bimaps(&mut bench, 10, 2).is_ok();
     drop(bench);
     assert!(rt; timed && text.as_slice() == LINES.as_bytes());
-}
-
-/// The status of a session of these words over an input, and what it writes and says.
-fn run(alloc: Global, words: &[&str], input: &[u8]) -> Result<(u8, Vec<u8>, Vec<u8>), AllocError> {
-    let mut texts = Vec::new(alloc);
-    for word in words {
-        texts.push(String::from_str(alloc, word)?)?;
-    }
-    let (mut output, mut errors) = (Vec::new(alloc), Vec::new(alloc));
-    let status = session::<Calls, _, _, _, _>(
-        alloc,
-        &texts,
-        new_clock(),
-        input,
-        &mut output,
-        &mut errors,
-    );
-    Ok((status, output, errors))
-}
-
-const USAGE: &[u8] = b"usage: speed <greatest n>, or speed plot\n";
-
-#[test]
-fn other_words_get_the_usage(rt: HostRuntime) {
-    let all: [&[&str]; 4] = [&[], &["10", "plot"], &["-1"], &["4294967296"]];
-    for words in all {
-        let (status, output, errors) = run(rt.alloc(), words, b"").expect(&rt, "memory");
-        assert!(rt; status == 2 && output.is_empty() && errors.as_slice() == USAGE);
-    }
-}
-
-#[test]
-fn nothing_is_timed_below_the_least_size(rt: HostRuntime) {
-    let (status, output, errors) = run(rt.alloc(), &["9"], b"").expect(&rt, "memory");
-    assert!(rt; status == 0 && output.is_empty() && errors.is_empty());
-}
-
-/// Three lines of two calls.
-const SAMPLES: &[u8] = b"set_read 10 1 1000\nset_read 1000 1 100000\nmap_read 10 1 1000\n";
-
-#[test]
-fn lines_are_drawn(rt: HostRuntime) {
-    let (status, output, errors) = run(rt.alloc(), &["plot"], SAMPLES).expect(&rt, "memory");
-    let text = std::str::from_utf8(&output).expect(&rt, "a text");
-    assert!(rt;
-        status == 0
-            && errors.is_empty()
-            && text.starts_with("<svg ")
-            && text.contains("points=\"70,840 1070,30 \"/>")
-            && text.contains("points=\"70,840 \"/>")
-            && text.contains("y=\"30\" fill=\"hsl(0,60%,50%)\">set_read</text>")
-            && text.contains("y=\"840\" fill=\"hsl(137,60%,50%)\">map_read</text>")
-            && text.ends_with("</svg>\n")
-    );
-}
-
-#[test]
-fn the_first_line_that_cannot_be_read_is_named(rt: HostRuntime) {
-    let (status, output, errors) = run(
-        rt.alloc(),
-        &["plot"],
-        b"set_read 10 1 1\n\nset_read\n",
-    ).expect(&rt, "memory");
-    assert!(rt; status == 1 && output.is_empty());
-    assert!(rt; errors.as_slice() == b"refused: line 2\n".as_slice());
-}
-
-#[test]
-fn an_output_without_room_ends_a_run(rt: HostRuntime) {
-    let words = [String::from_str(rt.alloc(), "plot").expect(&rt, "memory")];
-    let mut errors: Vec<u8> = Vec::new(rt.alloc());
-    let output = io::Cursor::new([0u8; 9]);
-    let status = session::<Calls, _, _, _, _>(
-        rt.alloc(),
-        &words,
-        new_clock(),
-        SAMPLES,
-        output,
-        &mut errors,
-    );
-    assert!(rt; status == 3 && errors.as_slice() == b"failed: write\n".as_slice());
 }
 
 #[test]

@@ -24,17 +24,12 @@ fn has_no_shorter_text<T: Read<A> + Drop, A: Allocator + Copy>(
 }
 
 #[test]
-fn numbers_have_no_shorter_text(rt: HostRuntime) {
+fn numbers_and_lists_have_no_shorter_text(rt: HostRuntime) {
     let (alloc, any) = (rt.alloc(), RangeCfg::from(..));
     assert!(rt;
         has_no_shorter_text::<u32, _>(alloc, &(), b"\x00\x00\x01\x02")
             && has_no_shorter_text::<usize, _>(alloc, &any, b"\xac\x02")
     );
-}
-
-#[test]
-fn lists_have_no_shorter_text(rt: HostRuntime) {
-    let alloc = rt.alloc();
     let any = (RangeCfg::from(..), ());
     let full = (RangeCfg::from(..), ());
     let maps = (RangeCfg::from(..), (RangeCfg::from(..), (), ()));
@@ -50,7 +45,7 @@ fn lists_have_no_shorter_text(rt: HostRuntime) {
 }
 
 #[test]
-fn sets_have_no_shorter_text(rt: HostRuntime) {
+fn sets_and_maps_have_no_shorter_text(rt: HostRuntime) {
     let alloc = rt.alloc();
     let any = (RangeCfg::from(..), ());
     let lists = (RangeCfg::from(..), (RangeCfg::from(..), ()));
@@ -61,11 +56,6 @@ fn sets_have_no_shorter_text(rt: HostRuntime) {
             && has_no_shorter_text::<Set<Participant, _>, _>(alloc, &any, b"\x02\x01\xac\x02")
             && has_no_shorter_text::<Set<NonEmptyVec<u8, _>, _>, _>(alloc, &lists, nest)
     );
-}
-
-#[test]
-fn maps_have_no_shorter_text(rt: HostRuntime) {
-    let alloc = rt.alloc();
     let any = (RangeCfg::from(..), (), ());
     let four = b"\x04\x01\x02\x03\x04\x04\x0a\x14\x1e\x28";
     let two = b"\x02\x01\x02\x02\x14\x0a";

@@ -97,6 +97,8 @@ fn test_bimap_try_from_map(rt: HostRuntime) {
     );
     let bimap = BiMap::try_from_map(map).expect(&rt, "memory");
     assert!(rt; bimap.len() == 3 && bimap.get_value(&1) == Some(&'a'));
+    let none: Map<u8, u8, _> = Map::empty(rt.alloc());
+    assert!(rt; BiMap::try_from_map(none).expect(&rt, "memory") == BiMap::empty(rt.alloc()));
 }
 
 #[test]
@@ -105,12 +107,6 @@ fn test_bimap_try_from_map_duplicate(rt: HostRuntime) {
         &rt, "memory",
     );
     assert!(rt; BiMap::try_from_map(map).err() == Some(Error::DuplicateValue));
-}
-
-#[test]
-fn the_empty_map_is_a_bimap(rt: HostRuntime) {
-    let none: Map<u8, u8, _> = Map::empty(rt.alloc());
-    assert!(rt; BiMap::try_from_map(none).expect(&rt, "memory") == BiMap::empty(rt.alloc()));
 }
 
 /// Whether the bimap of 1, 2 and 3 is seen as the set of its keys.
@@ -173,22 +169,18 @@ fn equal_bimaps_hash_alike(rt: HostRuntime) {
 }
 
 #[test]
-fn bimaps_are_written_as_maps(rt: HostRuntime) {
+fn bimaps_are_written_as_maps_and_in_lists(rt: HostRuntime) {
     let alloc = rt.alloc();
     bimap_fault_law::<u8, u8, _>(alloc, RangeCfg::from(..), &(), &());
     let two = bimap_of(&rt, alloc, &[(2, 10), (1, 20)]);
     assert!(rt; is_written_as(alloc, &two, b"\x02\x01\x02\x02\x14\x0a"));
-}
-
-#[test]
-fn bimaps_stand_in_lists(rt: HostRuntime) {
-    let mut bimaps = Vec::new(rt.alloc());
+    let mut bimaps = Vec::new(alloc);
     for pairs in [[].as_slice(), &[(5, 6)]] {
         bimaps
-            .push(bimap_of(&rt, rt.alloc(), pairs))
+            .push(bimap_of(&rt, alloc, pairs))
             .expect(&rt, "memory");
     }
-    assert!(rt; is_written_as(rt.alloc(), &bimaps, b"\x02\x00\x00\x01\x05\x01\x06"));
+    assert!(rt; is_written_as(alloc, &bimaps, b"\x02\x00\x00\x01\x05\x01\x06"));
 }
 
 /// Under any range, and under one that all of them keep.

@@ -1,6 +1,7 @@
 //! Clones that equal their source.
 ghost use Rattle.std.specs.Prelude.{◌≡◌, true, IfOk};
 
+use super::is_debugged_as;
 use crate::codec::UInt;
 use crate::ordered::{BiMap, Map, Set};
 use crate::{EqClone, Participant, TryFromIterator, non_empty_vec};
@@ -50,11 +51,7 @@ fn collections_equal_their_clones(rt: HostRuntime) {
     let two = Set::from_iter_dedup(alloc, [2u8, 1]).expect(&rt, "memory");
     let nest = Set::from_iter_dedup(alloc, [two, Set::empty(alloc)]).expect(&rt, "memory");
     assert!(rt; is_cloned(&nest));
-}
-
-#[test]
-fn bimaps_equal_their_clones(rt: HostRuntime) {
-    let pairs = BiMap::try_from_iter(rt.alloc(), [(2u8, 'b'), (1, 'a')]).expect(&rt, "memory");
+    let pairs = BiMap::try_from_iter(alloc, [(2u8, 'b'), (1, 'a')]).expect(&rt, "memory");
     assert!(rt; is_cloned(&pairs));
 }
 
@@ -62,13 +59,15 @@ fn bimaps_equal_their_clones(rt: HostRuntime) {
 fn lists_that_are_never_empty_are_cloned_as_items(rt: HostRuntime) {
     let alloc = rt.alloc();
     let lists = [
-        non_empty_vec!(alloc => 2u8, 1).expect(&rt, "memory"),
-        non_empty_vec!(alloc => 2).expect(&rt, "memory"),
+        non_empty_vec!(alloc => 1u8, 2).expect(&rt, "memory"),
+        non_empty_vec!(alloc => 1).expect(&rt, "memory"),
     ];
     let [long, short] = &lists;
     let set = Set::try_from_slice(alloc, &lists).expect(&rt, "memory");
     assert!(rt; set.len() == 2 && set.get(0) == Some(short) && set.get(1) == Some(long));
-    assert!(rt; is_cloned(long) && is_cloned(&set));
+    assert!(rt;
+        is_cloned(long) && is_cloned(&set) && is_debugged_as(alloc, long, "NonEmptyVec([1, 2])")
+    );
 }
 
 #[test]

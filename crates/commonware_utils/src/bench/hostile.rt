@@ -73,27 +73,14 @@ fn texts_that_are_no_set_of_numbers_are_refused(rt: HostRuntime) {
 
 #[test]
 fn the_first_fault_of_a_nest_is_named(rt: HostRuntime) {
-    let (any, one) = (RangeCfg::from(..), RangeCfg::from(..=1));
-    assert!(rt;
-        refuses::<Set<Set<u8, _>, _>, _>(rt.alloc(), &(any, (any, ())), &NO_SETS_OF_SETS)
-            && refuses::<Set<Set<u8, _>, _>, _>(
-                rt.alloc(),
-                &(any, (one, ())),
-                &NO_SETS_OF_SHORT_SETS
-            )
-    );
-}
-
-#[test]
-fn faults_of_a_nested_set_come_in_order(rt: HostRuntime) {
-    let any = RangeCfg::from(..);
-    let cfg = (any, (), (any, ()));
-    assert!(rt; refuses::<Map<u8, Set<u8, _>, _>, _>(rt.alloc(), &cfg, &NO_MAPS_TO_SETS));
-}
-
-#[test]
-fn faults_of_full_lists_come_in_order(rt: HostRuntime) {
     let alloc = rt.alloc();
-    let cfg = (RangeCfg::from(..), (RangeCfg::from(..), ()));
-    assert!(rt; refuses::<NonEmptyVec<NonEmptyVec<u8, _>, _>, _>(alloc, &cfg, &NO_FULL_LISTS));
+    let (any, one) = (RangeCfg::from(..), RangeCfg::from(..=1));
+    let maps = (any, (), (any, ()));
+    assert!(rt;
+        refuses::<Set<Set<u8, _>, _>, _>(alloc, &(any, (any, ())), &NO_SETS_OF_SETS)
+            && refuses::<Set<Set<u8, _>, _>, _>(alloc, &(any, (one, ())), &NO_SETS_OF_SHORT_SETS)
+            && refuses::<Map<u8, Set<u8, _>, _>, _>(alloc, &maps, &NO_MAPS_TO_SETS)
+    );
+    let lists = (RangeCfg::from(..), (RangeCfg::from(..), ()));
+    assert!(rt; refuses::<NonEmptyVec<NonEmptyVec<u8, _>, _>, _>(alloc, &lists, &NO_FULL_LISTS));
 }

@@ -144,10 +144,6 @@ fn map_from_parts(rt: HostRuntime) {
     let values = vec![in rt.alloc(); 30u8, 10, 10].expect(&rt, "memory");
     let map = Map::from_parts(keys, values).expect(&rt, "uneven");
     assert!(rt; map.as_slice() == [1, 2, 3].as_slice() && map.values() == [30, 10, 10].as_slice());
-}
-
-#[test]
-fn parts_are_paired_by_their_positions(rt: HostRuntime) {
     let keys = Set::try_from_array(rt.alloc(), [3u8, 1, 2]).expect(&rt, "memory");
     let words = vec![in rt.alloc(); "one", "two", "three"].expect(&rt, "memory");
     let map = Map::from_parts(keys, words).expect(&rt, "uneven");

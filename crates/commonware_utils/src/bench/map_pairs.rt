@@ -96,12 +96,6 @@ fn taken(map: Map<u8, u8, Global>) -> u32 {
     digits
 }
 
-#[test]
-fn a_loop_walks_the_pairs(rt: HostRuntime) {
-    let map = tens(&rt, rt.alloc());
-    assert!(rt; walked(&map) == 112_233 && taken(map) == 112_233);
-}
-
 /// Adds the key to the value, and tells both as they were.
 fn add_key(pair: Option<(&u8, &mut u8)>) -> Option<(u8, u8)> {
     let (key, value) = pair?;
@@ -116,6 +110,7 @@ fn adds_keys(map: &mut Map<u8, u8, Global>) -> bool {
     pairs.len() == 3
         && add_key(pairs.next()) == Some((1, 10))
         && pairs.len() == 2
+        && pairs.size_hint() == (2, Some(2))
         && add_key(pairs.next_back()) == Some((3, 30))
         && pairs.len() == 1
         && add_key(pairs.next_back()) == Some((2, 20))
@@ -144,14 +139,6 @@ fn test_pair_iterators(rt: HostRuntime) {
     );
 }
 
-#[test]
-fn the_number_left_is_told(rt: HostRuntime) {
-    let mut map = tens(&rt, rt.alloc());
-    let mut lent = map.iter_pairs_mut();
-    let _ = lent.next();
-    assert!(rt; lent.len() == 2 && lent.size_hint() == (2, Some(2)));
-}
-
 /// Adds each key to its value, in a loop.
 fn add_keys(map: &mut Map<u8, u8, Global>) {
     for (key, value) in map.iter_pairs_mut() {
@@ -160,11 +147,14 @@ fn add_keys(map: &mut Map<u8, u8, Global>) {
 }
 
 #[test]
-fn values_are_written_in_a_loop(rt: HostRuntime) {
+fn loops_walk_the_pairs_write_the_values_and_take_both(rt: HostRuntime) {
     let mut map = tens(&rt, rt.alloc());
+    assert!(rt; walked(&map) == 112_233);
     add_keys(&mut map);
     assert!(rt;
-        map.values() == [11, 22, 33].as_slice() && map.keys().as_slice() == [1, 2, 3].as_slice()
+        map.values() == [11, 22, 33].as_slice()
+            && map.keys().as_slice() == [1, 2, 3].as_slice()
+            && taken(map) == 122_436
     );
 }
 

@@ -1,6 +1,5 @@
 //! Maps of new values: every pair once in key order, first errors, results that borrow.
 use super::map_pairs::tens;
-use super::{is_debugged_as, is_shown_as};
 use crate::ordered::{Map, MapError, Set};
 use std::alloc::Global;
 use std::process::Abort;
@@ -195,20 +194,5 @@ fn test_try_map_values_error(rt: HostRuntime) {
         };
         let taken = map.try_map_values_into(|key, _| transform(key));
         assert!(rt; taken.err() == Some(MapError::Closure(failed_key)) && visited == expected);
-    }
-}
-
-/// Each refusal, its message, and its text for a developer.
-const REFUSALS: [(MapError<u8>, &str, &str); 2] = [
-    (MapError::Memory, "out of memory", "Memory"),
-    (MapError::Closure(7), "the closure failed", "Closure(7)"),
-];
-
-#[test]
-fn refusals_of_value_maps_have_texts(rt: HostRuntime) {
-    for (error, shown, debugged) in &REFUSALS {
-        assert!(rt;
-            is_shown_as(rt.alloc(), error, shown) && is_debugged_as(rt.alloc(), error, debugged)
-        );
     }
 }

@@ -1,12 +1,10 @@
 //! Maps: look-ups, edits, texts, and what is written and read.
 use super::sets::UNSORTED;
-use super::{
-    are_equal, is_debugged_as, is_read_as, is_shown_as, is_written_as, read, read_lists, refuses,
-};
+use super::{are_equal, is_debugged_as, is_read_as, is_shown_as, is_written_as, read, refuses};
 use crate::Participant;
 use crate::codec::{Error, RangeCfg, round_trip};
 use crate::ordered::{Map, Set, map_fault_law};
-use std::alloc::{AllocError, Global};
+use std::alloc::Global;
 use std::process::Abort;
 
 /// Keys, and their places and values in {1: 10, 5: 50, 9: 90}.
@@ -160,12 +158,17 @@ fn equal_maps_hash_alike(rt: HostRuntime) {
 }
 
 #[test]
-fn maps_are_written_as_two_lists(rt: HostRuntime) {
+fn maps_are_written_as_two_lists_and_in_lists(rt: HostRuntime) {
     let alloc = rt.alloc();
     map_fault_law::<u8, u8, _>(alloc, RangeCfg::from(..), &(), &());
     for (pairs, bytes) in BYTES {
         assert!(rt; is_written_as(alloc, &map_of(&rt, alloc, pairs), bytes));
     }
+    let mut maps = Vec::new(alloc);
+    for pairs in [[].as_slice(), &[(5, 6)]] {
+        maps.push(map_of(&rt, alloc, pairs)).expect(&rt, "memory");
+    }
+    assert!(rt; is_written_as(alloc, &maps, b"\x02\x00\x00\x01\x05\x01\x06"));
 }
 
 #[test]
@@ -179,70 +182,37 @@ fn values_may_be_sets(rt: HostRuntime) {
 }
 
 #[test]
-fn maps_stand_in_lists(rt: HostRuntime) {
-    let mut maps = Vec::new(rt.alloc());
-    for pairs in [[].as_slice(), &[(5, 6)]] {
-        maps.push(map_of(&rt, rt.alloc(), pairs))
-            .expect(&rt, "memory");
-    }
-    assert!(rt; is_written_as(rt.alloc(), &maps, b"\x02\x00\x00\x01\x05\x01\x06"));
-}
-
-#[test]
 fn texts_that_are_no_map_are_refused(rt: HostRuntime) {
     let any = (RangeCfg::from(..), (), ());
     assert!(rt; refuses::<Map<u8, u8, _>, _>(rt.alloc(), &any, &NO_MAPS));
 }
 
-/// What the reader of maps answers for a list of keys and the values 10, 20, 30 and 40.
-fn decoded(alloc: Global, keys: &[u8]) -> Result<Result<Map<u8, u8, Global>, Error>, AllocError> {
+/// Whether the text isn't a map of at most ten keys, as they aren't in order.
+fn is_unsorted(alloc: Global, text: &[u8]) -> bool {
     let short = (RangeCfg::from(0..=10), (), ());
-    read_lists(alloc, &[keys, &[10, 20, 30, 40]], &short)
+    refuses::<Map<u8, u8, _>, _>(alloc, &short, &[(text, UNSORTED)])
 }
 
 #[test]
 fn test_map_decode_rejects_duplicate_keys(rt: HostRuntime) {
-    assert!(rt;
-        decoded(rt.alloc(), &[1, 2, 2, 3])
-            .expect(&rt, "memory")
-            .err()
-            == Some(UNSORTED)
-    );
+    assert!(rt; is_unsorted(rt.alloc(), b"\x04\x01\x02\x02\x03\x04\x0a\x14\x1e\x28"));
 }
 
 #[test]
 fn test_map_decode_rejects_unsorted_keys(rt: HostRuntime) {
-    assert!(rt;
-        decoded(rt.alloc(), &[1, 3, 2, 4])
-            .expect(&rt, "memory")
-            .err()
-            == Some(UNSORTED)
-    );
+    assert!(rt; is_unsorted(rt.alloc(), b"\x04\x01\x03\x02\x04\x04\x0a\x14\x1e\x28"));
 }
 
+/// With a byte that follows the map, and is left.
 #[test]
 fn test_map_decode_accepts_valid(rt: HostRuntime) {
-    let map = decoded(rt.alloc(), &[1, 2, 3, 4])
-        .expect(&rt, "memory")
-        .expect(&rt, "a value");
-    assert!(rt; holds(&map, &[1, 2, 3, 4], &[10, 20, 30, 40]));
-}
-
-/// Texts that repeat or turn round keys, and one that is whole before a byte more.
-#[test]
-fn the_keys_of_a_text_are_in_order(rt: HostRuntime) {
     let short = (RangeCfg::from(0..=10), (), ());
-    let rows = [
-        (
-            b"\x04\x01\x02\x02\x03\x04\x0a\x14\x1e\x28".as_slice(),
-            UNSORTED,
-        ),
-        (b"\x04\x01\x03\x02\x04\x04\x0a\x14\x1e\x28", UNSORTED),
-    ];
-    assert!(rt; refuses::<Map<u8, u8, _>, _>(rt.alloc(), &short, &rows));
-    let whole = b"\x04\x01\x02\x03\x04\x04\x0a\x14\x1e\x28\xff";
+    let text = b"\x04\x01\x02\x03\x04\x04\x0a\x14\x1e\x28\xff";
     let map = map_of(&rt, rt.alloc(), &[(1, 10), (2, 20), (3, 30), (4, 40)]);
-    assert!(rt; is_read_as(rt.alloc(), whole, &short, &map, 10));
+    assert!(rt;
+        holds(&map, &[1, 2, 3, 4], &[10, 20, 30, 40])
+            && is_read_as(rt.alloc(), text, &short, &map, 10)
+    );
 }
 
 #[test]

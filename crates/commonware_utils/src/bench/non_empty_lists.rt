@@ -1,9 +1,9 @@
 //! Lists that are never empty, and bounded queues: rows and vectors.
-use super::{are_equal, are_ordered, is_debugged_as, is_shown_as, is_written_as, read, refuses};
-use crate::codec::{Error as CodecError, RangeCfg, round_trip};
+use super::{are_equal, are_ordered, is_debugged_as, is_written_as, refuses};
+use crate::codec::{Error as CodecError, RangeCfg};
 use crate::ordered::{Map, Set};
-use crate::vec::{Bounded, Error, Mutate, NonEmptyVec, non_empty_fault_law};
-use crate::{NZUsize, TryFromIterator, non_empty_vec};
+use crate::vec::{Bounded, Mutate, NonEmptyVec};
+use crate::{NZUsize, non_empty_vec};
 use std::alloc::Global;
 use std::cmp::Ordering;
 use std::collections::VecDeque;
@@ -23,15 +23,6 @@ const ORDERS: [(&[u8], &[u8], Ordering); 4] = [
     (&[1], &[1], Ordering::Equal),
 ];
 
-/// Refusals and what they say.
-const MESSAGES: [(Error, &str); 2] = [
-    (
-        Error::Empty,
-        "cannot create NonEmptyVec from empty collection",
-    ),
-    (Error::Memory, "out of memory"),
-];
-
 /// The list of these bytes.
 fn list_of(rt: &impl Abort, alloc: Global, items: &[u8]) -> NonEmptyVec<u8, Global> {
     NonEmptyVec::try_from_slice(alloc, items).expect(rt, "memory")
@@ -40,30 +31,6 @@ fn list_of(rt: &impl Abort, alloc: Global, items: &[u8]) -> NonEmptyVec<u8, Glob
 /// Whether the queue holds these items.
 fn holds(queue: &VecDeque<u8, Global>, items: &[u8]) -> bool {
     queue.iter().eq(items.iter())
-}
-
-#[test]
-fn a_queue_of_one_holds_the_newest(rt: HostRuntime) {
-    let mut one = Bounded::new(rt.alloc(), NZUsize!(1));
-    for (item, out) in [(5u8, None), (6, Some(5))] {
-        assert!(rt; one.push(item) == Ok(out));
-    }
-    assert!(rt; holds(&one, &[6]) && one.capacity().get() == 1);
-}
-
-#[test]
-fn the_oldest_makes_room(rt: HostRuntime) {
-    let mut two = Bounded::new(rt.alloc(), NZUsize!(2));
-    assert!(rt;
-        two.pop_front() == None
-            && two.push(1u8) == Ok(None)
-            && two.push(2) == Ok(None)
-            && two.pop_front() == Some(1)
-    );
-    for (item, out) in [(3, None), (4, Some(2))] {
-        assert!(rt; two.push(item) == Ok(out));
-    }
-    assert!(rt; holds(two.as_ref(), &[3, 4]));
 }
 
 /// The queue of at most so many of the items, the last ones.
@@ -98,34 +65,6 @@ fn queues_are_cloned_and_shown(rt: HostRuntime) {
     assert!(rt; holds(&items, &[1, 2]));
 }
 
-/// Whether each form answers these items.
-fn forms_answer(alloc: Global, items: &[u8]) -> Result<bool, Error> {
-    let n = NZUsize!(3);
-    let whole = non_empty_vec!(@vec![in alloc; 4u8, 4, 4]?);
-    Ok(
-        whole.as_slice() == items
-            && non_empty_vec!(alloc => 4u8; 3)? == whole
-            && non_empty_vec!(alloc => 4u8; NZUsize!(3))? == whole
-            && non_empty_vec!(alloc => 4u8; @n)? == whole,
-    )
-}
-
-#[test]
-fn each_form_of_the_macro_answers_the_list(rt: HostRuntime) {
-    assert!(rt; forms_answer(rt.alloc(), &[4, 4, 4]).expect(&rt, "memory"));
-}
-
-#[test]
-fn items_come_in_anywhere(rt: HostRuntime) {
-    let mut v = non_empty_vec!(rt.alloc() => 1u8, 2, 3,).expect(&rt, "memory");
-    assert!(rt;
-        v.insert(3, 9) == Ok(())
-            && v.as_slice() == [1, 2, 3, 9].as_slice()
-            && v.insert(0, 8) == Ok(())
-            && v.as_slice() == [8, 1, 2, 3, 9].as_slice()
-    );
-}
-
 /// A value that can be cloned and no more.
 #[derive(Clone, Drop)]
 struct Token(u8);
@@ -148,41 +87,6 @@ fn lists_are_ordered_item_by_item(rt: HostRuntime) {
         let other = list_of(&rt, rt.alloc(), others);
         assert!(rt; are_ordered(&list, &other, order));
     }
-}
-
-#[test]
-fn lists_are_cloned_and_shown(rt: HostRuntime) {
-    let two = list_of(&rt, rt.alloc(), &[1, 2]);
-    assert!(rt;
-        two == two.clone().expect(&rt, "memory")
-            && is_debugged_as(rt.alloc(), &two, "NonEmptyVec([1, 2])")
-    );
-}
-
-#[test]
-fn nothing_is_refused(rt: HostRuntime) {
-    let (alloc, none) = (rt.alloc(), [0u8; 0]);
-    assert!(rt;
-        NonEmptyVec::try_from_iter(alloc, none).err() == Some(Error::Empty)
-            && NonEmptyVec::try_from_slice(alloc, &none).err() == Some(Error::Empty)
-            && NonEmptyVec::try_from_array(alloc, none).err() == Some(Error::Empty)
-            && NonEmptyVec::try_from_array_ref(alloc, &none).err() == Some(Error::Empty)
-    );
-}
-
-#[test]
-fn refusals_have_messages(rt: HostRuntime) {
-    for (error, message) in &MESSAGES {
-        assert!(rt; is_shown_as(rt.alloc(), error, message));
-    }
-}
-
-#[test]
-fn lists_are_written_as_lists(rt: HostRuntime) {
-    let alloc = rt.alloc();
-    non_empty_fault_law::<u8, _>(alloc, RangeCfg::from(..), &());
-    let list = list_of(&rt, alloc, &[1, 2, 3]);
-    assert!(rt; is_written_as(alloc, &list, b"\x03\x01\x02\x03"));
 }
 
 #[test]
@@ -215,17 +119,6 @@ fn empty_lists_are_refused_by_their_range_first(rt: HostRuntime) {
         (b"\x80", CodecError::EndOfBuffer),
     ];
     assert!(rt; refuses::<NonEmptyVec<u8, _>, _>(rt.alloc(), &(none, ()), &rows));
-}
-
-#[test]
-fn what_is_written_is_read(rt: HostRuntime) {
-    let alloc = rt.alloc();
-    let cfg = (RangeCfg::from(NZUsize!(1)..=NZUsize!(10)), ());
-    let (v, taken) = read::<NonEmptyVec<u8, _>, _>(alloc, b"\x03\x01\x02\x03\xff", &cfg);
-    let v = v.expect(&rt, "a value");
-    assert!(rt; v.as_slice() == [1, 2, 3].as_slice() && taken == 4);
-    let (again, left) = round_trip(alloc, &v, b"\xff\xff", &cfg).expect(&rt, "a value");
-    assert!(rt; again == v && left == 2);
 }
 
 #[test]

@@ -1,5 +1,5 @@
 //! Bytes, words, varints and numbers in a range.
-use super::{is_coded_as, is_read_as, is_shown_as, is_written_as, refuses};
+use super::{is_coded_as, is_read_as, is_written_as, refuses};
 use crate::codec::{EncodeSize, Error, MaxEncodeSize, RangeCfg, UInt, varint_law};
 
 /// Numbers and the bytes that spell them.
@@ -34,28 +34,17 @@ const NO_VARINTS: [(&[u8], Error); 8] = [
     (b"\x80\x80\x80\x80\x80", Error::InvalidVarint),
 ];
 
-/// Refusals and what they say.
-const MESSAGES: [(Error, &str); 5] = [
-    (Error::EndOfBuffer, "end of input"),
-    (Error::InvalidVarint, "invalid varint"),
-    (Error::InvalidLength(257), "length 257"),
-    (Error::Invalid("Set", "a rule"), "Set: a rule"),
-    (Error::Memory, "out of memory"),
-];
-
 #[test]
-fn varints_are_written_and_read(rt: HostRuntime) {
+fn varints_are_written_and_read_and_other_spellings_refused(rt: HostRuntime) {
     let alloc = rt.alloc();
     varint_law();
     for (number, bytes) in VARINTS {
         assert!(rt; is_coded_as(alloc, &UInt(number), &(), bytes));
     }
-    assert!(rt; is_read_as(alloc, b"\x00\x07", &(), &UInt(0), 1));
-}
-
-#[test]
-fn other_spellings_are_refused(rt: HostRuntime) {
-    assert!(rt; refuses::<UInt, _>(rt.alloc(), &(), &NO_VARINTS));
+    assert!(rt;
+        is_read_as(alloc, b"\x00\x07", &(), &UInt(0), 1)
+            && refuses::<UInt, _>(alloc, &(), &NO_VARINTS)
+    );
 }
 
 #[test]
@@ -85,11 +74,4 @@ fn numbers_stay_in_their_range(rt: HostRuntime) {
             && 4294967295usize.is_writable()
             && !4294967296usize.is_writable()
     );
-}
-
-#[test]
-fn errors_say_what_is_wrong(rt: HostRuntime) {
-    for (error, text) in &MESSAGES {
-        assert!(rt; is_shown_as(rt.alloc(), error, text));
-    }
 }

@@ -20,12 +20,8 @@ fn members_have_indices(rt: HostRuntime) {
         );
     }
     assert!(rt; committee.len() == 4);
-}
-
-#[test]
-fn an_empty_set_has_no_indices(rt: HostRuntime) {
-    let committee: Set<u32, _> = Set::empty(rt.alloc());
-    assert!(rt; committee.key(Participant::new(0)) == None && committee.index(&0) == None);
+    let nobody: Set<u32, _> = Set::empty(rt.alloc());
+    assert!(rt; nobody.key(Participant::new(0)) == None && nobody.index(&0) == None);
 }
 
 #[test]

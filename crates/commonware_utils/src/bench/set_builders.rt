@@ -1,7 +1,6 @@
 //! Sets of many items: what is built, and what is refused.
 ghost use Rattle.commonware_ordered.specs.Whole.{IsWholeSet};
 
-use super::is_shown_as;
 use crate::ordered::{Error, Set};
 use crate::{TryCollect, TryFromIterator};
 use std::alloc::{Allocator, Global};
@@ -15,13 +14,6 @@ const LISTS: [(&[u8], Option<&[u8]>); 6] = [
     (&[9], Some(&[9])),
     (&[3, 1, 2], Some(&[1, 2, 3])),
     (&[], Some(&[])),
-];
-
-/// Refusals and what they say.
-const MESSAGES: [(Error, &str); 3] = [
-    (Error::DuplicateKey, "duplicate key"),
-    (Error::DuplicateValue, "duplicate value"),
-    (Error::Memory, "out of memory"),
 ];
 
 /// Whether the answer is the set of these items, or, for `None`, that two are equal.
@@ -113,11 +105,4 @@ fn try_from_items<T: Ord + Drop, A: Allocator + Copy>(
 fn test_set_try_from_iter_duplicate(rt: HostRuntime) {
     let items = vec![in rt.alloc(); 3u8, 1, 2, 2].expect(&rt, "memory");
     assert!(rt; try_from_items(rt.alloc(), items).err() == Some(Error::DuplicateKey));
-}
-
-#[test]
-fn refusals_have_messages(rt: HostRuntime) {
-    for (error, message) in &MESSAGES {
-        assert!(rt; is_shown_as(rt.alloc(), error, message));
-    }
 }

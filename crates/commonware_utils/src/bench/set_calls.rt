@@ -144,11 +144,6 @@ fn sets_have_texts(rt: HostRuntime) {
     assert!(rt; is_shown_as(alloc, &none, "[]") && is_debugged_as(alloc, &none, "Set([])"));
     let two = Set::from_iter_dedup(alloc, [2u8, 1]).expect(&rt, "memory");
     assert!(rt; is_debugged_as(alloc, &two, "Set([1, 2])"));
-}
-
-#[test]
-fn sets_of_sets_have_texts(rt: HostRuntime) {
-    let alloc = rt.alloc();
     let one = Set::from_iter_dedup(alloc, [Participant::new(1000)]).expect(&rt, "memory");
     let nest = Set::from_iter_dedup(alloc, [one, Set::empty(alloc)]).expect(&rt, "memory");
     assert!(rt; is_shown_as(alloc, &nest, "[[], [1000]]"));

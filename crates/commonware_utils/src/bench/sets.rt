@@ -1,7 +1,5 @@
 //! Sets: what is built, written and read.
-use super::{
-    are_ordered, comes_back, is_coded_as, is_read_as, is_written_as, read, read_lists, refuses,
-};
+use super::{are_ordered, comes_back, is_coded_as, is_read_as, is_written_as, read, refuses};
 use crate::Participant;
 use crate::codec::{Error, RangeCfg, Write, round_trip};
 use crate::ordered::{Set, set_fault_law};
@@ -21,9 +19,7 @@ const NO_SETS: [(&[u8], Error); 5] = [
 ];
 
 /// Texts that are no set of at most ten bytes.
-const NO_SHORT_SETS: [(&[u8], Error); 4] = [
-    (b"\x04\x01\x03\x02\x04", UNSORTED),
-    (b"\x04\x01\x02\x02\x03", UNSORTED),
+const NO_SHORT_SETS: [(&[u8], Error); 2] = [
     (b"\x03\x02\x01", Error::EndOfBuffer),
     (b"\x0b", Error::InvalidLength(11)),
 ];
@@ -104,16 +100,11 @@ fn texts_that_are_no_set_are_refused(rt: HostRuntime) {
 }
 
 #[test]
-fn what_follows_a_set_is_left(rt: HostRuntime) {
-    let any = RangeCfg::from(..);
-    let set = set_of(&rt, rt.alloc(), &[5, 9]);
-    assert!(rt; is_read_as(rt.alloc(), b"\x02\x05\x09\xff\xff", &(any, ()), &set, 3));
-}
-
-#[test]
-fn sets_of_sets_are_written_and_read(rt: HostRuntime) {
+fn sets_are_read_and_what_follows_is_left(rt: HostRuntime) {
     let alloc = rt.alloc();
     let any = RangeCfg::from(..);
+    let set = set_of(&rt, alloc, &[5, 9]);
+    assert!(rt; is_read_as(alloc, b"\x02\x05\x09\xff\xff", &(any, ()), &set, 3));
     let nest = nest_of(&rt, alloc, &[&[2], &[2, 1], &[1], &[]]);
     let bytes = b"\x04\x00\x01\x01\x02\x01\x02\x01\x02";
     assert!(rt; is_coded_as(alloc, &nest, &(any, (any, ())), bytes));
@@ -147,35 +138,25 @@ fn test_sorted_unique_codec_roundtrip(rt: HostRuntime) {
     assert!(rt; comes_back(rt.alloc(), &sorted, &(RangeCfg::from(0..=9), ())));
 }
 
-/// What the reader of sets answers for a list.
-fn decoded(alloc: Global, items: &[u8]) -> Result<Result<Set<u8, Global>, Error>, AllocError> {
-    read_lists(alloc, &[items], &(RangeCfg::from(0..=10), ()))
+/// Whether the text isn't a set of at most ten bytes, as they aren't in order.
+fn is_unsorted(alloc: Global, text: &[u8]) -> bool {
+    let short = (RangeCfg::from(0..=10), ());
+    refuses::<Set<u8, _>, _>(alloc, &short, &[(text, UNSORTED)])
 }
 
 #[test]
 fn test_set_decode_rejects_duplicates(rt: HostRuntime) {
-    assert!(rt;
-        decoded(rt.alloc(), &[1, 2, 2, 3])
-            .expect(&rt, "memory")
-            .err()
-            == Some(UNSORTED)
-    );
+    assert!(rt; is_unsorted(rt.alloc(), b"\x04\x01\x02\x02\x03"));
 }
 
 #[test]
 fn test_set_decode_rejects_unsorted(rt: HostRuntime) {
-    assert!(rt;
-        decoded(rt.alloc(), &[1, 3, 2, 4])
-            .expect(&rt, "memory")
-            .err()
-            == Some(UNSORTED)
-    );
+    assert!(rt; is_unsorted(rt.alloc(), b"\x04\x01\x03\x02\x04"));
 }
 
 #[test]
 fn test_set_decode_accepts_valid(rt: HostRuntime) {
-    let set = decoded(rt.alloc(), &[1, 2, 3, 4])
-        .expect(&rt, "memory")
-        .expect(&rt, "a value");
-    assert!(rt; set.as_slice() == [1, 2, 3, 4].as_slice());
+    let set = set_of(&rt, rt.alloc(), &[1, 2, 3, 4]);
+    let short = (RangeCfg::from(0..=10), ());
+    assert!(rt; is_read_as(rt.alloc(), b"\x04\x01\x02\x03\x04", &short, &set, 5));
 }

@@ -2,10 +2,10 @@
 ghost use Rattle.std.specs.Prelude.{◌≡◌, ◌≤◌, ◌∷◌, [], length};
 
 use super::non_empty_lists::EMPTY;
-use super::{comes_back, is_written_as, refuses};
-use crate::codec::{Error as CodecError, RangeCfg};
-use crate::vec::{Bounded, Error, Mutate, NonEmptyVec};
-use crate::{NZUsize, TryCollect, non_empty_vec};
+use super::{is_read_as, is_written_as, refuses};
+use crate::codec::{EncodeSize, Error as CodecError, RangeCfg, round_trip};
+use crate::vec::{Bounded, Error, Mutate, NonEmptyVec, non_empty_fault_law};
+use crate::{NZUsize, TryCollect, TryFromIterator, non_empty_vec};
 use std::alloc::Global;
 use std::num::NonZeroUsize;
 use std::process::Abort;
@@ -36,22 +36,35 @@ fn has(list: &NonEmptyVec<u8, Global>, items: &[u8]) -> bool {
 
 #[test]
 fn test_bounded_push_evicts_oldest(rt: HostRuntime) {
-    let mut queue = Bounded::new(rt.alloc(), NZUsize!(3));
-    for (item, out) in [(1u8, None), (2, None), (3, None), (4, Some(1))] {
-        assert!(rt; queue.push(item) == Ok(out));
+    let rows = [
+        (
+            NZUsize!(3),
+            [(1u8, None), (2, None), (3, None), (4, Some(1))].as_slice(),
+            [2, 3, 4].as_slice(),
+        ),
+        (NZUsize!(1), &[(5, None), (6, Some(5))], &[6]),
+    ];
+    for (capacity, pushes, left) in rows {
+        let mut queue = Bounded::new(rt.alloc(), capacity);
+        for (item, out) in pushes {
+            assert!(rt; queue.push(*item) == Ok(*out));
+        }
+        assert!(rt; queue.capacity() == capacity && queue.iter().eq(left.iter()));
     }
-    assert!(rt; queue.capacity().get() == 3 && queue.iter().eq([2, 3, 4].iter()));
 }
 
 #[test]
 fn test_bounded_pop_front_reuses_capacity(rt: HostRuntime) {
     let mut queue = Bounded::new(rt.alloc(), NZUsize!(2));
     assert!(rt;
-        queue.push(1u8) == Ok(None)
+        queue.pop_front() == None
+            && queue.push(1u8) == Ok(None)
             && queue.push(2) == Ok(None)
             && queue.pop_front() == Some(1)
             && queue.push(3) == Ok(None)
             && queue.iter().eq([2, 3].iter())
+            && queue.push(4) == Ok(Some(2))
+            && queue.as_ref().iter().eq([3, 4].iter())
     );
 }
 
@@ -93,6 +106,7 @@ fn are_of_items(alloc: Global) -> bool {
     is_list(non_empty_vec!(alloc => 1, 2, 3), &[1, 2, 3])
         && is_list(non_empty_vec!(alloc => 1, 2, 3,), &[1, 2, 3])
         && is_list(non_empty_vec!(alloc => 42), &[42])
+        && is_list(non_empty_vec!(alloc => 7, 8, 9, 7, 8), &[7, 8, 9, 7, 8])
 }
 
 /// Whether lists are made of an item and a number.
@@ -100,6 +114,7 @@ fn are_repeats(alloc: Global, n: NonZeroUsize) -> bool {
     is_list(non_empty_vec!(alloc => 42; 5), &[42; 5])
         && is_list(non_empty_vec!(alloc => 0; 1), &[0])
         && is_list(non_empty_vec!(alloc => 99; NZUsize!(3)), &[99; 3])
+        && is_list(non_empty_vec!(alloc => 4; 3), &[4, 4, 4])
         && is_list(non_empty_vec!(alloc => 7; @n), &[7, 7, 7, 7])
 }
 
@@ -137,8 +152,10 @@ fn test_try_from_array(rt: HostRuntime) {
     let v = NonEmptyVec::try_from_array(rt.alloc(), [1u8, 2, 3]).expect(&rt, "memory");
     let w = NonEmptyVec::try_from_array_ref(rt.alloc(), &[1u8, 2, 3]).expect(&rt, "memory");
     assert!(rt; has(&v, &[1, 2, 3]) && v == w);
-    let refused = NonEmptyVec::try_from_array(rt.alloc(), [0u8; 0]);
-    assert!(rt; refused.err() == Some(Error::Empty));
+    assert!(rt;
+        NonEmptyVec::try_from_array(rt.alloc(), [0u8; 0]).err() == Some(Error::Empty)
+            && NonEmptyVec::try_from_array_ref(rt.alloc(), &[0u8; 0]).err() == Some(Error::Empty)
+    );
 }
 
 #[test]
@@ -149,7 +166,10 @@ fn test_try_from_iterator(rt: HostRuntime) {
     assert!(rt; has(&v, &[1, 2, 3]));
     let none = std::iter::empty::<u8>();
     let refused: Result<NonEmptyVec<u8, Global>, _> = TryCollect::try_collect(none, rt.alloc());
-    assert!(rt; refused.err() == Some(Error::Empty));
+    assert!(rt;
+        refused.err() == Some(Error::Empty)
+            && NonEmptyVec::try_from_iter(rt.alloc(), [0u8; 0]).err() == Some(Error::Empty)
+    );
 }
 
 #[test]
@@ -170,7 +190,13 @@ fn test_push(rt: HostRuntime) {
 #[test]
 fn test_insert(rt: HostRuntime) {
     let mut v = non_empty_vec!(rt.alloc() => 1, 3).expect(&rt, "memory");
-    assert!(rt; v.insert(1, 2).is_ok() && has(&v, &[1, 2, 3]));
+    for (place, item, items) in [
+        (1, 2, [1, 2, 3].as_slice()),
+        (3, 9, &[1, 2, 3, 9]),
+        (0, 8, &[8, 1, 2, 3, 9]),
+    ] {
+        assert!(rt; v.insert(place, item).is_ok() && has(&v, items));
+    }
 }
 
 #[test]
@@ -348,8 +374,17 @@ fn test_iterators(rt: HostRuntime) {
 
 #[test]
 fn test_codec_roundtrip(rt: HostRuntime) {
+    let alloc = rt.alloc();
     let cfg = (RangeCfg::from(NZUsize!(1)..=NZUsize!(10)), ());
-    assert!(rt; comes_back(rt.alloc(), &one_two_three(&rt, rt.alloc()), &cfg));
+    non_empty_fault_law::<u8, _>(alloc, cfg.0, &());
+    let list = one_two_three(&rt, alloc);
+    assert!(rt;
+        is_written_as(alloc, &list, b"\x03\x01\x02\x03")
+            && is_read_as(alloc, b"\x03\x01\x02\x03\xff", &cfg, &list, 4)
+            && list.is_writable()
+    );
+    let (again, left) = round_trip(alloc, &list, b"\xff\xff", &cfg).expect(&rt, "a value");
+    assert!(rt; again == list && left == 2);
 }
 
 #[test]
