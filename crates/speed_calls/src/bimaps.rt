@@ -43,13 +43,13 @@ fn time_keys<C: Clock, W: Write>(
         name: "bimap_get_key",
         ..work
     };
-    bench.line(work, 0, || Ok(sum_of_keys(bimap, values)))?;
+    bench.folded(work, 0, |sum| Ok(sum_of_keys(bimap, values, sum)))?;
     Ok(())
 }
 
-/// The sum of the keys of the values modulo 2^64, where one that has none counts 1.
-fn sum_of_keys(bimap: &BiMap<u32, u32, Global>, values: &[u32]) -> u64 {
-    let mut sum = 0u64;
+/// The sum with the keys of the values, modulo 2^64, where one that has none counts 1.
+fn sum_of_keys(bimap: &BiMap<u32, u32, Global>, values: &[u32], sum: u64) -> u64 {
+    let mut sum = sum;
     for value in values {
         let key = match bimap.get_key(value) {
             Some(key) => u64::from(*key),

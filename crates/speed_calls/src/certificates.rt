@@ -17,15 +17,17 @@ pub(crate) fn time_committees<C: Clock, W: Write>(
 ) -> Result<(), Failure> {
     let committee = set_of(bench.alloc(), numbers)?;
     let work = Work::new("committee_key", committee.len(), rounds);
-    bench.line(work, 0, || Ok(sum_of_members(&committee)))?;
+    bench.folded(work, 0, |sum| Ok(sum_of_members(&committee, sum)))?;
     let work = Work::new("committee_index", numbers.len(), rounds);
-    bench.line(work, 0, || Ok(sum_of_indices(&committee, numbers)))?;
+    bench.folded(work, 0, |sum| {
+        Ok(sum_of_indices(&committee, numbers, sum))
+    })?;
     time_conflicts(bench, &committee, rounds)
 }
 
-/// The sum of the members modulo 2^64, each looked up by its index.
-fn sum_of_members(committee: &Set<u32, Global>) -> u64 {
-    let mut sum = 0u64;
+/// The sum with the members, modulo 2^64, each looked up by its index.
+fn sum_of_members(committee: &Set<u32, Global>, sum: u64) -> u64 {
+    let mut sum = sum;
     for index in 0..size(committee) {
         let member = match committee.key(Participant::new(index)) {
             Some(member) => u64::from(*member),
@@ -41,12 +43,12 @@ fn size(committee: &Set<u32, Global>) -> u32 {
     committee.len().min(u32::MAX as usize) as u32
 }
 
-/// The sum of the indices of the numbers modulo 2^64, where one that has none counts 1.
+/// The sum with the indices of the numbers, modulo 2^64, where one that has none counts 1.
 ///
 /// It is a function of its own, so that it shares no registers with the lines around it.
 #[inline(never)]
-fn sum_of_indices(committee: &Set<u32, Global>, numbers: &[u32]) -> u64 {
-    let mut sum = 0u64;
+fn sum_of_indices(committee: &Set<u32, Global>, numbers: &[u32], sum: u64) -> u64 {
+    let mut sum = sum;
     if committee.len() > u32::MAX as usize {
         return sum;
     }

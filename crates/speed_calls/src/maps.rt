@@ -38,15 +38,15 @@ fn time_lookups<C: Clock, W: Write>(
     rounds: u64,
 ) -> Result<u64, Failure> {
     let work = Work::new("map_get_value", numbers.len(), rounds);
-    bench.line(work, sum, || Ok(sum_of_values(map, numbers)))
+    bench.folded(work, sum, |sum| Ok(sum_of_values(map, numbers, sum)))
 }
 
-/// The sum of the values of the numbers modulo 2^64, where one that has none counts 1.
+/// The sum with the values of the numbers, modulo 2^64, where one that has none counts 1.
 ///
 /// It is a function of its own, so that it shares no registers with the lines around it.
 #[inline(never)]
-fn sum_of_values(map: &Map<u32, u32, Global>, numbers: &[u32]) -> u64 {
-    let mut sum = 0u64;
+fn sum_of_values(map: &Map<u32, u32, Global>, numbers: &[u32], sum: u64) -> u64 {
+    let mut sum = sum;
     for number in numbers {
         let value = match map.get_value(number) {
             Some(value) => u64::from(*value),

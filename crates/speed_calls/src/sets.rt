@@ -111,16 +111,16 @@ fn time_lookups<C: Clock, W: Write>(
     rounds: u64,
 ) -> Result<(), Failure> {
     let work = Work::new("set_position", numbers.len(), rounds);
-    bench.line(work, 0, || Ok(sum_of_places(set, numbers)))?;
+    bench.folded(work, 0, |sum| Ok(sum_of_places(set, numbers, sum)))?;
     Ok(())
 }
 
-/// The sum of the places of the numbers modulo 2^64, where one that has none counts 1.
+/// The sum with the places of the numbers, modulo 2^64, where one that has none counts 1.
 ///
 /// It is a function of its own, so that it shares no registers with the lines around it.
 #[inline(never)]
-fn sum_of_places(set: &Set<u32, Global>, numbers: &[u32]) -> u64 {
-    let mut sum = 0u64;
+fn sum_of_places(set: &Set<u32, Global>, numbers: &[u32], sum: u64) -> u64 {
+    let mut sum = sum;
     for number in numbers {
         let place = match set.position(number) {
             Some(place) => place as u64,
@@ -166,7 +166,11 @@ fn time_clones<C: Clock, W: Write>(
     bench.line(work, 0, || Ok(set.clone()?.len() as u64))?;
     let other = set.clone()?;
     let work = Work::new("set_equal", entries, rounds);
-    bench.line(work, 0, || Ok(u64::from(*set == other)))?;
+    bench.folded(work, 0, |sum| {
+        // By turns with the clone and with itself.
+        let beside = if sum % 2 == 0 { &other } else { set };
+        Ok(sum.wrapping_add(u64::from(*set == *beside)))
+    })?;
     Ok(())
 }
 

@@ -27,7 +27,7 @@ pub(crate) fn time_wide<C: Clock, W: Write>(
         name: "wide_position",
         ..work
     };
-    bench.line(work, 0, || Ok(sum_of_places(&set, &items)))?;
+    bench.folded(work, 0, |sum| Ok(sum_of_places(&set, &items, sum)))?;
     Ok(())
 }
 
@@ -65,9 +65,9 @@ fn count_read(alloc: Global, bytes: &[u8]) -> Result<u64, Failure> {
     }
 }
 
-/// The sum of the places of the items modulo 2^64, where one that has none counts 1.
-fn sum_of_places(set: &Set<Member, Global>, items: &[Member]) -> u64 {
-    let mut sum = 0u64;
+/// The sum with the places of the items, modulo 2^64, where one that has none counts 1.
+fn sum_of_places(set: &Set<Member, Global>, items: &[Member], sum: u64) -> u64 {
+    let mut sum = sum;
     for item in items {
         let place = match set.position(item) {
             Some(place) => place as u64,

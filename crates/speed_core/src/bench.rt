@@ -81,6 +81,22 @@ impl<C: Clock, W: Write> Bench<C, W> {
         Ok(sum)
     }
 
+    /// The same of a call that changes nothing, and takes and answers the sum. Where each call
+    /// goes on from what the one before answered, a compiler can't let one stand for all.
+    pub fn folded<F: FnMut(u64) -> Result<u64, Failure>>(
+        &mut self,
+        work: Work<'_>,
+        sum: u64,
+        call: F,
+    ) -> Result<u64, Failure>
+        requires { F.IsAlwaysCallable call }
+    {
+        self.large = Vec::with_capacity(self.alloc, LARGE)?;
+        let (sum, elapsed) = timed_in_turn(&self.clock, work.rounds, sum, call)?;
+        self.write(work, sum, elapsed)?;
+        Ok(sum)
+    }
+
     /// Writes the line of a work.
     fn write(&mut self, work: Work<'_>, sum: u64, elapsed: Duration) -> Result<(), Failure> {
         let cost = hundredths(elapsed, (work.entries as u128 * work.rounds as u128).max(1));
@@ -105,6 +121,28 @@ fn timed<C: Clock, F: FnMut() -> Result<u64, Failure>>(
     };
     for _ in 0..rounds {
         sum = sum.wrapping_add(call()?);
+    }
+    match start.elapsed(clock) {
+        Ok(elapsed) => Ok((sum, elapsed)),
+        Err(_) => Err(Failure::Clock),
+    }
+}
+
+/// The check sum after calls that each go on from it, and how long they took.
+fn timed_in_turn<C: Clock, F: FnMut(u64) -> Result<u64, Failure>>(
+    clock: &C,
+    rounds: u64,
+    sum: u64,
+    mut call: F,
+) -> Result<(u64, Duration), Failure>
+    requires { F.IsAlwaysCallable call }
+{
+    let mut sum = sum;
+    let Ok(start) = Instant::now(clock) else {
+        return Err(Failure::Clock);
+    };
+    for _ in 0..rounds {
+        sum = call(sum)?;
     }
     match start.elapsed(clock) {
         Ok(elapsed) => Ok((sum, elapsed)),
