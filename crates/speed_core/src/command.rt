@@ -1,20 +1,28 @@
 //! What the words after the program's name ask for.
-ghost use Rattle.std.specs.Prelude.{IfNone, IfSome, map, string_bytes};
-ghost use Rattle.speed_core.specs.Command.{AskForNone, AsksFor, IsAskedFor};
+ghost use Rattle.std.specs.Prelude.{IfNone, IfSome, map, string_bytes, ℕ};
+ghost use Rattle.speed_core.specs.Command.{AskForNone, AsksFor, IsAskedFor, IsSize};
 
 use std::alloc::Allocator;
+
+/// The least size at which calls are timed.
+const LEAST_SIZE: u32 = 10;
 
 /// What the program is asked to do.
 #[derive(Clone, Copy)]
 pub enum Command {
+    /// Say what words it takes.
+    Help,
+    /// Say its version.
+    Version,
     /// Time the calls at sizes up to this one.
     Time(u32),
     /// Draw the times of standard input.
     Plot,
 }
 
-/// The command that the words ask for: `plot` alone is `Command::Plot`, and a decimal number alone
-/// is `Command::Time`. The answer is `None` exactly where the words ask for no command.
+/// The command that the words ask for: `--help`, `--version` or `plot` alone, or a number alone,
+/// which is `Command::Time`: decimal digits, from 10 to 4294967295. The answer is `None` exactly
+/// where the words ask for no command.
 pub(crate) fn parse_args<A: Allocator>(words: &[String<A>]) -> Option<Command>
     ensures asked { IfSome result (IsAskedFor (map string_bytes words.now)) }
     ensures other { IfNone result (AskForNone (map string_bytes words.now)) }
@@ -30,11 +38,31 @@ fn parse_word(word: &str) -> Option<Command>
     ensures asked { IfSome result (AsksFor word.now) }
     ensures other { IfNone result ((command : Command) → ¬ AsksFor word.now command) }
 {
+    if word == "--help" {
+        return Some(Command::Help);
+    }
+    if word == "--version" {
+        return Some(Command::Version);
+    }
     if word == "plot" {
         return Some(Command::Plot);
     }
+    match parse_size(word) {
+        Some(greatest) => Some(Command::Time(greatest)),
+        None => None,
+    }
+}
+
+/// The size that the word writes.
+fn parse_size(word: &str) -> Option<u32>
+    ensures size { IfSome result (IsSize word.now) }
+    ensures other { IfNone result ((n : ℕ) → ¬ IsSize word.now n) }
+{
+    if word.starts_with('+') {
+        return None;
+    }
     match word.parse() {
-        Ok(greatest) => Some(Command::Time(greatest)),
-        Err(_) => None,
+        Ok(size) if size >= LEAST_SIZE => Some(size),
+        _ => None,
     }
 }

@@ -1,5 +1,5 @@
 //! The program from its arguments to its exit status.
-ghost use Rattle.std.specs.Prelude.{◌≡◌, ◌≢◌, ◌≤◌, ◌↔◌, map, string_bytes};
+ghost use Rattle.std.specs.Prelude.{◌≡◌, ◌≢◌, ◌≤◌, ◌↔◌, IfErr, map, string_bytes};
 ghost use Rattle.std.specs.IoError.{error_kind};
 ghost use Rattle.std.specs.declared.io.ErrorKind.TheVariants.{OutOfMemory};
 ghost use Rattle.speed_core.specs.Command.{AskForNone};
@@ -16,11 +16,28 @@ use std::process::ExitCode;
 use std::time::Clock;
 use std::{env, io};
 
+/// The line on the words that the program takes.
+const USAGE: &str = "usage: speed <greatest n>, or speed plot";
+
+/// What `--help` says.
+const HELP: &str = "\
+usage: speed <greatest n>, or speed plot
+
+speed <greatest n>  times the calls at sizes from 10 up to n, a line a call
+speed plot          draws such lines, which it reads on standard input, as SVG
+speed --help        says this
+speed --version     says the version
+";
+
+/// What `--version` says.
+const VERSION: &str = "speed 0.1.0\n";
+
 /// Does what the words after the program's name ask for, and answers the exit status.
 ///
-/// It is 0 where all lines or the drawing were written, 1 where a line can't be read, 2 where the
-/// words ask for nothing, and 3 where memory, the clock, the reader or the writer failed. Unless
-/// it is 0, a line on `errors` says why; where `errors` fails, the status is the same.
+/// It is 0 where all that was asked for was written, 1 where a line that was to be drawn can't be
+/// read, 2 where the words ask for nothing, and 3 where memory, the clock, the reader or the writer
+/// failed. Unless it is 0, a line on `errors` says why; where `errors` fails, the status is the
+/// same.
 pub fn session<T: Timer, C: Clock + Drop, R: Read + Drop, W: Write + Drop, E: Write>(
     alloc: Global,
     words: &[String],
@@ -33,7 +50,7 @@ pub fn session<T: Timer, C: Clock + Drop, R: Read + Drop, W: Write + Drop, E: Wr
     ensures statuses { result ≤ 3 }
 {
     let Some(command) = parse_args(words) else {
-        say(errors, &"usage: speed <greatest n>, or speed plot");
+        say(errors, &USAGE);
         return 2;
     };
     match run::<T, _, _, _>(alloc, command, clock, input, output) {
@@ -54,6 +71,8 @@ fn run<T: Timer, C: Clock + Drop, R: Read + Drop, W: Write + Drop>(
     output: W,
 ) -> Result<(), Failure> {
     match command {
+        Command::Help => write(output, HELP),
+        Command::Version => write(output, VERSION),
         Command::Time(greatest) => T::time_sizes(&mut Bench::new(alloc, clock, output), greatest),
         Command::Plot => plot(alloc, input, output),
     }
@@ -66,7 +85,14 @@ fn plot<R: Read + Drop, W: Write + Drop>(
     output: W,
 ) -> Result<(), Failure> {
     let drawing = drawing_of(alloc, input)?;
-    Ok(write_whole(&mut Watched::new(output), drawing.as_bytes())?)
+    write(output, drawing.as_str())
+}
+
+/// Writes the text, and flushes.
+fn write<W: Write + Drop>(output: W, text: &str) -> Result<(), Failure>
+    ensures { IfErr result (λ failure. failure ≡ Failure.Write) }
+{
+    Ok(write_whole(&mut Watched::new(output), text.as_bytes())?)
 }
 
 /// The drawing of the lines of the input.

@@ -110,7 +110,6 @@ fn adds_keys(map: &mut Map<u8, u8, Global>) -> bool {
     pairs.len() == 3
         && add_key(pairs.next()) == Some((1, 10))
         && pairs.len() == 2
-        && pairs.size_hint() == (2, Some(2))
         && add_key(pairs.next_back()) == Some((3, 30))
         && pairs.len() == 1
         && add_key(pairs.next_back()) == Some((2, 20))
@@ -137,6 +136,14 @@ fn test_pair_iterators(rt: HostRuntime) {
             && adds_keys(&mut map)
             && map.values() == [11, 22, 33].as_slice()
     );
+}
+
+#[test]
+fn the_number_left_is_told(rt: HostRuntime) {
+    let mut map = tens(&rt, rt.alloc());
+    let mut lent = map.iter_pairs_mut();
+    let _ = lent.next();
+    assert!(rt; lent.len() == 2 && lent.size_hint() == (2, Some(2)));
 }
 
 /// Adds each key to its value, in a loop.
