@@ -25,7 +25,8 @@ pub trait Resilience: Faults {
     ghost factor: { ℕ };
 
     /// It is at least 2, and the faults of n are (n - 1) / k.
-    ghost divides: { (2 ≤ factor) × ((n : ℕ) → 1 ≤ n → n < 2 ^ 32 → Self.faults n ≡ (n - 1) / factor) };
+    ghost divides: { (2 ≤ factor)
+        × ((n : ℕ) → 1 ≤ n → n < 2 ^ 32 → Self.faults n ≡ (n - 1) / factor) };
 }
 
 impl Resilience for N3f1 {
