@@ -12,8 +12,8 @@ use commonware_utils::ordered::Set;
 use std::alloc::Global;
 
 /// The members that signed both of two certificates for different values, under any fault model of
-/// a resilience `n >= kf + 1`: more than k - 2 times its faults. From a k of 3 on, one of them
-/// isn't faulty.
+/// a resilience `n >= kf + 1`: more than k - 2 times its faults. From a k of 3 on, one of them is
+/// not faulty.
 pub fn conflict_under<M: Resilience>(
     alloc: Global,
     members: &Set<u32, Global>,
