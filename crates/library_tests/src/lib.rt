@@ -14,6 +14,8 @@ mod conflicts;
 #[cfg(test)]
 mod drawn;
 #[cfg(test)]
+mod many_at_once;
+#[cfg(test)]
 mod memory_free_texts;
 #[cfg(test)]
 mod readings;
