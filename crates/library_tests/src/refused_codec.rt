@@ -16,7 +16,7 @@ use test_equipment::walk::{Heap, Outcome, Refusable, asks_for, full, refused, re
 
 /// What is done with a value.
 #[derive(Clone, Copy)]
-enum Act {
+pub(super) enum Act {
     Write,
     Read,
     Clone,
@@ -67,7 +67,7 @@ const FORMS: [(Form, [u64; 4]); 13] = [
     (Form::Certificate, [1, 2, 2, 3]),
 ];
 
-const ACTS: [Act; 4] = [Act::Write, Act::Read, Act::Clone, Act::RoundTrip];
+pub(super) const ACTS: [Act; 4] = [Act::Write, Act::Read, Act::Clone, Act::RoundTrip];
 
 /// The bytes of {{}, {1, 2}, {7}}.
 const SETS: &[u8; 7] = b"\x03\x00\x02\x01\x02\x01\x07";
@@ -86,11 +86,7 @@ impl Refusable for Call {
     fn outcome(&self, heap: Heap<'_>, granted: u64) -> Outcome {
         let any = RangeCfg::from(..);
         let some: RangeCfg<NonZeroUsize> = RangeCfg::from(..);
-        let trial = Trial {
-            act: self.act,
-            heap,
-            granted,
-        };
+        let trial = Trial::new(self.act, heap, granted);
         match self.form {
             Form::Byte => trial.on::<u8>(b"\x07", &()),
             Form::Word => trial.on::<u32>(b"\x00\x00\x01\x2c", &()),
@@ -122,7 +118,7 @@ impl Refusable for Call {
 
 /// An act, and the request to refuse.
 #[derive(Drop)]
-struct Trial<'a> {
+pub(super) struct Trial<'a> {
     act: Act,
     heap: Heap<'a>,
     granted: u64,
@@ -137,8 +133,13 @@ fn read<T: Read<A>, A: Allocator>(alloc: A, bytes: &[u8], cfg: &T::Cfg) -> Resul
 }
 
 impl<'a> Trial<'a> {
+    /// The act, with the request after so many granted ones refused.
+    pub(super) fn new(act: Act, heap: Heap<'a>, granted: u64) -> Self {
+        Trial { act, heap, granted }
+    }
+
     /// What the act on the value comes to that the bytes stand for. The value has to stay as it is.
-    fn on<T: Read<Heap<'a>> + Write<Heap<'a>> + Canonical + Clone + Drop>(
+    pub(super) fn on<T: Read<Heap<'a>> + Write<Heap<'a>> + Canonical + Clone + Drop>(
         &self,
         bytes: &[u8],
         cfg: &T::Cfg,

@@ -149,7 +149,7 @@ fn programs() -> [Asked; 9] {
             beginning(TWO, 64),
             refused(Error::EndOfBuffer),
             "refused: end of input\n",
-            1,
+            0,
         ),
         Asked::refusal(
             TWO_EQUAL,

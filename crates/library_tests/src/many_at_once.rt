@@ -1,0 +1,309 @@
+//! Bytes, words of four bytes and members of a committee, of which many are written and read at
+//! once: more of them than any list has room for at first, with each request for memory refused in
+//! turn, and texts that end before the last of them.
+use crate::readings::outcome;
+use crate::refused_codec::{ACTS, Act, Trial};
+use committee_core::Member;
+use commonware_utils::codec::{EncodeSize, Error, RangeCfg, Read, Source, Write};
+use commonware_utils::ordered::Set;
+use std::alloc::{AllocError, Global};
+use test_equipment::Refusing;
+use test_equipment::walk::{Heap, Outcome, Refusable, asks_for, full, refused, requests};
+
+/// How many items there are.
+const MANY: u32 = 5000;
+
+/// The bytes of a list of so many: 5,000 is 39 · 128 + 8.
+const LENGTH: [u8; 2] = [0x88, 0x27];
+
+/// Items, the bytes of all of them, and the bytes of the list of them.
+#[derive(Drop)]
+struct Row<T> {
+    items: Vec<T>,
+    bytes: Vec<u8>,
+    list: Vec<u8>,
+}
+
+impl<T: Drop> Row<T> {
+    /// No items, with the length of many.
+    fn new(alloc: Global) -> Result<Self, AllocError> {
+        Ok(Row {
+            items: Vec::new(alloc),
+            bytes: Vec::new(alloc),
+            list: LENGTH.to_vec(alloc)?,
+        })
+    }
+
+    /// Puts an item last, which has these bytes.
+    fn push(&mut self, item: T, bytes: &[u8]) -> Result<(), AllocError> {
+        self.items.push(item)?;
+        self.bytes.extend_from_slice(bytes)?;
+        self.list.extend_from_slice(bytes)
+    }
+}
+
+/// The two lowest bytes of a number, the higher one first.
+fn lowest(number: u32) -> [u8; 2] {
+    [(number / 256 % 256) as u8, (number % 256) as u8]
+}
+
+/// Many bytes.
+fn bytes(alloc: Global) -> Result<Row<u8>, AllocError> {
+    let mut row = Row::new(alloc)?;
+    for number in 0..MANY {
+        let [_, byte] = lowest(number);
+        row.push(byte, &[byte])?;
+    }
+    Ok(row)
+}
+
+/// Many words, each greater than the one before.
+fn words(alloc: Global) -> Result<Row<u32>, AllocError> {
+    let mut row = Row::new(alloc)?;
+    for number in 0..MANY {
+        let [higher, lower] = lowest(number);
+        row.push(0x0506_0000 + number, &[5, 6, higher, lower])?;
+    }
+    Ok(row)
+}
+
+/// Many members, each greater than the one before by its last two bytes.
+fn members(alloc: Global) -> Result<Row<Member>, AllocError> {
+    let mut row = Row::new(alloc)?;
+    for number in 0..MANY {
+        let mut bytes = [0x11u8; 32];
+        let [higher, lower] = lowest(number);
+        bytes[30] = higher;
+        bytes[31] = lower;
+        row.push(Member::new(bytes), &bytes)?;
+    }
+    Ok(row)
+}
+
+/// Many items of each type.
+#[derive(Drop)]
+struct Rows {
+    bytes: Row<u8>,
+    words: Row<u32>,
+    members: Row<Member>,
+}
+
+/// Many items of each type.
+fn many_of_each(alloc: Global) -> Result<Rows, AllocError> {
+    Ok(Rows {
+        bytes: bytes(alloc)?,
+        words: words(alloc)?,
+        members: members(alloc)?,
+    })
+}
+
+/// A type of items.
+#[derive(Clone, Copy)]
+enum Kind {
+    Byte,
+    Word,
+    Member,
+}
+
+const KINDS: [Kind; 3] = [Kind::Byte, Kind::Word, Kind::Member];
+
+/// The items of a type written at once, or read.
+#[derive(Drop)]
+struct AtOnce<'a> {
+    rows: &'a Rows,
+    kind: Kind,
+    is_write: bool,
+}
+
+impl<'r> Refusable for AtOnce<'r> {
+    fn outcome(&self, heap: Heap<'_>, granted: u64) -> Outcome {
+        let rows = self.rows;
+        match (self.kind, self.is_write) {
+            (Kind::Byte, true) => written(heap, granted, &rows.bytes),
+            (Kind::Word, true) => written(heap, granted, &rows.words),
+            (Kind::Member, true) => written(heap, granted, &rows.members),
+            (Kind::Byte, false) => read(heap, granted, &rows.bytes, &()),
+            (Kind::Word, false) => read(heap, granted, &rows.words, &()),
+            (Kind::Member, false) => read(heap, granted, &rows.members, &()),
+        }
+    }
+}
+
+/// The items written at once after three bytes, which a refusal leaves as they were.
+fn written<'a, T: Write<Heap<'a>>>(heap: Heap<'a>, granted: u64, row: &Row<T>) -> Outcome {
+    match vec![in heap; 0xaau8, 0xbb, 0xcc] {
+        Ok(mut sink) => written_after(heap, granted, row, &mut sink),
+        Err(_) => Outcome::Wrong,
+    }
+}
+
+/// The items written at once into this sink, of three bytes.
+fn written_after<'a, T: Write<Heap<'a>>>(
+    heap: Heap<'a>,
+    granted: u64,
+    row: &Row<T>,
+    sink: &mut Vec<u8, Heap<'a>>,
+) -> Outcome {
+    if !row.items.is_writable() {
+        return Outcome::Wrong;
+    }
+    heap.restart(granted);
+    match T::write_at_once(row.items.as_slice(), sink) {
+        Some(Ok(())) => full(sink.strip_prefix(b"\xaa\xbb\xcc") == Some(row.bytes.as_slice())),
+        Some(Err(_)) => refused(sink.as_slice() == b"\xaa\xbb\xcc".as_slice()),
+        None => Outcome::Wrong,
+    }
+}
+
+/// The items read at once from a source, which a refusal leaves as it was.
+fn read<'a, T: Read<Heap<'a>> + Eq + Drop>(
+    heap: Heap<'a>,
+    granted: u64,
+    row: &Row<T>,
+    cfg: &T::Cfg,
+) -> Outcome {
+    let mut src = Source::new(&row.bytes);
+    heap.restart(granted);
+    match T::read_at_once(heap, &mut src, row.items.len(), cfg) {
+        Some(Ok(items)) => {
+            full(items.as_slice() == row.items.as_slice() && src.remaining() == 0)
+        }
+        Some(Err(error)) => refused(error == Error::Memory && src.position() == 0),
+        None => Outcome::Wrong,
+    }
+}
+
+/// Many items are written, and read, with one request.
+#[test]
+fn many_take_one_request(rt: HostRuntime) {
+    let rows = many_of_each(rt.alloc()).expect(&rt, "memory");
+    for kind in KINDS {
+        for is_write in [true, false] {
+            let call = AtOnce {
+                rows: &rows,
+                kind,
+                is_write,
+            };
+            assert!(rt; requests(rt.alloc(), &call) == Some(1));
+        }
+    }
+}
+
+/// What holds the items.
+#[derive(Clone, Copy)]
+enum Form {
+    Bytes,
+    Words,
+    Members,
+    WordSet,
+    MemberSet,
+}
+
+const FORMS: [Form; 5] = [
+    Form::Bytes,
+    Form::Words,
+    Form::Members,
+    Form::WordSet,
+    Form::MemberSet,
+];
+
+/// An act on a list or a set of many.
+#[derive(Drop)]
+struct Listed<'a> {
+    rows: &'a Rows,
+    form: Form,
+    act: Act,
+}
+
+impl<'r> Refusable for Listed<'r> {
+    fn outcome(&self, heap: Heap<'_>, granted: u64) -> Outcome {
+        let limits = (RangeCfg::from(..), ());
+        let rows = self.rows;
+        let trial = Trial::new(self.act, heap, granted);
+        match self.form {
+            Form::Bytes => trial.on::<Vec<u8, _>>(&rows.bytes.list, &limits),
+            Form::Words => trial.on::<Vec<u32, _>>(&rows.words.list, &limits),
+            Form::Members => trial.on::<Vec<Member, _>>(&rows.members.list, &limits),
+            Form::WordSet => trial.on::<Set<u32, _>>(&rows.words.list, &limits),
+            Form::MemberSet => trial.on::<Set<Member, _>>(&rows.members.list, &limits),
+        }
+    }
+}
+
+/// Lists and sets of many are written, read and cloned with each request refused in turn.
+#[test]
+fn lists_of_many_ask_for_little(rt: HostRuntime) {
+    let rows = many_of_each(rt.alloc()).expect(&rt, "memory");
+    for form in FORMS {
+        for act in ACTS {
+            let call = Listed {
+                rows: &rows,
+                form,
+                act,
+            };
+            assert!(rt; asks_for(rt.alloc(), &call, 1));
+        }
+    }
+}
+
+impl Form {
+    /// The bytes of the list of many that the form is read from.
+    fn list<'a>(self, rows: &'a Rows) -> &'a [u8] {
+        match self {
+            Form::Bytes => &rows.bytes.list,
+            Form::Words | Form::WordSet => &rows.words.list,
+            Form::Members | Form::MemberSet => &rows.members.list,
+        }
+    }
+
+    /// What reading the form from the bytes comes to.
+    fn read(self, heap: Heap<'_>, bytes: &[u8]) -> (Option<Error>, usize) {
+        let limits = (RangeCfg::from(..), ());
+        match self {
+            Form::Bytes => outcome::<Vec<u8, _>, _>(heap, bytes, &limits),
+            Form::Words => outcome::<Vec<u32, _>, _>(heap, bytes, &limits),
+            Form::Members => outcome::<Vec<Member, _>, _>(heap, bytes, &limits),
+            Form::WordSet => outcome::<Set<u32, _>, _>(heap, bytes, &limits),
+            Form::MemberSet => outcome::<Set<Member, _>, _>(heap, bytes, &limits),
+        }
+    }
+}
+
+/// Whether each beginning of the text but the whole ends too soon, and asks for no memory.
+fn is_cut_everywhere(alloc: Global, form: Form, list: &[u8]) -> bool {
+    let heap = Refusing::all_after(alloc, 0);
+    for length in 0..list.len() {
+        if form.read(&heap, &list[..length]) != (Some(Error::EndOfBuffer), 0) {
+            return false;
+        }
+    }
+    !heap.has_refused()
+}
+
+/// A text that ends too soon is refused without memory, wherever it ends.
+#[test]
+fn a_cut_text_asks_for_no_memory(rt: HostRuntime) {
+    let rows = many_of_each(rt.alloc()).expect(&rt, "memory");
+    for form in FORMS {
+        assert!(rt; is_cut_everywhere(rt.alloc(), form, form.list(&rows)));
+    }
+}
+
+/// Whether nothing is done at once with items of a type that has no bodies of its own for it.
+fn is_left<'a>(heap: Heap<'a>, items: &Vec<usize>) -> bool {
+    let mut sink: Vec<u8, Heap<'a>> = Vec::new(heap);
+    let mut src = Source::new(b"\x01\x02");
+    if !items.is_writable() {
+        return false;
+    }
+    let written = <usize as Write<Heap<'a>>>::write_at_once(items.as_slice(), &mut sink);
+    let read = <usize as Read<Heap<'a>>>::read_at_once(heap, &mut src, 2, &RangeCfg::from(..));
+    written.is_none() && read.is_none() && sink.is_empty() && src.position() == 0
+}
+
+#[test]
+fn numbers_are_written_and_read_one_by_one(rt: HostRuntime) {
+    let heap = Refusing::all_after(rt.alloc(), 0);
+    let items = vec![in rt.alloc(); 1usize, 2].expect(&rt, "memory");
+    assert!(rt; is_left(&heap, &items) && !heap.has_refused());
+}
