@@ -19,6 +19,7 @@ mod held_heaps;
 mod large_inputs;
 #[cfg(test)]
 mod long_texts;
+#[cfg(test)]
 mod many_at_once;
 #[cfg(test)]
 mod memory_free_texts;
