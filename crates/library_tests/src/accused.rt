@@ -74,8 +74,13 @@ fn are_named(
     if first.value == second.value || count == 0 || count > 4294967295 {
         return None;
     }
-    let named = answers(conflict_under::<N3f1>(alloc, members, first, second), row.thirds)
-        && answers(conflict_under::<N5f1>(alloc, members, first, second), row.fifths);
+    let named = answers(
+        conflict_under::<N3f1>(alloc, members, first, second),
+        row.thirds,
+    ) && answers(
+        conflict_under::<N5f1>(alloc, members, first, second),
+        row.fifths,
+    );
     let counted = counts(accused(alloc, members, first, second), row.thirds)
         && accused(alloc, members, first, first) == Ok(0);
     Some(named && counted)
