@@ -61,6 +61,7 @@ struct Outcome {
 /// Holds a session.
 fn held(alloc: Global, wanted: &Session<'_>) -> Result<Outcome, AllocError> {
     let heap = Refusing::after(alloc, u64::MAX);
+    let words = Vec::new(&heap);
     let mut reader = ScriptedReader::new(wanted.text, wanted.step);
     if let Some((at, way)) = wanted.read_fault {
         reader = reader.with_fault(at, way);
@@ -76,7 +77,7 @@ fn held(alloc: Global, wanted: &Session<'_>) -> Result<Outcome, AllocError> {
     let mut output = Watched::new(writer);
     let mut errors = ScriptedWriter::new(alloc, WHOLE);
     heap.restart(wanted.granted);
-    let status = session(&heap, &[], &mut input, &mut output, &mut errors);
+    let status = session(&heap, &words, &mut input, &mut output, &mut errors);
     let refused = heap.has_refused();
     heap.relent();
     Ok(Outcome {
