@@ -1,4 +1,4 @@
--- Signers as sub-sets of positions: what two of them share, and what is outside.
+-- Signers as subsets of positions: what two of them share, and what is outside.
 use Rattle.std.proofs.Common.{◌≡◌, ℕ, ◌+◌, ◌-◌, ◌*◌, ◌<◌, ◌≤◌, Bool, true, false, ◌&&◌, List, length, get_or, Some}
 use Rattle.std.proofs.Common.{slice_get, ◌⊎◌, Decides, refl, ap, sym, ◌∙◌, arith, inl, inr}
 use Rattle.std.specs.Cmp.{nat_eq_equiv}
@@ -28,7 +28,7 @@ tells_both true true P Q h k = (λ e. (h.0 refl, k.0 refl), λ w. refl)
 tells_both true false P Q h k = (λ e. absurd (cc), λ w. k.1 w.1)
 tells_both false b P Q h k = (λ e. absurd (cc), λ w. h.1 w.0)
 
--- what a sub-set of positions says of one
+-- what a subset of positions says of one
 slice_get-passing : (test : ℕ → Bool) (n p : ℕ) → p < n → slice_get (passing test n) p ≡ Some (test p)
 slice_get-passing test n p h =
     let inside : p < length (passing test n) = omega (arith, length-passing test n) in
@@ -88,11 +88,7 @@ module _ {n f : ℕ} {xs ys zs : List ℕ} (c : AreQuorumsAndBoth n f xs ys zs) 
       (omega (arith, size_xs, c.first_enough)) (omega (arith, size_ys, c.second_enough)) in
       omega (arith, shared-truths n xs ys zs c.both, size_zs, share)
 
-  -- as many as any two subsets of n - f share
-  pub both-overlap : (k : ℕ) → Overlap n (n - f) (n - f) k → k ≤ length zs
-  both-overlap k h = omega (arith, both-many, Overlap-at_ends n (n - f) (n - f) k (omega arith) (omega arith) h)
-
-  -- more members than a sub-set has include one outside it
+  -- more members than a subset has include one outside it
   outside : (faulty : List Bool) → length faulty ≡ n → size faulty < length zs
       → (p : ℕ) × Contains zs p × IsOutside faulty p
   outside faulty l h =
@@ -114,7 +110,11 @@ module _ {n f : ℕ} {xs ys zs : List ℕ} (c : AreQuorumsAndBoth n f xs ys zs) 
   pub both-leave : 3 * f + 1 ≤ n → LeavesOneOutside n f zs
   both-leave h = leaves_one (omega (arith, both-many))
 
-  -- so it is where f is the greatest at three or at five
-  pub both-outlast : Greatest3 n f ⊎ Greatest5 n f → LeavesOneOutside n f zs
-  both-outlast (inl h) = both-leave (Greatest-fit 3 n f (omega arith) (Greatest-three n f h)).fits
-  both-outlast (inr h) = both-leave (omega (arith, (Greatest-fit 5 n f (omega arith) h).fits))
+-- as many as any two subsets of n - f share
+pub overlap-many : (n f k many : ℕ) → n ≤ 2 * f + many → Overlap n (n - f) (n - f) k → k ≤ many
+overlap-many n f k many h o = omega (arith, h, Overlap-at_ends n (n - f) (n - f) k (omega arith) (omega arith) o)
+
+-- where f is the greatest at three or at five, 3f + 1 is up to n
+pub thirds-fit : (n f : ℕ) → Greatest3 n f ⊎ Greatest5 n f → 3 * f + 1 ≤ n
+thirds-fit n f (inl h) = (Greatest-fit 3 n f (omega arith) (Greatest-three n f h)).fits
+thirds-fit n f (inr h) = omega (arith, (Greatest-fit 5 n f (omega arith) h).fits)

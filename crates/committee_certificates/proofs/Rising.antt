@@ -20,7 +20,7 @@ use Rattle.committee_certificates.specs.Signers.{AreMembers}
 abbrev pub has : List ℕ → ℕ → Bool
 has signers p = list_any (λ x. nat_eq p x) signers
 
--- the sub-set of the n positions that are the signers'
+-- the subset of the n positions that are the signers'
 abbrev pub truths : ℕ → List ℕ → List Bool
 truths n signers = passing (has signers) n
 
@@ -79,7 +79,7 @@ has_after x xs p h = grind (arith, nat_tests)
 pub has_first : (x : ℕ) (xs : List ℕ) → has (x ∷ xs) x ≡ true
 has_first x xs = grind (arith, nat_tests)
 
--- tests that agree from low on give sub-sets of one size
+-- tests that agree from low on give subsets of one size
 size_agree_from : (p q : ℕ → Bool) (low n : ℕ) → ((k : ℕ) → low ≤ k → p k ≡ q k)
     → size (map p (range_with_len low n)) ≡ size (map q (range_with_len low n))
 size_agree_from p q low zero same = refl
@@ -129,7 +129,7 @@ size_listed (x ∷ xs) low (suc n) r b =
           (below_more (low + suc n) (low + 1 + n) (x ∷ xs) (omega arith) b))
     ]
 
--- a sub-set has as many members as are listed
+-- a subset has as many members as are listed
 pub size-truths : (n : ℕ) (xs : List ℕ) → IsStrict nat_cmp xs → AreMembers n xs → size (truths n xs) ≡ length xs
 size-truths n xs strict members =
     let below = below_more n (0 + n) xs (omega arith) (below_from_members n xs members) in

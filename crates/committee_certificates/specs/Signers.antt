@@ -30,7 +30,7 @@ pub record AreInBoth (first second both : List ℕ) : Type 0 where
   pub strict : IsStrict nat_cmp both
   pub exactly : (index : ℕ) → Contains both index ↔ (Contains first index × Contains second index)
 
--- Every sub-set of the n members with at most f of them leaves some of these signers outside: a sub-set of positions,
+-- Every subset of the n members with at most f of them leaves some of these signers outside: a subset of positions,
 -- and as well a set of participants that are members.
 pub record LeavesOneOutside (n f : ℕ) (signers : List ℕ) : Type 0 where
   pub of_positions : (faulty : List Bool) → length faulty ≡ n → size faulty ≤ f

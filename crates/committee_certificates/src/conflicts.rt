@@ -76,10 +76,41 @@ pub fn conflict<M: Faults, T: Ord, A: Allocator>(
         → IfOk result
         (LeavesOneOutside (length committee.now) (M.faults (length committee.now))) }
 {
+    let members = committee.len();
+    conflict_among(alloc, members, M::max_faults(members), first, second)
+}
+
+/// The members that signed both of two certificates for different values, where the number of
+/// members and that of the faults they tolerate are all that is known of the committee and of its
+/// fault model. `faults` is at most `members`.
+///
+/// It answers as `conflict` does for a committee of so many members and a model of so many faults.
+pub fn conflict_among<A: Allocator>(
+    alloc: A,
+    members: usize,
+    faults: u32,
+    first: &Certificate<A>,
+    second: &Certificate<A>,
+) -> Result<Set<Participant, A>, ConflictError>
+    requires differ { first.now.value.items ≢ second.now.value.items }
+    requires at_most { faults ≤ members }
+    ensures outside { IsErrOf result Outside
+        ↔ (HasOutsider members first.now.signers ⊎ HasOutsider members second.now.signers) }
+    ensures too_few { IsErrOf result TooFew
+        ↔ (AreMembers members first.now.signers × AreMembers members second.now.signers
+        × (AreTooFew (λ _. faults) members first.now.signers
+        ⊎ AreTooFew (λ _. faults) members second.now.signers)) }
+    ensures quorums { OnOk result
+        (AreQuorum (λ _. faults) members first.now.signers
+        × AreQuorum (λ _. faults) members second.now.signers) }
+    ensures both { IfOk result (AreInBoth first.now.signers second.now.signers) }
+    ensures shared { IfOk result (λ both. members ≤ 2 * faults + length both) }
+    ensures leaves { 3 * faults + 1 ≤ members
+        → IfOk result (LeavesOneOutside members faults) }
+{
     let first_signers = first.signers.as_slice();
     let second_signers = second.signers.as_slice();
-    let members = committee.len();
-    let quorum = committee.quorum::<M>() as usize;
+    let quorum = members - faults as usize;
     check_signers(members, quorum, first_signers, second_signers)?;
     match in_both(alloc, first_signers, second_signers) {
         Ok(both) => Ok(Set::from_strict(both)),

@@ -6,4 +6,4 @@ mod certificate;
 mod conflicts;
 
 pub use certificate::{Certificate, certificate_fault_law};
-pub use conflicts::{ConflictError, conflict};
+pub use conflicts::{ConflictError, conflict, conflict_among};

@@ -1,4 +1,4 @@
--- Sub-sets at the two ends of the positions.
+-- Subsets at the two ends of the positions.
 use Rattle.std.proofs.Common.{◌≡◌, ℕ, ◌-◌, ap, ◌∙◌}
 use Rattle.std.proofs.Math.Path.{ap₂}
 use Rattle.commonware_faults.specs.Subsets.{shared}

@@ -10,7 +10,7 @@ use Rattle.committee_core.specs.declared.ranges.Refutation.{Refutation}
 unfoldable pub n_line : ℕ → List ℕ
 n_line n = codes "n " ++ (decimal n ++ line_end)
 
--- the line of a number that is refuted: the two sub-sets, how many places they share, and how many are needed
+-- the line of a number that is refuted: the two subsets, how many places they share, and how many are needed
 unfoldable pub refuted_line : List ℕ → ℕ → Refutation → ℕ → List ℕ
 refuted_line label number r needed =
     label ++ (codes " "

@@ -1,10 +1,10 @@
--- Sub-sets at the two ends of the positions.
+-- Subsets at the two ends of the positions.
 use Rattle.std.specs.Prelude.{ℕ, ◌-◌, Bool, List}
 use Rattle.std.specs.declared.ops.Range.{Range}
 use Rattle.commonware_faults.specs.Subsets.{places, shared}
 use Rattle.committee_core.specs.declared.ranges.Refutation.{Refutation}
 
--- the sub-set of n positions that a range of them is
+-- the subset of n positions that a range of them is
 abbrev pub subset_of : ℕ → Range ℕ → List Bool
 subset_of n range = places n range.start range.end
 

@@ -2,7 +2,7 @@
 
 use std::ops::Range;
 
-/// Two sub-sets of the positions of some members, and how many positions stand in both. Where
+/// Two subsets of the positions of some members, and how many positions stand in both. Where
 /// that is too few, they refute a number of a fault model.
 #[derive(Clone, Debug, Drop, PartialEq, Eq)]
 pub struct Refutation {

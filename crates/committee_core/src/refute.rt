@@ -1,4 +1,4 @@
-//! Why no better numbers of the fault models hold: two sub-sets of the positions that share too
+//! Why no better numbers of the fault models hold: two subsets of the positions that share too
 //! few.
 ghost use Rattle.std.specs.Prelude.{◌≡◌, ◌+◌, ◌-◌, ◌*◌, ◌/◌, ℕ, ◌<◌, ◌≤◌};
 ghost use Rattle.commonware_faults.specs.Subsets.{shared, size};

@@ -1,11 +1,11 @@
--- Which numbers of faults the sizes of sub-sets allow.
+-- Which numbers of faults the sizes of subsets allow.
 use Rattle.std.proofs.Common.{◌≡◌, ℕ, zero, suc, ◌+◌, ◌-◌, ◌*◌, ◌<◌, ◌≤◌, Bool, true, false, ◌&&◌, List}
 use Rattle.std.proofs.Common.{[], ◌∷◌, length, refl, ap, sym, ◌∙◌, arith}
 use Rattle.commonware_faults.specs.Subsets.{size, shared, places, Overlap, OverlapAtLeast}
 use Rattle.commonware_faults.specs.Subsets.{LeastM, IsIn, IsOutside, MeetsOutside}
 use Rattle.commonware_faults.specs.SubsetSizeLaws.{size-le-shared, size-places, shared-places, length-passing}
 
--- sub-sets of sizes a and b share at least a + b - n
+-- subsets of sizes a and b share at least a + b - n
 pub Overlap-by_size : (n a b k : ℕ) → k + n ≤ a + b → Overlap n a b k
 Overlap-by_size n a b k h = record {
   shares = λ xs ys l m s t. omega (arith, size-le-shared xs ys (l ∙ sym m));
@@ -38,11 +38,11 @@ LeastM-by_double n f low = record {
   least = λ k below h. omega (arith, Overlap-at_ends n (n - f) k (f + 1) (omega arith) (omega arith) h);
 }
 
--- with the least m, and f up to n, sub-sets of at least n - f and at least m share f + 1
+-- with the least m, and f up to n, subsets of at least n - f and at least m share f + 1
 pub LeastM-shares : (n f m : ℕ) → f ≤ n → LeastM n f m → OverlapAtLeast n (n - f) m (f + 1)
 LeastM-shares n f m within h = Overlap-at_least n (n - f) m (f + 1) (omega arith) h.at_most h.overlaps
 
--- a sub-set with more members than another has one outside it
+-- a subset with more members than another has one outside it
 pub beyond : (large small : List Bool) → length large ≡ length small → size small < size large
     → (p : ℕ) × IsIn large p × IsOutside small p
 beyond [] [] e h = absurd (omega arith)
@@ -86,7 +86,7 @@ IsIn-both (true ∷ xs) (false ∷ ys) zero h = absurd (cc)
 IsIn-both (false ∷ xs) (y ∷ ys) zero h = absurd (cc)
 IsIn-both (x ∷ xs) (y ∷ ys) (suc p) h = IsIn-both xs ys p h
 
--- sub-sets that share more than f positions share one outside any f
+-- subsets that share more than f positions share one outside any f
 pub MeetsOutside-by_overlap : (n q f : ℕ) → q ≤ n → Overlap n q q (f + 1) → MeetsOutside n q f
 MeetsOutside-by_overlap n q f within h = record {
   meets = λ xs ys zs l m o s t u.
@@ -98,7 +98,7 @@ MeetsOutside-by_overlap n q f within h = record {
       (r.0, w.0, w.1, r.2);
 }
 
--- where 3f + 1 is up to n, two sub-sets of n - f share a position outside any f
+-- where 3f + 1 is up to n, two subsets of n - f share a position outside any f
 pub MeetsOutside-by_thirds : (n f : ℕ) → 3 * f + 1 ≤ n → MeetsOutside n (n - f) f
 MeetsOutside-by_thirds n f h =
     MeetsOutside-by_overlap n (n - f) f (omega arith) (Overlap-by_size n (n - f) (n - f) (f + 1) (omega arith))

@@ -1,4 +1,4 @@
--- The sizes of sub-sets, and how many places two of them share.
+-- The sizes of subsets, and how many places two of them share.
 use Rattle.std.proofs.Common.{◌≡◌, ℕ, zero, suc, ◌+◌, ◌-◌, ◌≤◌, min, max, Bool, true, false, cond, ◌&&◌, leb, ltb, List}
 use Rattle.std.proofs.Common.{[], ◌∷◌, length, map, refl, ap, sym, ◌∙◌, arith}
 use Rattle.std.specs.List.{range_with_len}
@@ -6,7 +6,7 @@ use Rattle.std.proofs.lemmas.List.FromFn.{length-map-range_with_len}
 use Rattle.std.proofs.lemmas.Bool.Decides.{nat_tests}
 use Rattle.commonware_faults.specs.Subsets.{size, shared, passing, is_between, places}
 
--- two sub-sets of n positions share at least what their sizes have above n
+-- two subsets of n positions share at least what their sizes have above n
 pub size-le-shared : (first second : List Bool) → length first ≡ length second
     → size first + size second ≤ length first + shared first second
 size-le-shared [] [] h = omega arith
@@ -22,7 +22,7 @@ pub size-cons : (a : Bool) (xs : List Bool) → size (a ∷ xs) ≡ cond a 1 0 +
 size-cons true xs = omega arith
 size-cons false xs = omega arith
 
--- one place more of two sub-sets
+-- one place more of two subsets
 shared-cons : (a b : Bool) (xs ys : List Bool) → shared (a ∷ xs) (b ∷ ys) ≡ cond (a && b) 1 0 + shared xs ys
 shared-cons true true xs ys = omega arith
 shared-cons true false xs ys = omega arith
@@ -36,7 +36,7 @@ shared-map p q (k ∷ ks) =
     shared-cons (p k) (q k) (map p ks) (map q ks) ∙ ap (λ n. cond (p k && q k) 1 0 + n) (shared-map p q ks)
     ∙ sym (size-cons (p k && q k) (map (λ j. p j && q j) ks))
 
--- equal tests give sub-sets of one size
+-- equal tests give subsets of one size
 pub size-agree : (p q : ℕ → Bool) → ((k : ℕ) → p k ≡ q k) → (ks : List ℕ) → size (map p ks) ≡ size (map q ks)
 size-agree p q same [] = refl
 size-agree p q same (k ∷ ks) =

@@ -2,7 +2,7 @@
 //!
 //! A model answers for every number of participants from 1 to `u32::MAX`, given as a whole number
 //! of any type. No call takes memory. What the numbers of `N3f1` and `N5f1` mean is said by
-//! counting: of any two sub-sets of the participants of such a size, how many participants do they
+//! counting: of any two subsets of the participants of such a size, how many participants do they
 //! share?
 ghost use Rattle.std.specs.Prelude.{◌≡◌, ℕ, ◌+◌, ◌-◌, ◌*◌, ◌/◌, ◌^◌, ◌<◌, ◌≤◌};
 ghost use Rattle.std.proofs.Common.{arith};
@@ -48,7 +48,7 @@ impl Faults for N3f1 {
     ghost at_most = { λ n h k. Prim.omega arith };
 
     /// The greatest f for which `3f + 1` is at most `n`, which is the greatest f for which any two
-    /// sub-sets of n - f participants share at least f + 1. `n` is from 1 to `u32::MAX`.
+    /// subsets of n - f participants share at least f + 1. `n` is from 1 to `u32::MAX`.
     fn max_faults<N: Count>(n: N) -> u32
         requires { IsCommitteeSize (N.number n) }
         ensures faults { result ≡ (amount (N.number n) - 1) / 3 }
@@ -61,7 +61,7 @@ impl Faults for N3f1 {
         (total - 1) / 3
     }
 
-    /// All but `max_faults(n)`. Two quorums share a participant outside any sub-set of at most so
+    /// All but `max_faults(n)`. Two quorums share a participant outside any subset of at most so
     /// many. `n` is from 1 to `u32::MAX`.
     fn quorum<N: Count>(n: N) -> u32
         requires { IsCommitteeSize (N.number n) }
@@ -86,7 +86,7 @@ impl Faults for N5f1 {
     ghost at_most = { λ n h k. Prim.omega arith };
 
     /// The greatest f for which `5f + 1` is at most `n`, which is the greatest f for which any two
-    /// sub-sets of n - f participants share at least 3f + 1. `n` is from 1 to `u32::MAX`.
+    /// subsets of n - f participants share at least 3f + 1. `n` is from 1 to `u32::MAX`.
     fn max_faults<N: Count>(n: N) -> u32
         requires { IsCommitteeSize (N.number n) }
         ensures faults { result ≡ (amount (N.number n) - 1) / 5 }
@@ -99,7 +99,7 @@ impl Faults for N5f1 {
         (total - 1) / 5
     }
 
-    /// All but `max_faults(n)`. Two quorums share a participant outside any sub-set of at most so
+    /// All but `max_faults(n)`. Two quorums share a participant outside any subset of at most so
     /// many. `n` is from 1 to `u32::MAX`.
     fn quorum<N: Count>(n: N) -> u32
         requires { IsCommitteeSize (N.number n) }
@@ -121,7 +121,7 @@ impl N5f1 {
         Self::quorum(n)
     }
 
-    /// The smaller quorum of `n` participants, `2f + 1` for f faults: the least size whose sub-sets
+    /// The smaller quorum of `n` participants, `2f + 1` for f faults: the least size whose subsets
     /// share at least f + 1 participants with each larger quorum. `n` is from 1 to `u32::MAX`.
     pub fn m_quorum<N: Count>(n: N) -> u32
         requires { IsCommitteeSize (N.number n) }

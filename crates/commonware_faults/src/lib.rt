@@ -1,5 +1,5 @@
 //! Fault models of consensus: how many of n participants may be faulty, how many make a quorum, and
-//! what that means of the sub-sets of the participants.
+//! what that means of the subsets of the participants.
 #![tactic(auto)]
 
 mod count;
@@ -8,4 +8,6 @@ mod resilience;
 
 pub use count::Count;
 pub use faults::{Faults, N3f1, N5f1};
-pub use resilience::{Resilience, counting_law, overlap_law, resilience_law, smaller_quorum};
+pub use resilience::{
+    Resilience, counting_law, overlap_law, resilience_law, smaller_quorum, tolerated_faults,
+};

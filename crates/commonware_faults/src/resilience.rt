@@ -70,6 +70,17 @@ pub fn counting_law()
     ensures least { (n f m : ℕ) → LeastM n f m ↔ ((m ≡ 2 * f + 1) × (2 * f + 1 ≤ n)) }
 {}
 
+/// How many of `n` participants may be faulty at a resilience `n >= kf + 1` whose `k` is a number
+/// of the running program: the greatest f that fits, 2 of 20 at a `k` of 7. A model whose `k` is
+/// known before has this as its `max_faults`. `k` is from 2 and `n` from 1.
+pub fn tolerated_faults(k: u32, n: u32) -> u32
+    requires resilience { 2 ≤ k }
+    requires some { 1 ≤ n }
+    ensures { IsFaultTolerance k n result }
+{
+    (n - 1) / k
+}
+
 /// The least size whose subsets share at least f + 1 participants with each quorum of a model,
 /// which is `2f + 1`. `n` is from 1 to `u32::MAX`.
 pub fn smaller_quorum<M: Resilience, N: Count>(n: N) -> u32

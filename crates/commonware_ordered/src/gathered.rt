@@ -1,7 +1,7 @@
 //! Pairs that are put one at a time at their places in the order of their keys.
-ghost use Rattle.std.specs.Prelude.{◌≡◌, [], IfOk};
+ghost use Rattle.std.specs.Prelude.{◌≡◌, [], IfOk, OnErr};
 ghost use Rattle.std.specs.Map.{keys_of, values_of};
-ghost use Rattle.commonware_ordered.specs.Put.{IsPut};
+ghost use Rattle.commonware_ordered.specs.Put.{IsPrefix, IsPut};
 ghost use Rattle.commonware_ordered.specs.Strict.{IsStrict};
 
 mod run;
@@ -46,10 +46,13 @@ impl<K: Ord + Drop, V: Drop, A: Allocator + Copy> Gathered<K, V, A> {
     }
 
     /// Puts a pair at its place unless an equal key stands there, and answers whether it did.
+    /// Where a request for memory is refused, a prefix of the pairs is left, and the pair itself
+    /// and the others are dropped.
     #[inline(always)]
     pub fn insert(&mut self, key: K, value: V) -> Result<bool, AllocError>
-        ensures { IfOk result (λ new.
+        ensures put { IfOk result (λ new.
             IsPut (λ p q. K.cmp p.0 q.0) self.old (key, value) new self.new) }
+        ensures prefix { OnErr result (IsPrefix self.new self.old) }
     {
         if self.tree.is_empty() {
             match self.run.last_to(&key) {

@@ -2,5 +2,5 @@
 
 pub use commonware_faults::{
     Count, Faults, N3f1, N5f1, Resilience, counting_law, overlap_law, resilience_law,
-    smaller_quorum,
+    smaller_quorum, tolerated_faults,
 };

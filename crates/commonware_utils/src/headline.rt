@@ -101,7 +101,7 @@ pub fn resilience_numbers<M: Resilience>(n: u32) -> Numbers
 
 /// What the models answer for `n` participants, `N3f1` first and then `N5f1`. `n` is at least 1.
 ///
-/// The faults of `N3f1` are the greatest f for which any two sub-sets of n - f share at least
+/// The faults of `N3f1` are the greatest f for which any two subsets of n - f share at least
 /// f + 1, those of `N5f1` the greatest for which they share at least 3f + 1; a quorum is n - f.
 pub fn fault_numbers(n: u32) -> (Numbers, Numbers)
     requires { 1 ≤ n }

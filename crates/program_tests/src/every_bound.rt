@@ -6,7 +6,7 @@ use std::alloc::{AllocError, Global};
 use std::io::ErrorKind;
 use std::num::NonZeroU32;
 
-/// Two sub-sets of `n` positions: the first `first` and the last `last` of them.
+/// Two subsets of `n` positions: the first `first` and the last `last` of them.
 #[derive(Drop)]
 struct SubSets {
     n: u64,
@@ -14,7 +14,7 @@ struct SubSets {
     last: u64,
 }
 
-/// A line on two sub-sets. They share as many positions as they have together above all.
+/// A line on two subsets. They share as many positions as they have together above all.
 fn write_refuted(
     report: &mut String,
     label: &str,

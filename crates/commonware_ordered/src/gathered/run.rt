@@ -1,10 +1,11 @@
 //! Pairs whose keys rise, as they come.
-ghost use Rattle.std.specs.Prelude.{◌≡◌, ◌++◌, ◌∷◌, [], IfOk, OnOk, true};
+ghost use Rattle.std.specs.Prelude.{◌≡◌, ◌++◌, ◌∷◌, [], IfOk, OnErr, OnOk, true};
 ghost use Rattle.std.specs.List.{AllByRecursion, list_any};
 ghost use Rattle.std.specs.List.Sorted.{IsStrictlySortedBy};
 ghost use Rattle.std.specs.Map.{keys_of, values_of};
 ghost use Rattle.std.specs.Ordering.{MatchOrdering, is_eq};
 ghost use Rattle.std.specs.declared.cmp.Ordering.TheVariants.{Less};
+ghost use Rattle.commonware_ordered.specs.Put.{IsPrefix};
 
 use super::tree::put;
 use std::alloc::{AllocError, Allocator};
@@ -71,7 +72,8 @@ impl<K: Ord + Drop, V: Drop, A: Allocator + Copy> Run<K, V, A> {
     #[inline(always)]
     pub(super) fn push(&mut self, key: K, value: V) -> Result<(), AllocError>
         requires { AllByRecursion (λ p. K.cmp p.0 key ≡ Less) self.old }
-        ensures { OnOk result (self.new ≡ self.old ++ (key, value) ∷ []) }
+        ensures pushed { OnOk result (self.new ≡ self.old ++ (key, value) ∷ []) }
+        ensures unchanged { OnErr result (self.new ≡ self.old) }
     {
         self.keys.reserve(1)?;
         self.values.reserve(1)?;
@@ -99,12 +101,14 @@ impl<K: Ord + Drop, V: Drop, A: Allocator + Copy> Run<K, V, A> {
         (keys, values)
     }
 
-    /// Moves the pairs into a tree that has none. No pair stays, even where there is no memory.
+    /// Moves the pairs into a tree that has none. No pair stays: where a request for memory is
+    /// refused, the tree has a prefix of them, and the others are dropped.
     #[cold]
     #[inline(never)]
     pub(super) fn move_into(&mut self, tree: &mut BTreeMap<K, V, A>) -> Result<(), AllocError>
         requires { tree.old.entries ≡ [] }
         ensures moved { OnOk result (tree.new.entries ≡ self.old) }
+        ensures prefix { OnErr result (IsPrefix tree.new.entries self.old) }
         ensures left { self.new ≡ [] }
     {
         let (keys, values) = self.take().into_columns();

@@ -1,5 +1,5 @@
 //! A tree of pairs in which the first of equal keys stays.
-ghost use Rattle.std.specs.Prelude.{IfOk};
+ghost use Rattle.std.specs.Prelude.{◌≡◌, IfOk, OnErr};
 ghost use Rattle.commonware_ordered.specs.Put.{IsPut};
 
 use std::alloc::{AllocError, Allocator};
@@ -13,8 +13,9 @@ pub(super) fn put<K: Ord + Drop, V: Drop, A: Allocator + Copy>(
     key: K,
     value: V,
 ) -> Result<bool, AllocError>
-    ensures { IfOk result (λ new.
+    ensures put { IfOk result (λ new.
         IsPut (λ p q. K.cmp p.0 q.0) tree.old.entries (key, value) new tree.new.entries) }
+    ensures unchanged { OnErr result (tree.new.entries ≡ tree.old.entries) }
 {
     match tree.entry(key)? {
         Entry::Vacant(place) => {

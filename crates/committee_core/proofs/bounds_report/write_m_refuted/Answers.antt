@@ -1,4 +1,4 @@
--- The two sub-sets are the first n - f and the last 2f of the positions.
+-- The two subsets are the first n - f and the last 2f of the positions.
 use Rattle.std.proofs.Common.{◌≡◌, ◌+◌, ◌-◌, ◌*◌, ◌/◌, codes, ap, ◌∙◌, arith}
 use Rattle.std.proofs.Math.Path.{ap₂}
 use Rattle.committee_core.specs.BoundsReport.{refuted_line, m_refuted_line}

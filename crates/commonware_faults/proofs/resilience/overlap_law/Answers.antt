@@ -1,4 +1,4 @@
--- The sizes of two sub-sets, and those at the two ends.
+-- The sizes of two subsets, and those at the two ends.
 use Rattle.std.proofs.Common.{◌-◌, arith}
 use Rattle.commonware_faults.specs.SubsetLaws.{Overlap-at_ends, MeetsOutside-by_thirds}
 use Rattle.commonware_faults.specs.ToleranceLaws.{quorums_share}

@@ -7,7 +7,7 @@ use Rattle.commonware_map.proofs.map.Map.from_iter_dedup.Goals as goal
 pub loop-key-preserved : goal.loop-key-preserved
 loop-key-preserved g c =
     let total = on_total (λ (p : g.row.K.Denot × g.row.V.Denot). p.0) g.met.K.Ord.total in
-    keeps_put total c.loop-key.yielded c.loop-key.gathered c.insert.new.self (c.in-Some.key, c.in-Some.value) c.in_ok-insert.field-0 c.loop-key.invariant c.in_ok-insert.ensures
+    keeps_put total c.loop-key.yielded c.loop-key.gathered c.insert.new.self (c.in-Some.key, c.in-Some.value) c.in_ok-insert.field-0 c.loop-key.invariant c.in_ok-insert.ensures.put
 
 pub returns : goal.returns
 returns g c =

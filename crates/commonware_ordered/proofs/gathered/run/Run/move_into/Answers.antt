@@ -1,9 +1,10 @@
-use Rattle.std.proofs.Common.{ap, ◌∙◌}
+use Rattle.std.proofs.Common.{ap, ◌∙◌, rules, subst, sym}
 use Rattle.std.specs.List.{zip}
 use Rattle.std.specs.Vec.Iter.{into_iter_items, into_iter_len}
+use Rattle.commonware_ordered.specs.Put.{IsPrefix}
 use Rattle.commonware_ordered.proofs.Columns.{zip-parts}
 use Rattle.commonware_ordered.proofs.Entries.{pair_more}
-use Rattle.commonware_ordered.proofs.Zipped.{left_none, left_start}
+use Rattle.commonware_ordered.proofs.Zipped.{left_none, left_prefix, left_start}
 use Rattle.commonware_ordered.proofs.gathered.run.Run.move_into.Goals as goal
 
 pub loop-key-init : goal.loop-key-init
@@ -18,7 +19,12 @@ loop-key-init g c =
 pub loop-key-preserved : goal.loop-key-preserved
 loop-key-preserved g c =
     let strict = rw c.take.ensures.taken at c.into_columns-keys.ensures.strict in
-    pair_more g.met.K.Ord.total _ _ _ _ _ _ c.in_ok-put.field-0 strict c.loop-key.invariant c.in-Some.ensures.steps c.in_ok-put.ensures
+    pair_more g.met.K.Ord.total _ _ _ _ _ _ c.in_ok-put.field-0 strict c.loop-key.invariant c.in-Some.ensures.steps c.in_ok-put.ensures.put
 
 pub returns-clause-moved : goal.returns-clause-moved
 returns-clause-moved g c = left_none _ _ _ c.next.new.self c.loop-key.invariant c.in-None.ensures.steps
+
+pub returns-in_err-put-clause-prefix : goal.returns-in_err-put-clause-prefix
+returns-in_err-put-clause-prefix g c =
+    let given : IsPrefix c.put.new.tree.entries c.args.self.now = subst (λ done. IsPrefix done c.args.self.now) (sym c.in_err-put.ensures.unchanged) (left_prefix _ _ _ c.loop-key.invariant) in
+    search (rules, given)

@@ -1,0 +1,6 @@
+-- Division is the fault tolerance of every k.
+use Rattle.commonware_faults.specs.ToleranceLaws.{fault_tolerance}
+use Rattle.commonware_faults.proofs.resilience.tolerated_faults.Goals as goal
+
+pub returns : goal.returns
+returns c = fault_tolerance c.args.k c.args.n c.requires.resilience c.requires.some
