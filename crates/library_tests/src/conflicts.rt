@@ -1,17 +1,18 @@
 //! The members that signed both of two certificates, with each request for memory refused in turn.
 use crate::signers::{are, certificate};
-use committee_certificates::{Certificate, ConflictError, conflict};
+use committee_certificates::{Certificate, ConflictError, conflict, conflict_among};
 use commonware_utils::Participant;
 use commonware_utils::faults::{Faults, N3f1, N5f1};
 use commonware_utils::ordered::Set;
 use std::alloc::Allocator;
 use test_equipment::walk::{Heap, Outcome, Refusable, full, refused, requests};
 
-/// A fault model.
+/// A fault model, or the number of faults that one tolerates.
 #[derive(Clone, Copy)]
 enum Model {
     N3f1,
     N5f1,
+    Faults(u32),
 }
 
 /// A committee and two certificates for different values.
@@ -28,7 +29,7 @@ struct Row {
     answer: Result<&'static [u32], ConflictError>,
 }
 
-const ROWS: [Row; 8] = [
+const ROWS: [Row; 12] = [
     Row {
         members: 4,
         model: Model::N3f1,
@@ -85,6 +86,34 @@ const ROWS: [Row; 8] = [
         second: &[],
         answer: Err(ConflictError::TooFew),
     },
+    Row {
+        members: 5,
+        model: Model::Faults(2),
+        first: &[0, 1, 2],
+        second: &[2, 3, 4],
+        answer: Ok(&[2]),
+    },
+    Row {
+        members: 5,
+        model: Model::Faults(1),
+        first: &[0, 1, 2],
+        second: &[1, 2, 3, 4],
+        answer: Err(ConflictError::TooFew),
+    },
+    Row {
+        members: 5,
+        model: Model::Faults(5),
+        first: &[5],
+        second: &[],
+        answer: Err(ConflictError::Outside),
+    },
+    Row {
+        members: 5,
+        model: Model::Faults(5),
+        first: &[4],
+        second: &[3],
+        answer: Ok(&[]),
+    },
 ];
 
 /// The members that signed both. `None` where the values are the same, or the committee has no
@@ -127,6 +156,12 @@ impl Row {
         match self.model {
             Model::N3f1 => conflict_of::<N3f1, _>(heap, committee, first, second),
             Model::N5f1 => conflict_of::<N5f1, _>(heap, committee, first, second),
+            Model::Faults(faults) => {
+                if first.value == second.value || faults > self.members {
+                    return None;
+                }
+                Some(conflict_among(heap, self.members as usize, faults, first, second))
+            }
         }
     }
 }

@@ -14,6 +14,8 @@ mod conflicts;
 #[cfg(test)]
 mod drawn;
 #[cfg(test)]
+mod gathered_pairs;
+#[cfg(test)]
 mod held_heaps;
 #[cfg(test)]
 mod large_inputs;

@@ -1,4 +1,5 @@
-//! The texts of many items, on a writer that takes all.
+//! The texts of many items, and of a member, on a writer that takes all.
+use committee_core::Member;
 use commonware_utils::TryFromIterator;
 use commonware_utils::ordered::{BiMap, Error, Map, Set};
 use std::alloc::{AllocError, Global};
@@ -47,4 +48,16 @@ fn many_items_are_shown(rt: HostRuntime) {
     assert!(rt; set_is_shown(alloc) == Ok(true));
     assert!(rt; map_is_shown(alloc) == Ok(true));
     assert!(rt; bimap_is_shown(alloc) == Ok(true));
+}
+
+/// A member for debugging is its 32 bytes as numbers, under its name.
+#[test]
+fn a_member_is_shown_for_debugging(rt: HostRuntime) {
+    let mut bytes = [0; 32];
+    bytes[1] = 255;
+    let text = format!(in rt.alloc(); "{:?}", Member::new(bytes)).expect(&rt, "memory");
+    assert!(rt; text.as_str().starts_with("Member([0, 255, 0, 0, "));
+    assert!(rt; text.as_str().ends_with(", 0, 0])"));
+    // "Member([" and "])" are 10 bytes, 31 zeros 31, "255" 3, and 31 times ", " 62.
+    assert!(rt; text.len() == 106);
 }

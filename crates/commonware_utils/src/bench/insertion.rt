@@ -231,6 +231,14 @@ fn the_first_label_of_a_number_stays(rt: HostRuntime) {
     );
 }
 
+/// The first numbers with each of the ten last digits are those below ten.
+#[test]
+fn the_first_value_of_a_key_stays(rt: HostRuntime) {
+    let pairs = (0..100u8).map(|number| (number % 10, number));
+    let map = Map::from_iter_dedup(rt.alloc(), pairs).expect(&rt, "memory");
+    assert!(rt; map.keys().iter().copied().eq(0..10) && map.values().iter().copied().eq(0..10));
+}
+
 /// The numbers below 300 with one label, and then with another.
 fn two_rows(alloc: Global) -> Result<Vec<(u32, char)>, AllocError> {
     let mut pairs = Vec::new(alloc);

@@ -143,9 +143,9 @@ fn a_labelled_item_is_read_back_equal(rt: HostRuntime) {
 #[test]
 fn values_are_equal_whatever_their_labels(rt: HostRuntime) {
     let alloc = rt.alloc();
-    let repeated = BiMap::try_from_iter(alloc, [(1u8, item(5, 'x')), (2, item(5, 'y'))]);
+    let repeated = BiMap::try_from_iter(alloc, [(1u8, item(7, 'x')), (2, item(7, 'y'))]);
     assert!(rt; repeated.err() == Some(ordered::Error::DuplicateValue));
-    let bimap = BiMap::try_from_iter(alloc, [(1u8, item(5, 'x')), (2, item(6, 'x'))]).expect(
+    let bimap = BiMap::try_from_iter(alloc, [(1u8, item(7, 'x')), (2, item(6, 'x'))]).expect(
         &rt, "memory",
     );
     assert!(rt; bimap.get_key(&item(6, 'y')) == Some(&2));

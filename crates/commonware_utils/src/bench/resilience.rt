@@ -3,7 +3,9 @@
 ghost use Rattle.std.specs.Prelude.{◌≡◌, ℕ, ◌+◌, ◌-◌, ◌*◌, ◌/◌, ◌≤◌, refl};
 ghost use Rattle.std.proofs.Common.{arith};
 
-use crate::faults::{Count, Resilience, counting_law, overlap_law, resilience_law, smaller_quorum};
+use crate::faults::{
+    Count, Resilience, counting_law, overlap_law, resilience_law, smaller_quorum, tolerated_faults,
+};
 use crate::headline::{Numbers, resilience_numbers};
 use crate::{Faults, N3f1, N5f1};
 
@@ -80,10 +82,10 @@ const AT_5: Rows = [
     (4294967295, 858993458, 3435973837, 1717986917),
 ];
 
-/// Whether a model has the numbers of each row.
-fn has_the_numbers_of<M: Resilience>(rows: Rows) -> bool {
+/// Whether a model has the numbers of each row, and so has its k alone.
+fn has_the_numbers_of<M: Resilience>(k: u32, rows: Rows) -> bool {
     for (n, max_faults, quorum, smaller) in rows {
-        if n == 0 {
+        if n == 0 || k < 2 || tolerated_faults(k, n) != max_faults {
             return false;
         }
         let numbers = Numbers { max_faults, quorum };
@@ -96,10 +98,10 @@ fn has_the_numbers_of<M: Resilience>(rows: Rows) -> bool {
 
 #[test]
 fn models_have_the_numbers_of_their_resilience(rt: HostRuntime) {
-    assert!(rt; has_the_numbers_of::<N2f1>(AT_2), "2");
-    assert!(rt; has_the_numbers_of::<N3f1>(AT_3), "3");
-    assert!(rt; has_the_numbers_of::<N4f1>(AT_4), "4");
-    assert!(rt; has_the_numbers_of::<N5f1>(AT_5), "5");
+    assert!(rt; has_the_numbers_of::<N2f1>(2, AT_2), "2");
+    assert!(rt; has_the_numbers_of::<N3f1>(3, AT_3), "3");
+    assert!(rt; has_the_numbers_of::<N4f1>(4, AT_4), "4");
+    assert!(rt; has_the_numbers_of::<N5f1>(5, AT_5), "5");
 }
 
 #[test]
@@ -108,4 +110,6 @@ fn laws_are_called(rt: HostRuntime) {
     overlap_law::<N2f1>();
     resilience_law::<N4f1>();
     assert!(rt; smaller_quorum::<N2f1, i128>(3) == 3);
+    assert!(rt; tolerated_faults(4294967295, 4294967295) == 0);
+    assert!(rt; tolerated_faults(7, 20) == 2);
 }
