@@ -107,6 +107,7 @@ committee_key 10 38607442988 5000000
 committee_index 10 90 5000000
 conflict 10 20 5000000
 wide_dedup 10 20 5000000
+wide_write 10 642 5000000
 wide_read 10 20 5000000
 wide_position 10 90 5000000
 bimap_try_iter 10 20 5000000

@@ -11,7 +11,7 @@ use std::alloc::{AllocError, Global};
 use std::io::Write;
 use std::time::Clock;
 
-/// The lines of sets of items that begin with the numbers: built, read, and looked up.
+/// The lines of sets of items that begin with the numbers: built, written, read, and looked up.
 pub(crate) fn time_wide<C: Clock, W: Write>(
     bench: &mut Bench<C, W>,
     numbers: &[u32],
@@ -22,7 +22,7 @@ pub(crate) fn time_wide<C: Clock, W: Write>(
     let work = Work::new("wide_dedup", numbers.len(), rounds);
     bench.line(work, 0, || Ok(set_of(alloc, &items)?.len() as u64))?;
     let set = set_of(alloc, &items)?;
-    time_read(bench, &set, rounds)?;
+    time_codec(bench, &set, rounds)?;
     let work = Work {
         name: "wide_position",
         ..work
@@ -43,14 +43,16 @@ fn set_of(alloc: Global, items: &[Member]) -> Result<Set<Member, Global>, AllocE
     Set::from_iter_dedup(alloc, items.iter().copied())
 }
 
-/// The line of the set read.
-fn time_read<C: Clock, W: Write>(
+/// The lines of the set written and read.
+fn time_codec<C: Clock, W: Write>(
     bench: &mut Bench<C, W>,
     set: &Set<Member, Global>,
     rounds: u64,
 ) -> Result<(), Failure> {
     let alloc = bench.alloc();
     let bytes = written(alloc, set)?;
+    let work = Work::new("wide_write", set.len(), rounds);
+    bench.line(work, 0, || Ok(written(alloc, set)?.len() as u64))?;
     let work = Work::new("wide_read", set.len(), rounds);
     bench.line(work, 0, || count_read(alloc, &bytes))?;
     Ok(())
