@@ -18,6 +18,8 @@ mod gathered_pairs;
 #[cfg(test)]
 mod held_heaps;
 #[cfg(test)]
+mod keys_found;
+#[cfg(test)]
 mod large_inputs;
 #[cfg(test)]
 mod long_texts;

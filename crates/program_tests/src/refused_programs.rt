@@ -1,7 +1,9 @@
 //! Runs and sessions with each request for memory refused in turn, whatever they come to: nothing
 //! is written, and the devices are whole.
 use crate::bounds::{MOST, TEN};
-use crate::committees::{ONE_AND_A_BYTE, ONE_CUT_SHORT, TWO, TWO_EQUAL, TWO_REPORT};
+use crate::committees::{
+    ONE_AND_A_BYTE, ONE_CUT_SHORT, TWO, TWO_EQUAL, TWO_REPORT, committee_of_256,
+};
 use crate::devices::{Input, TAKEN};
 use crate::runs::beginning;
 use crate::session_trial::{READ, words_of};
@@ -14,11 +16,11 @@ use test_equipment::walk::{Heap, Outcome, Refusable, asks_for, full, refused};
 
 /// What a program is asked and given, and what it comes to.
 #[derive(Drop)]
-struct Asked {
+struct Asked<'a> {
     words: &'static [&'static str],
     /// The bytes that it is given. With none, its reader fails at each call.
-    bytes: Option<&'static [u8]>,
-    outcome: Result<&'static str, RunError>,
+    bytes: Option<&'a [u8]>,
+    outcome: Result<&'a str, RunError>,
     /// The status of a session, and its line on standard error.
     status: u8,
     line: &'static str,
@@ -26,13 +28,9 @@ struct Asked {
     least: u64,
 }
 
-impl Asked {
+impl<'a> Asked<'a> {
     /// A program that writes this report.
-    fn report(
-        words: &'static [&'static str],
-        bytes: Option<&'static [u8]>,
-        report: &'static str,
-    ) -> Asked {
+    fn report(words: &'static [&'static str], bytes: Option<&'a [u8]>, report: &'a str) -> Self {
         Asked {
             words,
             bytes,
@@ -44,7 +42,7 @@ impl Asked {
     }
 
     /// A program that refuses these bytes, after so many requests at least.
-    fn refusal(bytes: &'static [u8], error: RunError, line: &'static str, least: u64) -> Asked {
+    fn refusal(bytes: &'a [u8], error: RunError, line: &'static str, least: u64) -> Self {
         Asked {
             words: READ,
             bytes: Some(bytes),
@@ -56,7 +54,7 @@ impl Asked {
     }
 
     /// What it is given.
-    fn input(&self) -> Input<'static> {
+    fn input(&self) -> Input<'a> {
         match self.bytes {
             Some(bytes) => Input::of(bytes),
             None => Input::failing(b"", ErrorKind::BrokenPipe),
@@ -64,8 +62,8 @@ impl Asked {
     }
 
     /// What it writes where it isn't refused.
-    fn written(&self) -> &'static str {
-        match &self.outcome {
+    fn written(&self) -> &'a str {
+        match self.outcome {
             Ok(report) => report,
             Err(_) => "",
         }
@@ -77,7 +75,7 @@ fn is_silent(output: &ScriptedWriter<Global>) -> bool {
     (output.calls, output.flushes) == (0, 0)
 }
 
-impl Asked {
+impl<'a> Asked<'a> {
     /// Whether the writer has taken what is written.
     fn is_taken_by(&self, output: &ScriptedWriter<Global>) -> bool {
         output.taken.as_slice() == self.written().as_bytes()
@@ -120,7 +118,7 @@ fn command_of(heap: Heap<'_>, words: &[&str]) -> Option<Command> {
 }
 
 /// Programs, each to be done by `run` and by `session`.
-fn programs() -> [Asked; 9] {
+fn programs() -> [Asked<'static>; 9] {
     let refused = RunError::Refused;
     let unsorted = Error::Invalid("Set", "items must be sorted and unique");
     [
@@ -168,7 +166,7 @@ fn programs() -> [Asked; 9] {
 
 /// A run. Its writer keeps what it takes in memory of its own.
 #[derive(Drop)]
-struct Run<'a>(Global, &'a Asked);
+struct Run<'a>(Global, &'a Asked<'a>);
 
 impl<'b> Refusable for Run<'b> {
     fn outcome(&self, heap: Heap<'_>, granted: u64) -> Outcome {
@@ -191,7 +189,7 @@ impl<'b> Refusable for Run<'b> {
 
 /// A session. Its writers keep what they take in memory of their own.
 #[derive(Drop)]
-struct Session<'a>(Global, &'a Asked);
+struct Session<'a>(Global, &'a Asked<'a>);
 
 impl<'b> Refusable for Session<'b> {
     fn outcome(&self, heap: Heap<'_>, granted: u64) -> Outcome {
@@ -208,13 +206,25 @@ impl<'b> Refusable for Session<'b> {
     }
 }
 
+/// Whether a run and a session make their requests, and are silent wherever one is refused.
+fn is_silent_without_memory(alloc: Global, asked: &Asked<'_>) -> bool {
+    let run = asks_for(alloc, &Run(alloc, asked), asked.least);
+    run && asks_for(alloc, &Session(alloc, asked), asked.least)
+}
+
 #[test]
 fn nothing_is_written_without_memory(rt: HostRuntime) {
-    let alloc = rt.alloc();
     for asked in &programs() {
-        let run = asks_for(alloc, &Run(alloc, asked), asked.least);
-        assert!(rt; run, "run {:?} {:?}", asked.words, asked.bytes);
-        let session = asks_for(alloc, &Session(alloc, asked), asked.least);
-        assert!(rt; session, "session {:?} {:?}", asked.words, asked.bytes);
+        let right = is_silent_without_memory(rt.alloc(), asked);
+        assert!(rt; right, "{:?} {:?}", asked.words, asked.bytes);
     }
+}
+
+/// The most members that there can be: what is read grows past its first room, and so does the
+/// report.
+#[test]
+fn no_line_of_256_members_is_written_without_memory(rt: HostRuntime) {
+    let (bytes, report) = committee_of_256(rt.alloc()).expect(&rt, "memory");
+    let asked = Asked::report(READ, Some(&bytes), &report);
+    assert!(rt; is_silent_without_memory(rt.alloc(), &asked));
 }

@@ -1,6 +1,6 @@
 //! The program from its arguments: the words that are asked for are those after its name.
 use crate::bounds::SIX;
-use crate::committees::{TWO, TWO_REPORT};
+use crate::committees::{TWO, TWO_REPORT, committee_of_256};
 use crate::devices::{Input, TAKEN};
 use crate::session_trial::words_of;
 use committee_core::{Watched, start};
@@ -56,34 +56,39 @@ fn the_words_follow_the_programs_name(rt: HostRuntime) {
     }
 }
 
-/// What the start comes to that ends with this status, after these calls of its writer and these
-/// bytes on standard error.
-fn outcome_of(status: u8, output: &ScriptedWriter<Global>, said: &[u8]) -> Outcome {
-    match status {
-        0 => full(output.taken.as_slice() == TWO_REPORT.as_bytes() && said.is_empty()),
-        3 => refused(output.calls == 0 && said == b"failed: out of memory\n".as_slice()),
-        _ => Outcome::Wrong,
+/// The program on a committee's bytes, and the report on it. Its devices keep what they take in
+/// memory of their own.
+#[derive(Drop)]
+struct Start<'a> {
+    alloc: Global,
+    bytes: &'a [u8],
+    report: &'a str,
+}
+
+impl<'a> Start<'a> {
+    /// What the start comes to that ends with this status, after these calls of its writer and
+    /// these bytes on standard error.
+    fn comes_to(&self, status: u8, output: &ScriptedWriter<Global>, said: &[u8]) -> Outcome {
+        match status {
+            0 => full(output.taken.as_slice() == self.report.as_bytes() && said.is_empty()),
+            3 => refused(output.calls == 0 && said == b"failed: out of memory\n".as_slice()),
+            _ => Outcome::Wrong,
+        }
     }
 }
 
-/// The program on the committee of two. Its devices keep what they take in memory of their own.
-#[derive(Drop)]
-struct TwoStart {
-    alloc: Global,
-}
-
-impl Refusable for TwoStart {
+impl<'b> Refusable for Start<'b> {
     fn outcome(&self, heap: Heap<'_>, granted: u64) -> Outcome {
         let Ok(texts) = words_of(heap, &["committee", "read"]) else {
             return Outcome::Wrong;
         };
-        let mut input = Input::of(TWO).reader();
+        let mut input = Input::of(self.bytes).reader();
         let mut output = Watched::new(TAKEN.writer(self.alloc));
         let mut errors = TAKEN.writer(self.alloc);
         heap.restart(granted);
         let arguments = Ok(texts.into_iter());
         let status = start(heap, arguments, &mut input, &mut output, &mut errors);
-        outcome_of(status, output.inner(), errors.taken.as_slice())
+        self.comes_to(status, output.inner(), errors.taken.as_slice())
     }
 
     fn may_do_without(&self) -> bool {
@@ -94,5 +99,13 @@ impl Refusable for TwoStart {
 #[test]
 fn each_refused_request_of_a_start_gives_status_3(rt: HostRuntime) {
     let alloc = rt.alloc();
-    assert!(rt; asks_for(alloc, &TwoStart { alloc }, 4));
+    let (many, lines) = committee_of_256(alloc).expect(&rt, "memory");
+    for (bytes, report) in [(TWO, TWO_REPORT), (&many, &lines)] {
+        let start = Start {
+            alloc,
+            bytes,
+            report,
+        };
+        assert!(rt; asks_for(alloc, &start, 4));
+    }
 }
