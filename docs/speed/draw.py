@@ -92,7 +92,9 @@ def draw_growth(calls):
     for place, (_, label, n) in zip(apart([end for end, _, _ in ends], 0.16), ends):
         axes.text(1.4 * n, 10**place, label, va="center")
     axes.grid(color="0.9")
-    axes.set_xlim(7, 20_000_000)
+    axes.set_xlim(7, 40_000_000)
+    axes.set_xticks([10, 1_000, 100_000, 1_000_000], ["10", "1,000", "100,000", "1,000,000"])
+    axes.xaxis.set_minor_locator(matplotlib.ticker.NullLocator())
     save(figure, "growth.svg")
 
 
