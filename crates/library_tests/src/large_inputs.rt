@@ -9,7 +9,7 @@ use std::alloc::{AllocError, Global};
 use std::ops::Range;
 
 /// How many items there are: more than 65,536.
-const COUNT: u32 = 70_000;
+pub(super) const COUNT: u32 = 70_000;
 
 /// The number at a position: 27,449 has no divisor in common with 70,000, so each number below
 /// 70,000 stands at one position.
@@ -18,7 +18,7 @@ fn number(position: u32) -> u32 {
 }
 
 /// The numbers below 70,000 in a mixed order, each with its position.
-fn pairs(alloc: Global) -> Result<Vec<(u32, u32)>, AllocError> {
+pub(super) fn pairs(alloc: Global) -> Result<Vec<(u32, u32)>, AllocError> {
     let mut pairs = Vec::new(alloc);
     for position in 0..COUNT {
         pairs.push((number(position), position))?;
@@ -27,12 +27,12 @@ fn pairs(alloc: Global) -> Result<Vec<(u32, u32)>, AllocError> {
 }
 
 /// Whether these are the numbers below 70,000, in order.
-fn are_all(keys: &[u32]) -> bool {
+pub(super) fn are_all(keys: &[u32]) -> bool {
     keys.iter().copied().eq(0..COUNT)
 }
 
 /// Whether the number of each key stands at the position that is its value.
-fn are_at(keys: &[u32], values: &[u32]) -> bool {
+pub(super) fn are_at(keys: &[u32], values: &[u32]) -> bool {
     for (key, position) in keys.iter().zip(values) {
         if number(*position) != *key {
             return false;

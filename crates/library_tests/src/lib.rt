@@ -20,6 +20,8 @@ mod held_heaps;
 #[cfg(test)]
 mod keys_found;
 #[cfg(test)]
+mod large_calls;
+#[cfg(test)]
 mod large_inputs;
 #[cfg(test)]
 mod long_texts;
