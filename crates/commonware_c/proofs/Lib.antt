@@ -1,5 +1,6 @@
 pub mod Chunks
 pub mod Exact
+pub mod Gaps
 pub mod Keys
 pub mod Made
-pub mod Places
+pub mod Offsets
