@@ -1,6 +1,8 @@
 pub mod Chunks
 pub mod Exact
-pub mod Gaps
 pub mod Keys
 pub mod Made
+pub mod NoGap
 pub mod Offsets
+pub mod Spelt
+pub mod Spliced

@@ -1,7 +1,7 @@
 //! How many of n participants may be faulty at a resilience of k, and how many make a quorum.
 ghost use Rattle.std.specs.Prelude.{◌≡◌, ◌<◌, ◌≤◌};
 ghost use Rattle.commonware_faults.specs.Tolerance.{IsFaultTolerance};
-ghost use Rattle.commonware_c.specs.Numbers.{IsQuorumSize, IsSmallerQuorumSize};
+ghost use Rattle.commonware_c.specs.Quorums.{IsQuorumSize, IsSmallerQuorumSize};
 
 use commonware_faults::tolerated_faults;
 

@@ -3,7 +3,7 @@ ghost use Rattle.std.specs.Prelude.{◌≡◌, ◌≢◌, ◌↔◌, ◌<◌, Co
 ghost use Rattle.std.specs.List.{HoldsAt};
 ghost use Rattle.commonware_ordered.specs.Strict.{IsStrict};
 ghost use Rattle.committee_core.specs.Members.{member_cmp};
-ghost use Rattle.commonware_c.specs.Places.{IsGapFor};
+ghost use Rattle.commonware_c.specs.Gaps.{IsGapFor};
 
 use crate::checked::order;
 use std::cmp::Ordering;

@@ -14,8 +14,13 @@ returns-in-Ok-clause-accused c =
     record {
       faults = c.tolerated_faults-faults.result;
       tolerance = tolerance;
-      both = (parts one, parts two, c.in_ok-one.ensures.whole, c.in_ok-two.ensures.whole,
-        (differ, said.quorums.0, said.quorums.1, said.both));
+      both = (
+        parts one,
+        parts two,
+        c.in_ok-one.ensures.whole,
+        c.in_ok-two.ensures.whole,
+        (differ, said.quorums.0, said.quorums.1, said.both),
+      );
       many = omega (arith, said.shared, tolerance.least_shared);
       outlast = λ three. said.leaves (omega (arith, tolerance.fits.fits, mul-le-mul_right c.tolerated_faults-faults.result three));
     }

@@ -2,7 +2,7 @@ use Rattle.std.proofs.Common.{◌≡◌, ◌<◌, ◌≤◌, ◌+◌, ◌-◌, �
 use Rattle.std.specs.declared.cmp.Ordering.TheVariants.{Greater}
 use Rattle.std.proofs.lemmas.List.{get_or_default}
 use Rattle.committee_core.specs.Members.{member_cmp}
-use Rattle.commonware_c.proofs.Gaps.{not_in_gap, same_key}
+use Rattle.commonware_c.proofs.NoGap.{not_in_gap, same_key}
 use Rattle.commonware_c.proofs.places.commonware_committee_index.Goals as goal
 
 -- the place that was asked is inside

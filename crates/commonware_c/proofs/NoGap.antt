@@ -10,7 +10,7 @@ use Rattle.std.proofs.lemmas.Map.Keys.{Less-from_sorted}
 use Rattle.commonware_ordered.specs.Strict.{IsStrict}
 use Rattle.commonware_ordered.specs.StrictLaws.{sorted_from_strict}
 use Rattle.committee_core.specs.Members.{member_cmp}
-use Rattle.commonware_c.specs.Places.{IsGapFor}
+use Rattle.commonware_c.specs.Gaps.{IsGapFor}
 
 -- keys that compare as equal are the same
 pub same_key : (x y : List ℕ) → member_cmp x y ≡ Equal → x ≡ y
