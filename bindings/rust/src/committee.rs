@@ -184,12 +184,7 @@ impl<'a> Committee<'a> {
         let mut out = zeros(5 + MEMBER_SIZE * keys.len()).ok_or(EncodeError::Memory)?;
         // SAFETY: each pointer and the length after it are those of one slice; `out` is a new one.
         let view = unsafe {
-            raw::commonware_committee_write(
-                keys.as_ptr(),
-                keys.len(),
-                out.as_mut_ptr(),
-                out.len(),
-            )
+            raw::commonware_committee_write(keys.as_ptr(), keys.len(), out.as_mut_ptr(), out.len())
         };
         if view.status != 0 {
             return Err(EncodeError::of(view.status, view.number));
