@@ -13,6 +13,7 @@ use std::cmp::Ordering;
 
 /// How many members the committee of `least` to `most` has with whose bytes a source goes on. The
 /// source is left after it. No item asks the allocator.
+#[inline(always)]
 pub(crate) fn check(
     alloc: Global,
     src: &mut Source<'_>,
@@ -43,6 +44,7 @@ pub(crate) fn check(
 }
 
 /// So many keys from a source's position on, where they stand, or `None` where fewer are left.
+#[inline(always)]
 fn keys_of<'a>(src: &Source<'a>, count: usize) -> Option<&'a [[u8; 32]]>
     ensures keys { IfSome result (λ keys. AreKeys keys.now count (rest_of src.now)) }
     ensures none { IfNone result (length (rest_of src.now) < count * 32) }
@@ -55,6 +57,7 @@ fn keys_of<'a>(src: &Source<'a>, count: usize) -> Option<&'a [[u8; 32]]>
 }
 
 /// Whether each key is less than the next.
+#[inline(always)]
 fn are_in_order(keys: &[[u8; 32]]) -> bool
     ensures { IsTrue result ↔ IsStrict member_cmp keys.now }
 {
