@@ -1,11 +1,13 @@
 -- What a foreign caller is told of the bytes of a committee: numbers, and where its members stand.
-use Rattle.std.specs.Prelude.{◌≡◌, ℕ, ◌+◌, ◌*◌, ◌≤◌, List, Some, drop, length, slice_get, take}
+use Rattle.std.specs.Prelude.{◌≡◌, ℕ, ◌+◌, ◌*◌, ◌≤◌, List, Some, drop, length, nat_eq, slice_get, take}
 use Rattle.std.specs.List.{AllByRecursion, flat_map}
+use Rattle.std.specs.Cmp.Lexicographic.{pointwise}
 use Rattle.std.specs.declared.ops.Bound.TheVariants.{Included}
 use Rattle.commonware_base.specs.Fault.{Fault}
 use Rattle.commonware_base.specs.Lists.{list_enc, IsAllowedList}
 use Rattle.commonware_base.specs.Range.{Bounds}
 use Rattle.commonware_base.specs.Text.{Accepts}
+use Rattle.commonware_ordered.specs.Dedup.{IsDedup}
 use Rattle.commonware_ordered.specs.Sets.{IsWritableSet, SetFault}
 use Rattle.committee_core.specs.Members.{IsMember, member_bytes, member_cmp, member_fault}
 
@@ -34,3 +36,10 @@ pub record AreKeys (keys : List (List ℕ)) (count : ℕ) (s : List ℕ) : Type 
   pub enough : count * 32 ≤ length s
   pub each : AllByRecursion IsMember keys
   pub bytes : take (count * 32) s ≡ flat_map member_bytes keys
+
+-- the set is these keys in order, of equal ones one, and it has so many members and so many bytes
+pub record IsSetOf (keys set : List (List ℕ)) (count size : ℕ) : Type 0 where
+  pub dedup : IsDedup (pointwise nat_eq) member_cmp keys set
+  pub count_is : count ≡ length set
+  pub size_is : size ≡ length (list_enc member_bytes set)
+  pub size_most : size ≤ 5 + 32 * count

@@ -9,7 +9,7 @@ ghost use Rattle.commonware_c.specs.Requests.{IsFirstDescent, IsUnwritable};
 ghost use Rattle.commonware_c.specs.Splices.{spliced};
 
 use crate::rooms::{put_bytes, put_varint};
-use crate::written::WrittenView;
+use crate::written::{WrittenView, refused};
 use commonware_base::codec::{EncodeSize, UInt};
 
 /// Writes the certificate of a value and of the indices of its signers to the front of the room.
@@ -34,24 +34,20 @@ pub extern "C" fn commonware_certificate_write(
         × (length (certificate_enc (value.now, signers.now)) ≤ length out.old)) }
 {
     if let Some((status, number)) = fault_of(value, signers) {
-        return WrittenView {
-            status,
-            count: 0,
-            number,
-            size: 0,
-        };
+        return refused(status, number);
     }
-    let size = certificate_size(value, signers);
-    let fits = size <= out.len();
-    if fits {
-        put_certificate(value, signers, out);
-    }
-    WrittenView {
-        status: if fits { 0 } else { 11 },
+    let mut view = WrittenView {
+        status: 11,
         count: signers.len(),
         number: 0,
-        size,
+        size: certificate_size(value, signers),
+    };
+    if out.len() < view.size {
+        return view;
     }
+    put_certificate(value, signers, out);
+    view.status = 0;
+    view
 }
 
 /// The status and the number of the first fault of a request, where there is one.

@@ -1,4 +1,4 @@
-use Rattle.std.proofs.Common.{◌≡◌, ◌∙◌, arith, length, sym}
+use Rattle.std.proofs.Common.{◌∙◌, arith, length, sym}
 use Rattle.commonware_base.specs.VarintLaws.{varint-length}
 use Rattle.commonware_c.proofs.Spelt.{spelt_length}
 use Rattle.commonware_c.proofs.encoded.certificate_size.Goals as goal

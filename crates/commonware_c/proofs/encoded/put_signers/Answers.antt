@@ -1,4 +1,4 @@
-use Rattle.std.proofs.Common.{◌≡◌, ◌∙◌, ◌+◌, ◌<◌, ◌≤◌, ◌++◌, ℕ, length, take, get_or, arith, ap, length-append}
+use Rattle.std.proofs.Common.{◌∙◌, ◌+◌, ◌≤◌, length, take, get_or, arith, ap, length-append}
 use Rattle.std.specs.List.{flat_map}
 use Rattle.std.proofs.lemmas.List.Folds.{length-flat_map-take}
 use Rattle.commonware_base.specs.Varint.{varint}

@@ -1,4 +1,4 @@
-use Rattle.std.proofs.Common.{rules, ◌≡◌, ◌∙◌, ◌+◌, ◌*◌, ◌<◌, ◌≤◌, ◌^◌, ◌++◌, ℕ, Fits, w64, length, take, get_or, arith, ap, length-append}
+use Rattle.std.proofs.Common.{rules, ◌∙◌, ◌<◌, ◌^◌, length, take, get_or, arith, ap, length-append}
 use Rattle.std.specs.List.{flat_map}
 use Rattle.commonware_base.specs.Varint.{varint}
 use Rattle.commonware_base.specs.VarintLaws.{varint-length}

@@ -1,4 +1,4 @@
-use Rattle.std.proofs.Common.{◌≡◌, ◌∙◌, ◌+◌, ◌%◌, ◌≤◌, ◌<◌, ◌++◌, ◌∷◌, [], ℕ, List, length, slice_set, arith, ap, sym, subst, length-append}
+use Rattle.std.proofs.Common.{◌≡◌, ◌∙◌, ◌+◌, ◌%◌, ◌≤◌, ◌<◌, ◌++◌, ◌∷◌, [], ℕ, List, length, slice_set, arith, ap, sym, length-append}
 use Rattle.commonware_base.specs.Varint.{groups, varint}
 use Rattle.commonware_base.specs.VarintLaws.{Goes, goes_start, goes_step, goes_end, groups_not_empty}
 use Rattle.commonware_c.specs.Splices.{spliced}
