@@ -1,5 +1,6 @@
 pub mod Chunks
 pub mod Exact
+pub mod Fewer
 pub mod Keys
 pub mod Made
 pub mod NoGap

@@ -17,7 +17,7 @@ pub same_key : (x y : List ℕ) → member_cmp x y ≡ Equal → x ≡ y
 same_key x y e = same_text x y (sym (texts_ties x y ∙ ap is_eq e))
 
 -- no key is below itself
-not_below_itself : (x : List ℕ) → member_cmp x x ≡ Less → ⊥
+pub not_below_itself : (x : List ℕ) → member_cmp x x ≡ Less → ⊥
 not_below_itself x e = let back = nat_list_cmp_total.antisymm x x in cc
 
 -- what is greater comes the other way round

@@ -1,9 +1,10 @@
 -- The parts of a certificate's bytes.
-use Rattle.std.proofs.Common.{◌≡◌, ◌∙◌, ℕ, ◌+◌, ◌<◌, List, [], ◌++◌, length, take, get_or, arith, ap, sym, length-append}
+use Rattle.std.proofs.Common.{◌≡◌, ◌∙◌, ℕ, ◌+◌, ◌<◌, ◌≤◌, List, [], ◌∷◌, ◌++◌, length, take, get_or, arith, ap, sym, length-append}
 use Rattle.std.specs.List.{flat_map}
 use Rattle.std.proofs.lemmas.List.{append_assoc, flat_map_more, take_more}
 use Rattle.commonware_base.proofs.ByteSteps.{bytes_join}
 use Rattle.commonware_base.specs.Varint.{varint}
+use Rattle.commonware_base.specs.VarintLaws.{groups_not_empty}
 use Rattle.committee_certificates.specs.Certificates.{certificate_enc}
 
 -- the bytes of one more index
@@ -31,3 +32,21 @@ module _ (value signers : List ℕ) where
       let counted = length-append (varint (length value) ++ value) (varint (length signers)) in
       let valued = length-append (varint (length value)) value in
       ap length spelt_as ∙ omega (arith, all, counted, valued)
+
+-- a varint has a byte
+varint_some : (n : ℕ) → 0 < length (varint n)
+unfolding varint
+varint_some n = groups_not_empty 4 n
+
+-- so there are no more indices than bytes
+indices_fewer : (xs : List ℕ) → length xs ≤ length (flat_map varint xs)
+indices_fewer [] = omega arith
+indices_fewer (x ∷ xs) =
+    let n = length-append (varint x) (flat_map varint xs) in
+    omega (arith, n, varint_some x, indices_fewer xs)
+
+-- nor than bytes of a text that begins with their certificate
+pub signers_fewer : (value signers s rest : List ℕ) → s ≡ certificate_enc (value, signers) ++ rest → length signers ≤ length s
+signers_fewer value signers s rest begins =
+    let n = length-append (certificate_enc (value, signers)) rest in
+    omega (arith, n, ap length begins, spelt_length value signers, indices_fewer signers)

@@ -37,9 +37,10 @@ pub record AreKeys (keys : List (List ℕ)) (count : ℕ) (s : List ℕ) : Type 
   pub each : AllByRecursion IsMember keys
   pub bytes : take (count * 32) s ≡ flat_map member_bytes keys
 
--- the set is these keys in order, of equal ones one, and it has so many members and so many bytes
+-- the set is these keys in order, of equal ones one; it has so many members, no more than the keys, and so many bytes
 pub record IsSetOf (keys set : List (List ℕ)) (count size : ℕ) : Type 0 where
   pub dedup : IsDedup (pointwise nat_eq) member_cmp keys set
   pub count_is : count ≡ length set
+  pub count_most : count ≤ length keys
   pub size_is : size ≡ length (list_enc member_bytes set)
   pub size_most : size ≤ 5 + 32 * count

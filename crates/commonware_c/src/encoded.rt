@@ -24,6 +24,7 @@ pub extern "C" fn commonware_certificate_write(
         → out.new ≡ spliced 0 (certificate_enc (value.now, signers.now)) out.old }
     ensures size { (result.status ≡ 0) ⊎ (result.status ≡ 11)
         → (result.size ≡ length (certificate_enc (value.now, signers.now)))
+        × (result.size ≤ 10 + length value.now + 5 * length signers.now)
         × (result.count ≡ length signers.now) }
     ensures room { result.status ≡ 11 → IsWritableCertificate (value.now, signers.now)
         × (length out.old < result.size) }
@@ -86,7 +87,8 @@ fn first_descent(signers: &[u32]) -> Option<usize>
 fn certificate_size(value: &[u8], signers: &[u32]) -> usize
     requires value_short { length value.now < 2 ^ 32 }
     requires signers_short { length signers.now < 2 ^ 32 }
-    ensures { result ≡ length (certificate_enc (value.now, signers.now)) }
+    ensures size { result ≡ length (certificate_enc (value.now, signers.now)) }
+    ensures at_most { result ≤ 10 + length value.now + 5 * length signers.now }
 {
     let value_size = UInt(value.len() as u32).encode_size() + value.len();
     let count_size = UInt(signers.len() as u32).encode_size();

@@ -37,6 +37,17 @@ overflow_add-result-2 c =
       c.signers_size.ensures.at_most,
     )
 
-pub returns : goal.returns
-returns c =
+pub returns-clause-at_most : goal.returns-clause-at_most
+returns-clause-at_most c =
+    omega (
+      arith,
+      varint-length (length c.args.value.now) c.requires.value_short,
+      varint-length (length c.args.signers.now) c.requires.signers_short,
+      c.encode_size.ensures,
+      c.encode_size-count_size.ensures,
+      c.signers_size.ensures.at_most,
+    )
+
+pub returns-clause-size : goal.returns-clause-size
+returns-clause-size c =
     omega (arith, c.encode_size.ensures, c.encode_size-count_size.ensures, c.signers_size.ensures.size) ∙ sym (spelt_length c.args.value.now c.args.signers.now)

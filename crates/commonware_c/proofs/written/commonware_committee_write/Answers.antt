@@ -7,7 +7,7 @@ use Rattle.commonware_base.specs.VarintLaws.{varint-length}
 use Rattle.commonware_ordered.specs.Dedup.{IsDedup}
 use Rattle.commonware_c.specs.Committees.{IsSetOf}
 use Rattle.commonware_c.specs.Splices.{spliced}
-use Rattle.commonware_c.proofs.Made.{set_length}
+use Rattle.commonware_c.proofs.Made.{set_length, set_not_longer}
 use Rattle.commonware_c.proofs.Spliced.{spliced_on}
 use Rattle.commonware_c.proofs.written.commonware_committee_write.Goals as goal
 
@@ -28,6 +28,7 @@ is_set keys set count size dedup each short same spelt =
     record {
       dedup = dedup;
       count_is = same;
+      count_most = omega (arith, same, set_not_longer keys set dedup);
       size_is = omega (arith, spelt, ap (λ n. length (varint n)) same, same, long);
       size_most = omega (arith, spelt, most);
     }
