@@ -44,10 +44,10 @@ extern "C" {
 /* How many bytes a member has. */
 #define COMMONWARE_MEMBER_SIZE 32
 
-/* How many bytes a committee of so many members has at most. */
+/* The most bytes that a committee with this number of members has. */
 #define COMMONWARE_COMMITTEE_SIZE(members) (5 + COMMONWARE_MEMBER_SIZE * (size_t)(members))
 
-/* How many bytes a certificate has at most: of a value of so many bytes, signed by so many. */
+/* The most bytes that a certificate has, by the bytes of its value and the number of its signers. */
 #define COMMONWARE_CERTIFICATE_SIZE(bytes, signers) (10 + (size_t)(bytes) + 5 * (size_t)(signers))
 
 /* The k of the fault models N3f1 and N5f1, whose n participants are at least kf + 1. */
@@ -161,7 +161,7 @@ typedef struct {
     size_t count;    /* at OK and ROOM: how many members signed both */
 } commonware_conflict_view;
 
-/* The members that signed two certificates for different values, in a committee of so many members at a
+/* The members that signed two certificates for different values, in a committee of `members` at a
  * resilience k: their indices go to the front of `out`, in order. With f = commonware_max_faults(k,
  * members) they are at least (k - 2)f + 1, and where k is 3 or more, some of them is outside any f
  * members, whichever these are. Each text is a certificate and nothing more. Nothing is said of whether

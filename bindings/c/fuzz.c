@@ -2,7 +2,7 @@
  * three bytes of limits and then a text.
  *
  * clang -fsanitize=fuzzer makes a fuzzer of it. With COMMONWARE_DRIVER it has a main of its own, which
- * takes a number and files: it tries each file, and so many random changes of each. */
+ * takes a number n and files: it tries each file, and n random changes of each. */
 #include "commonware.h"
 
 #include <stdbool.h>

@@ -113,7 +113,7 @@ fn compare(name: &str, rounds: u32, mut ours: impl FnMut(), mut plain: impl FnMu
     println!("{name:<34} {a:>9.1} ns {b:>9.1} ns  {middle:.2} ({low:.2} to {high:.2})");
 }
 
-/// So many random keys.
+/// `n` random keys.
 fn random_keys(seed: &mut u64, n: u32) -> Vec<Member> {
     let mut next = || {
         *seed ^= *seed << 13;

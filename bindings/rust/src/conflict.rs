@@ -57,7 +57,7 @@ impl Error for ConflictError {
     }
 }
 
-/// The members, of a committee of so many, that signed two certificates for different values: their
+/// The members that signed two certificates for different values, in a committee of `members`: their
 /// indices, in order. With f of them faulty at most, they are at least (k - 2)f + 1; where the k of
 /// the model is 3 or more, some of them is outside any f members.
 ///

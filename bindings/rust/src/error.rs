@@ -3,7 +3,7 @@
 use std::error::Error;
 use std::fmt;
 
-/// Why bytes were refused: their first fault, or want of memory.
+/// Why bytes were refused: their first fault, or an allocation failure.
 ///
 /// ```
 /// use commonware_proved::{Committee, Refusal};
@@ -22,7 +22,7 @@ pub enum Refusal {
     InvalidLength(usize),
     /// The items aren't sorted and unique.
     NotStrict,
-    /// So many bytes follow what was to be the whole text.
+    /// This number of bytes follows what was to be the whole text.
     LeftOver(usize),
     /// Memory was refused. It says nothing of the text.
     Memory,
@@ -58,7 +58,7 @@ impl fmt::Display for Refusal {
 
 impl Error for Refusal {}
 
-/// Why nothing was written: the first fault of what was to be, or want of memory.
+/// Why nothing was written: the first fault of the request, or an allocation failure.
 ///
 /// ```
 /// use commonware_proved::{Certificate, EncodeError};

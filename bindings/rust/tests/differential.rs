@@ -97,11 +97,11 @@ fn committees_are_written_sorted_and_each_once() {
 
 #[test]
 fn large_committees_go_both_ways() {
-    for count in [127, 128, 129, 5_000, 20_000] {
+    for count in [127, 128, 129, 5_000, 70_000] {
         let keys: Vec<Member> = (0..count as u64)
             .map(|i| {
                 let mut key = [0; 32];
-                key[..8].copy_from_slice(&(i * i % 3_001).to_le_bytes());
+                key[..8].copy_from_slice(&(i * i % 60_013).to_le_bytes());
                 key[24..].copy_from_slice(&(i % 5).to_be_bytes());
                 key
             })
@@ -201,6 +201,18 @@ fn certificates_go_both_ways() {
             (certificate.value(), certificate.signers()),
             (&value[..], &signers[..])
         );
+    }
+}
+
+#[test]
+fn many_signers_conflict() {
+    for count in [127, 128, 5_000, 70_000u32] {
+        let signers: [Vec<u32>; 2] = [(0..count).collect(), (1..=count).collect()];
+        let texts = [0, 1].map(|i| Certificate::encode(&[i as u8], &signers[i]).unwrap());
+        let certificate = Certificate::try_from(&texts[1][..]).unwrap();
+        assert_eq!(certificate.signers(), signers[1]);
+        let both = conflict(FaultModel::N5F1, count + 1, &texts[0], &texts[1]).unwrap();
+        assert_eq!(both, signers[1][..count as usize - 1]);
     }
 }
 

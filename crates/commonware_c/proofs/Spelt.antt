@@ -24,7 +24,7 @@ module _ (value signers : List ℕ) where
       ap (λ b. (varint (length value) ++ b) ++ (varint (length signers) ++ flat_map varint signers)) (bytes_join value)
       ∙ sym (append_assoc (varint (length value) ++ value) (varint (length signers)) (flat_map varint signers))
 
-  -- so many bytes
+  -- how many bytes that is
   pub spelt_length : length (certificate_enc (value, signers))
       ≡ length (varint (length value)) + length value + length (varint (length signers)) + length (flat_map varint signers)
   spelt_length =

@@ -30,14 +30,14 @@ committee_fault least most =
 abbrev pub StandAt : List ℕ → ℕ → List (List ℕ) → Type 0
 StandAt s start members = (i : ℕ) (m : List ℕ) → slice_get members i ≡ Some m → take 32 (drop (start + 32 * i) s) ≡ m
 
--- s begins with so many keys
+-- s begins with these keys, `count` of them
 pub record AreKeys (keys : List (List ℕ)) (count : ℕ) (s : List ℕ) : Type 0 where
   pub number : length keys ≡ count
   pub enough : count * 32 ≤ length s
   pub each : AllByRecursion IsMember keys
   pub bytes : take (count * 32) s ≡ flat_map member_bytes keys
 
--- the set is these keys in order, of equal ones one; it has so many members, no more than the keys, and so many bytes
+-- the set is these keys in order, of equal ones one; it has `count` members, no more than the keys, and `size` bytes
 pub record IsSetOf (keys set : List (List ℕ)) (count size : ℕ) : Type 0 where
   pub dedup : IsDedup (pointwise nat_eq) member_cmp keys set
   pub count_is : count ≡ length set

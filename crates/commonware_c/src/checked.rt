@@ -43,7 +43,7 @@ pub(crate) fn check(
     Ok(count)
 }
 
-/// So many keys from a source's position on, where they stand, or `None` where fewer are left.
+/// The next `count` keys of a source, where they stand, or `None` where fewer are left.
 #[inline(always)]
 fn keys_of<'a>(src: &Source<'a>, count: usize) -> Option<&'a [[u8; 32]]>
     ensures keys { IfSome result (λ keys. AreKeys keys.now count (rest_of src.now)) }

@@ -33,8 +33,8 @@ struct Stop {
     number: usize,
 }
 
-/// The members, of a committee of so many at a resilience of `k`, that signed two certificates for
-/// different values, with room for their indices.
+/// The members that signed two certificates for different values, in a committee of `members` at a
+/// resilience of `k`, with room for their indices.
 #[unsafe(no_mangle)]
 pub extern "C" fn commonware_conflict(
     alloc: Global,

@@ -60,7 +60,7 @@ pub fn some_keys(random: &mut Random) -> Vec<Member> {
         .collect()
 }
 
-/// A value, and signers of a committee of so many that are nearly always in order, and members.
+/// A value, and signers of a committee of `members` that are nearly always in order, and members.
 pub fn some_parts(random: &mut Random, members: usize) -> (Vec<u8>, Vec<u32>) {
     let value = (0..random.below(3))
         .map(|_| random.below(2) as u8)

@@ -18,7 +18,7 @@ pub overflow_add-view : goal.overflow_add-view
 overflow_add-view c =
     omega (arith, varint-length c.len-count.result (omega (arith, c.if-count.false)), c.encode_size.ensures, c.if-count.false)
 
--- the set has so many members and bytes
+-- the number of its members, and of its bytes
 is_set : (keys set : List (List ℕ)) (count size : ℕ) → IsDedup (pointwise nat_eq) member_cmp keys set
     → AllByRecursion (λ m. length m ≡ 32) set → count < 2 ^ 32 → count ≡ length set
     → size ≡ length (varint count) → IsSetOf keys set count (size + 32 * count)
