@@ -97,19 +97,23 @@ fn sample(rounds: u32, f: &mut dyn FnMut()) -> f64 {
     start.elapsed().as_nanos() as f64 / f64::from(rounds)
 }
 
+/// How many runs each time and each ratio is the median of. They are short, so that what else the
+/// processor does falls into few of them.
+const RUNS: usize = 401;
+
 /// Prints the medians of both, and the median of the ratios of neighbouring runs with its quartiles.
 fn compare(name: &str, rounds: u32, mut ours: impl FnMut(), mut plain: impl FnMut()) {
-    let mut runs: Vec<(f64, f64)> = (0..41)
+    let mut runs: Vec<(f64, f64)> = (0..RUNS)
         .map(|_| (sample(rounds, &mut ours), sample(rounds, &mut plain)))
         .collect();
     let mut ratios: Vec<f64> = runs.iter().map(|(a, b)| a / b).collect();
     ratios.sort_by(f64::total_cmp);
     let mut median = |of: fn(&(f64, f64)) -> f64| {
         runs.sort_by(|a, b| of(a).total_cmp(&of(b)));
-        of(&runs[20])
+        of(&runs[RUNS / 2])
     };
     let (a, b) = (median(|run| run.0), median(|run| run.1));
-    let (low, middle, high) = (ratios[10], ratios[20], ratios[30]);
+    let (low, middle, high) = (ratios[RUNS / 4], ratios[RUNS / 2], ratios[RUNS * 3 / 4]);
     println!("{name:<34} {a:>9.1} ns {b:>9.1} ns  {middle:.2} ({low:.2} to {high:.2})");
 }
 
@@ -139,7 +143,7 @@ fn main() {
     );
     compare(
         "quorum",
-        200_000,
+        10_000,
         || {
             black_box(FaultModel::N3F1.quorum(black_box(100)));
         },
@@ -152,7 +156,7 @@ fn main() {
         let keys = random_keys(&mut seed, n);
         let bytes = Committee::encode(&keys).unwrap();
         assert_eq!(bytes, plain_write(&keys));
-        let rounds = 400_000 / n;
+        let rounds = 8_000 / n;
         let read = || {
             black_box(Committee::read(black_box(&bytes), 1..=256)).unwrap();
         };
@@ -165,7 +169,7 @@ fn main() {
         let committee = Committee::try_from(&bytes[..]).unwrap();
         compare(
             &format!("index of each of {n}"),
-            rounds / 20,
+            1 + rounds / 20,
             || {
                 for key in &keys {
                     black_box(committee.index_of(black_box(key)));
@@ -179,11 +183,11 @@ fn main() {
         );
         compare(
             &format!("write {n} random keys"),
-            rounds / 40,
+            1 + rounds / 40,
             || drop(black_box(Committee::encode(black_box(&keys))).unwrap()),
             || drop(black_box(plain_write(black_box(&keys)))),
         );
-        conflicts(n, rounds / 4);
+        conflicts(n, 1 + rounds / 4);
     }
 }
 

@@ -1,9 +1,8 @@
 -- A key that would stand between two neighbours of a strict list isn't in the list.
 use Rattle.std.proofs.Common.{◌≡◌, ◌∙◌, ℕ, ◌-◌, ◌<◌, ◌≤◌, List, length, get_or, sym, ap, subst, arith, inl, inr}
 use Rattle.std.specs.List.{Contains}
-use Rattle.std.specs.Cmp.Lexicographic.{same_text, texts_ties}
-use Rattle.std.specs.Ordering.{is_eq, ordering_reverse}
-use Rattle.std.specs.declared.cmp.Ordering.TheVariants.{Less, Equal, Greater}
+use Rattle.std.specs.Ordering.{ordering_reverse}
+use Rattle.std.specs.declared.cmp.Ordering.TheVariants.{Less, Greater}
 use Rattle.std.proofs.lemmas.Bool.{cases_lt}
 use Rattle.std.proofs.lemmas.Cmp.{nat_list_cmp_total}
 use Rattle.std.proofs.lemmas.Map.Keys.{Less-from_sorted}
@@ -11,10 +10,6 @@ use Rattle.commonware_ordered.specs.Strict.{IsStrict}
 use Rattle.commonware_ordered.specs.StrictLaws.{sorted_from_strict}
 use Rattle.committee_core.specs.Members.{member_cmp}
 use Rattle.commonware_c.specs.Gaps.{IsGapFor}
-
--- keys that compare as equal are the same
-pub same_key : (x y : List ℕ) → member_cmp x y ≡ Equal → x ≡ y
-same_key x y e = same_text x y (sym (texts_ties x y ∙ ap is_eq e))
 
 -- no key is below itself
 pub not_below_itself : (x : List ℕ) → member_cmp x x ≡ Less → ⊥

@@ -3,6 +3,7 @@ ghost use Rattle.std.specs.Prelude.{◌≡◌, ◌↔◌, ◌*◌, ◌<◌, ℕ,
 ghost use Rattle.commonware_base.specs.Refusal.{Refuses};
 ghost use Rattle.commonware_base.specs.Source.{rest_of};
 ghost use Rattle.commonware_ordered.specs.Strict.{IsStrict};
+ghost use Rattle.committee_core.specs.BigEndian.{spelt};
 ghost use Rattle.committee_core.specs.Members.{member_cmp};
 ghost use Rattle.commonware_c.specs.Committees.{AreKeys, IsCommitteeOf, committee_fault};
 
@@ -64,9 +65,33 @@ fn are_in_order(keys: &[[u8; 32]]) -> bool
     keys.is_sorted_by(|x, y| order(x, y).is_lt())
 }
 
-/// The order of two keys, which is that of members.
+/// The order of two keys, which is that of members. Most keys differ in their first eight bytes,
+/// which are compared where they stand.
 #[inline(always)]
 pub(crate) fn order(x: &[u8; 32], y: &[u8; 32]) -> Ordering
+    ensures { result ≡ member_cmp x.now y.now }
+{
+    let a = first_word(x);
+    let b = first_word(y);
+    if a != b {
+        return a.cmp(&b);
+    }
+    whole_order(x, y)
+}
+
+/// The first eight bytes of a key as one number, the first of them the greatest.
+#[inline(always)]
+fn first_word(key: &[u8; 32]) -> u64
+    ensures { result ≡ spelt 8 0 key.now }
+{
+    u64::from_be_bytes([
+        key[0], key[1], key[2], key[3], key[4], key[5], key[6], key[7],
+    ])
+}
+
+/// The order of two keys by all their bytes.
+#[inline(never)]
+fn whole_order(x: &[u8; 32], y: &[u8; 32]) -> Ordering
     ensures { result ≡ member_cmp x.now y.now }
 {
     Member::new(*x).cmp(&Member::new(*y))

@@ -1,8 +1,9 @@
 use Rattle.std.proofs.Common.{◌≡◌, ◌<◌, ◌≤◌, ◌+◌, ◌-◌, ◌/◌, ℕ, length, get_or, arith, refl, sym, ◌∙◌, subst}
 use Rattle.std.specs.declared.cmp.Ordering.TheVariants.{Greater}
 use Rattle.std.proofs.lemmas.List.{get_or_default}
+use Rattle.std.proofs.lemmas.Map.Lookups.{exact_bytes}
 use Rattle.committee_core.specs.Members.{member_cmp}
-use Rattle.commonware_c.proofs.NoGap.{not_in_gap, same_key}
+use Rattle.commonware_c.proofs.NoGap.{not_in_gap}
 use Rattle.commonware_c.proofs.places.commonware_committee_index.Goals as goal
 
 -- the place that was asked is inside
@@ -13,7 +14,7 @@ pub returns-in-Equal-clause-found : goal.returns-in-Equal-clause-found
 returns-in-Equal-clause-found c = λ _.
     let middle = c.loop-low.low + (c.loop-low.high - c.loop-low.low) / 2 in
     let within = inside c.loop-low.low c.loop-low.high (length c.args.members.now) c.loop-low-test.true c.loop-low.invariant.1 in
-    let same = same_key _ c.args.key.now (sym c.order.ensures ∙ c.in-Equal.is) in
+    let same = exact_bytes _ c.args.key.now (sym c.order.ensures ∙ c.in-Equal.is) in
     (within, λ d. get_or_default c.args.members.now middle d _ within ∙ same)
 
 pub returns-in-Equal-clause-exactly : goal.returns-in-Equal-clause-exactly
