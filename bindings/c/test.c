@@ -257,6 +257,27 @@ static void test_pages(void) {
     CHECK(munmap(pages, 4 * page) == 0);
 }
 
+/* Lengths past 2^32, over zeros that no one has to hold. */
+static void test_long(void) {
+    const size_t limit = (size_t)1 << 32;
+    uint8_t *const zeros = mmap(NULL, 4 * limit, PROT_READ, MAP_PRIVATE | MAP_ANONYMOUS | MAP_NORESERVE, -1, 0);
+    if (zeros == MAP_FAILED) {
+        puts("no room for lengths past 2^32");
+        return;
+    }
+    uint8_t out[3] = {9, 9, 9};
+    commonware_written_view written = commonware_certificate_write(zeros, limit, NULL, 0, OF(out));
+    CHECK(written.status == COMMONWARE_INVALID_LENGTH && written.number == limit && out[0] == 9);
+    const uint32_t *const indices = (const uint32_t *)(const void *)zeros;
+    written = commonware_certificate_write(zeros, 0, indices, limit, OF(out));
+    CHECK(written.status == COMMONWARE_INVALID_LENGTH && written.number == limit && out[0] == 9);
+    written = commonware_certificate_write(zeros, limit - 1, NULL, 0, OF(out));
+    CHECK(written.status == COMMONWARE_ROOM && written.size == limit + 5 && out[0] == 9);
+    const commonware_committee_view view = commonware_committee_read(zeros, 2 * limit, 0, SIZE_MAX);
+    CHECK(view.status == COMMONWARE_OK && view.count == 0 && view.left == 2 * limit - 1);
+    CHECK(munmap(zeros, 4 * limit) == 0);
+}
+
 /* Each request refused in turn, with all after it, until a run has none refused. */
 static void test_memory(void) {
     uint8_t keys[5][32] = {{5}, {4}, {3}, {2}, {1}};
@@ -295,6 +316,7 @@ int main(void) {
     test_certificate();
     test_conflict();
     test_pages();
+    test_long();
     test_memory();
     printf("%d failed\n", failed);
     return failed != 0;
