@@ -1,0 +1,180 @@
+/* The proved committee layer of consensus nodes, for C11 and C++17: how many of n participants may be
+ * faulty, the bytes of committees and certificates, and the members that signed two different values.
+ *
+ * The theorem of each function is its contract in crates/commonware_c/src. What stands here is the same
+ * in words; docs/NATIVE.md says what is proved and what only tests show.
+ *
+ * Conditions. A caller owes what the types say: a pointer points to as many elements as the length after
+ * it says; where that is 0 it may be NULL. What `out` points to overlaps no other argument, and no one
+ * else touches it during the call; no one writes to the other arguments during the call. There is no
+ * other condition: every number and every byte string has an answer.
+ *
+ * Ownership. The caller owns each array before, during and after the call. No function keeps a pointer,
+ * and none returns one: what is found is told by offsets into the caller's bytes.
+ *
+ * Refusal. Where `status` isn't COMMONWARE_OK, `out` is as it was, byte for byte, and what the view says
+ * beside `status` is 0 unless it is described here.
+ *
+ * Threads. There are no global variables, no locks and no callbacks, so any number of threads may call
+ * at once. A function that takes memory isn't for signal handlers, nor for a forked child of a process
+ * with threads.
+ *
+ * Memory. commonware_committee_write, commonware_certificate_read and commonware_conflict take memory
+ * and give all of it back before they return; the others take none. The archive holds a heap over
+ * malloc, realloc and free. A program with an allocator of its own defines these three instead, with C
+ * linkage and all of them, and the linker takes them:
+ *
+ *     struct tried { bool ok; unsigned char *block; };
+ *     struct tried rattle_alloc(size_t size, size_t align);
+ *     struct tried rattle_realloc(unsigned char *block, size_t kept, size_t size, size_t align);
+ *     void rattle_dealloc(unsigned char *block);
+ *
+ * `block` is never NULL: where `ok` is false, it is any valid address. `size` may be 0. A block is aligned
+ * to each power of two up to 16 that divides its size. The first `kept` bytes of a block stay. */
+#ifndef COMMONWARE_H
+#define COMMONWARE_H
+
+#include <stddef.h>
+#include <stdint.h>
+
+#ifdef __cplusplus
+extern "C" {
+#endif
+
+/* How many bytes a member has. */
+#define COMMONWARE_MEMBER_SIZE 32
+
+/* The most bytes that a committee with this number of members has. */
+#define COMMONWARE_COMMITTEE_SIZE(members) (5 + COMMONWARE_MEMBER_SIZE * (size_t)(members))
+
+/* The most bytes that a certificate has, by the bytes of its value and the number of its signers. */
+#define COMMONWARE_CERTIFICATE_SIZE(bytes, signers) (10 + (size_t)(bytes) + 5 * (size_t)(signers))
+
+/* The k of the fault models N3f1 and N5f1, whose n participants are at least kf + 1. */
+#define COMMONWARE_N3F1 3
+#define COMMONWARE_N5F1 5
+
+enum commonware_status {
+    COMMONWARE_OK = 0,
+    COMMONWARE_END_OF_INPUT = 1,   /* the text ends before the value does */
+    COMMONWARE_INVALID_VARINT = 2, /* longer than it has to be, or past 4294967295 */
+    COMMONWARE_INVALID_LENGTH = 3, /* the length `number` is out of range */
+    COMMONWARE_NOT_STRICT = 4,     /* the items aren't sorted and unique */
+    COMMONWARE_MEMORY = 5,         /* memory was refused; says nothing of the text */
+    COMMONWARE_LEFT_OVER = 6,      /* `number` bytes follow the certificate */
+    COMMONWARE_NO_MEMBERS = 7,     /* a committee of 0 members */
+    COMMONWARE_SAME_VALUE = 8,     /* both certificates are for one value */
+    COMMONWARE_OUTSIDE = 9,        /* a signer is no member */
+    COMMONWARE_TOO_FEW = 10,       /* fewer signers than a quorum */
+    COMMONWARE_ROOM = 11,          /* `out` is too short, and the view says what it takes */
+    COMMONWARE_ABSENT = 12,        /* the key isn't there */
+    COMMONWARE_NO_MODEL = 13       /* k is below 2 */
+};
+
+/* How many of n participants may be faulty at a resilience n >= kf + 1: the greatest f that fits. It is
+ * the greatest for which any two quorums share (k - 2)f + 1 participants. 0 where n is 0 or k below 2. */
+uint32_t commonware_max_faults(uint32_t k, uint32_t n);
+
+/* How many of n participants make a quorum, n - f. 0 where n is 0 or k below 2. */
+uint32_t commonware_quorum(uint32_t k, uint32_t n);
+
+/* The least size whose subsets share f + 1 participants with each quorum, 2f + 1. 0 where n is 0 or k
+ * below 2. */
+uint32_t commonware_smaller_quorum(uint32_t k, uint32_t n);
+
+/* A committee at the front of a text. */
+typedef struct {
+    uint32_t status; /* OK, END_OF_INPUT, INVALID_VARINT, INVALID_LENGTH or NOT_STRICT */
+    uint32_t count;  /* at OK: how many members there are */
+    size_t number;   /* at INVALID_LENGTH: how many the text states */
+    size_t start;    /* at OK: the offset of the first member */
+    size_t left;     /* at OK: how many bytes of the text follow the last */
+} commonware_committee_view;
+
+/* Reads a committee of `least` to `most` members at the front of a text: OK exactly where there is one,
+ * else the first fault. Member i is the 32 bytes from text + start + 32 * i on; the members are in
+ * order, each once. Where `least` is greater than `most`, no number of members is in range. */
+commonware_committee_view commonware_committee_read(
+    const uint8_t *text, size_t text_length, size_t least, size_t most);
+
+/* Where a key is among others. */
+typedef struct {
+    uint32_t status; /* OK or ABSENT */
+    size_t index;    /* at OK: that of the key; at ABSENT: that of the first greater one, or the length */
+} commonware_place_view;
+
+/* The index of a key among the members of a committee, in O(log n) comparisons. The members that
+ * commonware_committee_read has found are (const uint8_t (*)[32])(text + view.start), view.count of
+ * them. In a list that isn't in order, OK still tells the index of the key, and ABSENT a place where the
+ * key is greater than the one before and less than the one there. */
+commonware_place_view commonware_committee_index(
+    const uint8_t (*members)[COMMONWARE_MEMBER_SIZE], size_t members_length,
+    const uint8_t (*key)[COMMONWARE_MEMBER_SIZE]);
+
+/* What was written, or would be. */
+typedef struct {
+    uint32_t status; /* OK, INVALID_LENGTH, NOT_STRICT, MEMORY or ROOM */
+    size_t count;    /* at OK and ROOM: how many members or signers there are */
+    size_t number;   /* at INVALID_LENGTH: the length; at NOT_STRICT: the place of a signer in `signers` */
+    size_t size;     /* at OK: how many bytes were written; at ROOM: how many `out` has to have */
+} commonware_written_view;
+
+/* Writes the committee of these keys, in order and each once, to the front of `out`, in any order and as
+ * often as they are given. COMMONWARE_COMMITTEE_SIZE(members_length) bytes always suffice. INVALID_LENGTH
+ * where they are more than 4294967295. Never NOT_STRICT. */
+commonware_written_view commonware_committee_write(
+    const uint8_t (*members)[COMMONWARE_MEMBER_SIZE], size_t members_length,
+    uint8_t *out, size_t out_length);
+
+/* A certificate at the front of a text. */
+typedef struct {
+    uint32_t status;     /* OK, END_OF_INPUT, INVALID_VARINT, INVALID_LENGTH, NOT_STRICT, MEMORY or ROOM */
+    uint32_t signers;    /* at OK and ROOM: how many signers there are */
+    size_t number;       /* at INVALID_LENGTH: the length that the text states, of the value or the signers */
+    size_t value_start;  /* at OK and ROOM: the offset of the value */
+    size_t value_length; /* at OK and ROOM: how many bytes it has */
+    size_t left;         /* at OK and ROOM: how many bytes of the text follow the certificate */
+} commonware_certificate_view;
+
+/* Reads a certificate with a value of up to `most_bytes` bytes and up to `most_signers` signers at the
+ * front of a text, else tells the first fault. The indices of the signers go to the front of `out`, in
+ * order and each once; its length is in indices. A signer takes a byte of the text or more, so
+ * text_length indices always suffice. */
+commonware_certificate_view commonware_certificate_read(
+    const uint8_t *text, size_t text_length, size_t most_bytes, size_t most_signers,
+    uint32_t *out, size_t out_length);
+
+/* Writes the certificate of a value and of the indices of its signers to the front of `out`, where the
+ * indices are in order and each once: OK exactly then, and where there is room. Else the first of these:
+ * INVALID_LENGTH for a value and then for signers past 4294967295, NOT_STRICT for the first signer that
+ * isn't greater than the one before it, ROOM. COMMONWARE_CERTIFICATE_SIZE(value_length, signers_length)
+ * bytes always suffice. Never MEMORY. */
+commonware_written_view commonware_certificate_write(
+    const uint8_t *value, size_t value_length, const uint32_t *signers, size_t signers_length,
+    uint8_t *out, size_t out_length);
+
+/* What two certificates come to. */
+typedef struct {
+    uint32_t status; /* each but INVALID_LENGTH and ABSENT */
+    uint32_t which;  /* 1 or 2 where the status is about the first or the second text alone, else 0 */
+    size_t number;   /* at LEFT_OVER: how many bytes follow the certificate */
+    size_t count;    /* at OK and ROOM: how many members signed both */
+} commonware_conflict_view;
+
+/* The members that signed two certificates for different values, in a committee of `members` at a
+ * resilience k: their indices go to the front of `out`, in order. With f = commonware_max_faults(k,
+ * members) they are at least (k - 2)f + 1, and where k is 3 or more, some of them is outside any f
+ * members, whichever these are. Each text is a certificate and nothing more. Nothing is said of whether
+ * a signature is genuine: that is for the caller to know.
+ *
+ * The first of these is told: NO_MODEL, NO_MEMBERS, a fault of the first text, a fault of the second,
+ * SAME_VALUE, OUTSIDE, TOO_FEW, MEMORY, ROOM. As many indices as there are members always suffice. */
+commonware_conflict_view commonware_conflict(
+    uint32_t k, uint32_t members, const uint8_t *first, size_t first_length,
+    const uint8_t *second, size_t second_length, uint32_t *out, size_t out_length);
+
+#ifdef __cplusplus
+}
+#endif
+
+#endif

@@ -1,0 +1,360 @@
+/* The readers and writers beside a decoder that is written from docs/FORMAT.md alone. Each input is
+ * three bytes of limits and then a text.
+ *
+ * clang -fsanitize=fuzzer makes a fuzzer of it. With COMMONWARE_DRIVER it has a main of its own, which
+ * takes a number n and files: it tries each file, and n random changes of each. */
+#include "commonware.h"
+
+#include <stdbool.h>
+#include <stdio.h>
+#include <stdlib.h>
+#include <string.h>
+
+int LLVMFuzzerTestOneInput(const uint8_t *data, size_t size);
+
+static void require(bool holds, const char *what, int line) {
+    if (!holds) {
+        fprintf(stderr, "fuzz.c:%d: %s\n", line, what);
+        abort();
+    }
+}
+
+#define REQUIRE(condition) require((condition), #condition, __LINE__)
+
+/* The bytes that are not yet read. */
+struct rest {
+    const uint8_t *bytes;
+    size_t length;
+};
+
+/* Groups of seven bits, the lowest first, in at most five bytes and the fewest. */
+static uint32_t decode_varint(struct rest *rest, uint32_t *number) {
+    uint64_t value = 0;
+    for (size_t i = 0; i < 5; i++) {
+        if (i == rest->length) {
+            return COMMONWARE_END_OF_INPUT;
+        }
+        const uint8_t byte = rest->bytes[i];
+        value |= (uint64_t)(byte % 128) << (7 * i);
+        if (i == 4 && byte > 0x0f) {
+            return COMMONWARE_INVALID_VARINT;
+        }
+        if (byte < 128) {
+            if (byte == 0 && i > 0) {
+                return COMMONWARE_INVALID_VARINT;
+            }
+            *number = (uint32_t)value;
+            rest->bytes += i + 1;
+            rest->length -= i + 1;
+            return COMMONWARE_OK;
+        }
+    }
+    return COMMONWARE_INVALID_VARINT;
+}
+
+/* How many items follow, of which `least` to `most` are allowed. */
+static uint32_t decode_length(struct rest *rest, size_t least, size_t most, uint32_t *length) {
+    const uint32_t status = decode_varint(rest, length);
+    if (status == COMMONWARE_OK && (*length < least || most < *length)) {
+        return COMMONWARE_INVALID_LENGTH;
+    }
+    return status;
+}
+
+/* A set of members; `count` is the length that is told. */
+static uint32_t decode_committee(struct rest *rest, size_t least, size_t most, uint32_t *count) {
+    const uint32_t status = decode_length(rest, least, most, count);
+    if (status != COMMONWARE_OK) {
+        return status;
+    }
+    const uint8_t *previous = NULL;
+    bool strict = true;
+    for (uint32_t i = 0; i < *count; i++) {
+        if (rest->length < 32) {
+            return COMMONWARE_END_OF_INPUT;
+        }
+        strict = strict && (previous == NULL || memcmp(previous, rest->bytes, 32) < 0);
+        previous = rest->bytes;
+        rest->bytes += 32;
+        rest->length -= 32;
+    }
+    return strict ? COMMONWARE_OK : COMMONWARE_NOT_STRICT;
+}
+
+/* A list of bytes, and then a set of participants, whose indices go to `signers`. */
+struct parts {
+    const uint8_t *value;
+    uint32_t value_length;
+    uint32_t count;
+    uint32_t *signers;
+};
+
+/* `length` is the length that is told. */
+static uint32_t decode_certificate(struct rest *rest, size_t most_bytes, size_t most_signers,
+                                   struct parts *parts, uint32_t *length) {
+    uint32_t status = decode_length(rest, 0, most_bytes, length);
+    if (status != COMMONWARE_OK) {
+        return status;
+    }
+    if (rest->length < *length) {
+        return COMMONWARE_END_OF_INPUT;
+    }
+    parts->value = rest->bytes;
+    parts->value_length = *length;
+    rest->bytes += *length;
+    rest->length -= *length;
+    status = decode_length(rest, 0, most_signers, length);
+    if (status != COMMONWARE_OK) {
+        return status;
+    }
+    parts->count = *length;
+    bool strict = true;
+    for (uint32_t i = 0; i < parts->count; i++) {
+        uint32_t signer = 0;
+        status = decode_varint(rest, &signer);
+        if (status != COMMONWARE_OK) {
+            return status;
+        }
+        strict = strict && (i == 0 || parts->signers[i - 1] < signer);
+        parts->signers[i] = signer;
+    }
+    return strict ? COMMONWARE_OK : COMMONWARE_NOT_STRICT;
+}
+
+/* At least one element, so that no allocation is of 0 bytes. */
+static void *room(size_t elements, size_t size) {
+    void *block = malloc((elements + 1) * size);
+    REQUIRE(block != NULL);
+    memset(block, 0xee, (elements + 1) * size);
+    return block;
+}
+
+static void try_index(const uint8_t (*members)[32], uint32_t count, const uint8_t *text) {
+    const uint8_t(*key)[32] = (const uint8_t(*)[32])text;
+    const commonware_place_view view = commonware_committee_index(members, count, key);
+    uint32_t place = 0;
+    while (place < count && memcmp(members[place], text, 32) < 0) {
+        place++;
+    }
+    const bool is_there = place < count && memcmp(members[place], text, 32) == 0;
+    REQUIRE(view.status == (is_there ? COMMONWARE_OK : COMMONWARE_ABSENT) && view.index == place);
+}
+
+static void try_committee(const uint8_t *text, size_t length, size_t least, size_t most) {
+    struct rest rest = {text, length};
+    uint32_t count = 0;
+    const uint32_t status = decode_committee(&rest, least, most, &count);
+    const commonware_committee_view view = commonware_committee_read(text, length, least, most);
+    REQUIRE(view.status == status);
+    REQUIRE(status != COMMONWARE_INVALID_LENGTH || view.number == count);
+    if (status != COMMONWARE_OK) {
+        return;
+    }
+    REQUIRE(view.count == count && view.left == rest.length);
+    REQUIRE(view.start + 32 * (size_t)count + rest.length == length);
+    const uint8_t(*members)[32] = (const uint8_t(*)[32])(text + view.start);
+    if (length >= 32) {
+        try_index(members, count, text);
+        try_index(members, count, text + length - 32);
+    }
+    /* From the last to the first, and then all again. */
+    uint8_t(*keys)[32] = room(2 * (size_t)count, 32);
+    for (uint32_t i = 0; i < count; i++) {
+        memcpy(keys[count - 1 - i], members[i], 32);
+        memcpy(keys[count + i], members[i], 32);
+    }
+    const size_t size = length - rest.length;
+    uint8_t *out = room(size, 1);
+    const uint8_t(*given)[32] = (const uint8_t(*)[32])keys;
+    commonware_written_view written = commonware_committee_write(given, 2 * (size_t)count, out, size - 1);
+    REQUIRE(written.status == COMMONWARE_ROOM && written.size == size && out[0] == 0xee);
+    written = commonware_committee_write(given, 2 * (size_t)count, out, size);
+    REQUIRE(written.status == COMMONWARE_OK && written.size == size && written.count == count);
+    REQUIRE(memcmp(out, text, size) == 0 && out[size] == 0xee);
+    free(keys);
+    free(out);
+}
+
+static void try_certificate(const uint8_t *text, size_t length, size_t most_bytes, size_t most_signers) {
+    struct rest rest = {text, length};
+    struct parts parts = {NULL, 0, 0, room(length, sizeof(uint32_t))};
+    uint32_t told = 0;
+    const uint32_t status = decode_certificate(&rest, most_bytes, most_signers, &parts, &told);
+    uint32_t *signers = room(length, sizeof(uint32_t));
+    commonware_certificate_view view =
+        commonware_certificate_read(text, length, most_bytes, most_signers, signers, length);
+    REQUIRE(view.status == status);
+    REQUIRE(status != COMMONWARE_INVALID_LENGTH || view.number == told);
+    REQUIRE(status == COMMONWARE_OK || signers[0] == 0xeeeeeeee);
+    if (status == COMMONWARE_OK) {
+        REQUIRE(view.signers == parts.count && view.left == rest.length);
+        REQUIRE(text + view.value_start == parts.value && view.value_length == parts.value_length);
+        REQUIRE(memcmp(signers, parts.signers, 4 * (size_t)parts.count) == 0);
+        const size_t size = length - rest.length;
+        uint8_t *out = room(size, 1);
+        commonware_written_view written = commonware_certificate_write(
+            parts.value, parts.value_length, signers, parts.count, out, size - 1);
+        REQUIRE(written.status == COMMONWARE_ROOM && written.size == size && out[0] == 0xee);
+        written = commonware_certificate_write(
+            parts.value, parts.value_length, signers, parts.count, out, size);
+        REQUIRE(written.status == COMMONWARE_OK && written.size == size);
+        REQUIRE(memcmp(out, text, size) == 0 && out[size] == 0xee);
+        free(out);
+        if (parts.count > 0) {
+            view = commonware_certificate_read(text, length, most_bytes, most_signers, signers, parts.count - 1);
+            REQUIRE(view.status == COMMONWARE_ROOM && view.signers == parts.count);
+        }
+    }
+    free(parts.signers);
+    free(signers);
+}
+
+/* Indices as they come, which are seldom in order. */
+static void try_indices(const uint8_t *text, size_t length, size_t value_length) {
+    const size_t count = (length - value_length) / 4;
+    uint32_t *signers = room(count, sizeof(uint32_t));
+    memcpy(signers, text + value_length, 4 * count);
+    const size_t most = COMMONWARE_CERTIFICATE_SIZE(value_length, count);
+    uint8_t *out = room(most, 1);
+    size_t place = 1;
+    while (place < count && signers[place - 1] < signers[place]) {
+        place++;
+    }
+    const commonware_written_view view =
+        commonware_certificate_write(text, value_length, signers, count, out, most);
+    if (place < count) {
+        REQUIRE(view.status == COMMONWARE_NOT_STRICT && view.number == place && out[0] == 0xee);
+    } else {
+        REQUIRE(view.status == COMMONWARE_OK);
+        try_certificate(out, view.size, SIZE_MAX, SIZE_MAX);
+    }
+    free(signers);
+    free(out);
+}
+
+static bool has_outsider(const struct parts *parts, uint32_t members) {
+    return parts->count > 0 && parts->signers[parts->count - 1] >= members;
+}
+
+/* What is told of two texts, the second of which begins at a place of one. */
+static void try_conflict(uint32_t k, uint32_t members, const uint8_t *text, size_t length, size_t place) {
+    struct rest rests[2] = {{text, place}, {text + place, length - place}};
+    struct parts parts[2];
+    uint32_t status = COMMONWARE_OK, which = 0;
+    for (uint32_t i = 0; i < 2; i++) {
+        parts[i].signers = room(length, sizeof(uint32_t));
+        parts[i].count = 0;
+        uint32_t told = 0;
+        if (status == COMMONWARE_OK) {
+            status = decode_certificate(&rests[i], SIZE_MAX, SIZE_MAX, &parts[i], &told);
+            status = status == COMMONWARE_OK && rests[i].length > 0 ? COMMONWARE_LEFT_OVER : status;
+            which = status == COMMONWARE_OK ? 0 : i + 1;
+        }
+    }
+    const uint32_t quorum = k < 2 || members == 0 ? 0 : members - (members - 1) / k;
+    size_t both = 0;
+    uint32_t *out = room(length, sizeof(uint32_t));
+    const commonware_conflict_view view =
+        commonware_conflict(k, members, text, place, text + place, length - place, out, length);
+    if (k < 2 || members == 0) {
+        status = k < 2 ? COMMONWARE_NO_MODEL : COMMONWARE_NO_MEMBERS;
+        which = 0;
+    } else if (status == COMMONWARE_OK) {
+        const bool same = parts[0].value_length == parts[1].value_length &&
+                          memcmp(parts[0].value, parts[1].value, parts[0].value_length) == 0;
+        const bool outside = has_outsider(&parts[0], members) || has_outsider(&parts[1], members);
+        const bool few = parts[0].count < quorum || parts[1].count < quorum;
+        status = same      ? COMMONWARE_SAME_VALUE
+                 : outside ? COMMONWARE_OUTSIDE
+                 : few     ? COMMONWARE_TOO_FEW
+                           : COMMONWARE_OK;
+    }
+    REQUIRE(view.status == status && view.which == which);
+    for (uint32_t i = 0; status == COMMONWARE_OK && i < parts[0].count; i++) {
+        for (uint32_t j = 0; j < parts[1].count; j++) {
+            if (parts[0].signers[i] == parts[1].signers[j]) {
+                REQUIRE(out[both++] == parts[0].signers[i]);
+            }
+        }
+    }
+    REQUIRE(status != COMMONWARE_OK || (view.count == both && out[both] == 0xeeeeeeee));
+    REQUIRE(status != COMMONWARE_OK || both >= (k - 2) * ((members - 1) / k) + 1);
+    REQUIRE(status == COMMONWARE_OK || out[0] == 0xeeeeeeee);
+    free(parts[0].signers);
+    free(parts[1].signers);
+    free(out);
+}
+
+int LLVMFuzzerTestOneInput(const uint8_t *data, size_t size) {
+    if (size < 4) {
+        return 0;
+    }
+    const size_t low = data[0], high = data[1], length = size - 3;
+    const uint32_t k = data[2] % 8;
+    uint8_t *text = room(length, 1);
+    memcpy(text, data + 3, length);
+    try_committee(text, length, low, high);
+    try_committee(text, length, 0, SIZE_MAX);
+    try_certificate(text, length, low, high);
+    try_certificate(text, length, SIZE_MAX, SIZE_MAX);
+    try_indices(text, length, low < length ? low : length);
+    try_conflict(k, (uint32_t)high, text, length, low < length ? low : length);
+    free(text);
+    return 0;
+}
+
+#ifdef COMMONWARE_DRIVER
+static uint64_t state = 88172645463325252u;
+
+static size_t below(size_t n) {
+    state ^= state << 13;
+    state ^= state >> 7;
+    state ^= state << 17;
+    return (size_t)(state >> 11) % n;
+}
+
+/* Changes, drops or adds some bytes; the new length. */
+static size_t change(uint8_t *bytes, size_t length, size_t most) {
+    for (size_t changes = 1 + below(4); changes > 0; changes--) {
+        const size_t at = below(length);
+        switch (below(4)) {
+        case 0:
+            bytes[at] = (uint8_t)below(256);
+            break;
+        case 1:
+            bytes[at] ^= (uint8_t)(1 << below(8));
+            break;
+        case 2:
+            length = length > 4 ? length - 1 : length;
+            break;
+        default:
+            if (length < most) {
+                memmove(bytes + at + 1, bytes + at, length - at);
+                length++;
+            }
+        }
+    }
+    return length;
+}
+
+int main(int argc, char **argv) {
+    static uint8_t bytes[1 << 16], changed[1 << 16];
+    const long changes = argc > 1 ? strtol(argv[1], NULL, 10) : 0;
+    unsigned long tried = 0;
+    for (int i = 2; i < argc; i++) {
+        FILE *file = fopen(argv[i], "rb");
+        REQUIRE(file != NULL);
+        const size_t length = fread(bytes, 1, sizeof bytes / 2, file);
+        REQUIRE(fclose(file) == 0 && length > 0);
+        LLVMFuzzerTestOneInput(bytes, length);
+        tried++;
+        for (long j = 0; j < changes; j++) {
+            memcpy(changed, bytes, length);
+            LLVMFuzzerTestOneInput(changed, change(changed, length, sizeof changed));
+            tried++;
+        }
+    }
+    printf("%lu inputs\n", tried);
+    return 0;
+}
+#endif

@@ -1,0 +1,323 @@
+/* Calls each function: what it answers and refuses, at the end of a readable page too, and with each
+ * request for memory refused in turn. Prints what failed, and ends with 0 where nothing did. */
+#define _DEFAULT_SOURCE
+#include "commonware.h"
+
+#include <stdbool.h>
+#include <stdio.h>
+#include <stdlib.h>
+#include <string.h>
+#include <sys/mman.h>
+#include <unistd.h>
+
+static int failed;
+
+static void check(bool holds, const char *what, int line) {
+    if (!holds) {
+        printf("test.c:%d: %s\n", line, what);
+        failed++;
+    }
+}
+
+#define CHECK(condition) check((condition), #condition, __LINE__)
+
+/* In place of the archive's heap: one that refuses the request of a number, and all after it. */
+struct tried {
+    bool ok;
+    unsigned char *block;
+};
+
+struct tried rattle_alloc(size_t size, size_t align);
+struct tried rattle_realloc(unsigned char *block, size_t kept, size_t size, size_t align);
+void rattle_dealloc(unsigned char *block);
+
+static size_t requests, allowed = SIZE_MAX, live;
+static unsigned char no_block;
+
+static struct tried tried(unsigned char *block) {
+    const struct tried answer = {block != NULL, block != NULL ? block : &no_block};
+    return answer;
+}
+
+struct tried rattle_alloc(size_t size, size_t align) {
+    if (requests++ >= allowed) {
+        return tried(NULL);
+    }
+    live++;
+    return tried(malloc(size != 0 ? size : align));
+}
+
+struct tried rattle_realloc(unsigned char *block, size_t kept, size_t size, size_t align) {
+    (void)kept;
+    if (requests++ >= allowed) {
+        return tried(NULL);
+    }
+    return tried(realloc(block, size != 0 ? size : align));
+}
+
+void rattle_dealloc(unsigned char *block) {
+    live--;
+    free(block);
+}
+
+#define OF(array) (array), sizeof(array) / sizeof *(array)
+
+/* Two certificates for different values, by 0, 1, 2 and by 1, 2, 3. */
+static const uint8_t first[] = {1, 0xaa, 3, 0, 1, 2}, second[] = {1, 0xbb, 3, 1, 2, 3};
+
+static void test_numbers(void) {
+    CHECK(commonware_max_faults(COMMONWARE_N3F1, 4) == 1);
+    CHECK(commonware_quorum(COMMONWARE_N3F1, 4) == 3);
+    CHECK(commonware_max_faults(COMMONWARE_N5F1, 10) == 1);
+    CHECK(commonware_quorum(COMMONWARE_N5F1, 10) == 9);
+    CHECK(commonware_smaller_quorum(COMMONWARE_N5F1, 10) == 3);
+    CHECK(commonware_max_faults(7, 20) == 2);
+    CHECK(commonware_max_faults(3, UINT32_MAX) == 1431655764);
+    CHECK(commonware_quorum(2, UINT32_MAX) == 2147483648u);
+    CHECK(commonware_smaller_quorum(2, UINT32_MAX) == UINT32_MAX);
+    CHECK(commonware_max_faults(UINT32_MAX, UINT32_MAX) == 0);
+    for (uint32_t k = 0; k < 4; k++) {
+        CHECK(commonware_max_faults(k, 0) == 0);
+        CHECK(commonware_quorum(k, 0) == 0);
+        CHECK(commonware_smaller_quorum(k, 0) == 0);
+    }
+    for (uint32_t k = 0; k < 2; k++) {
+        CHECK(commonware_max_faults(k, 9) == 0);
+        CHECK(commonware_quorum(k, 9) == 0);
+        CHECK(commonware_smaller_quorum(k, 9) == 0);
+    }
+}
+
+static void test_committee(void) {
+    uint8_t keys[5][32];
+    for (size_t i = 0; i < 5; i++) {
+        memset(keys[i], (int)(7 * i % 4), 32);
+    }
+    const uint8_t(*members)[32] = (const uint8_t(*)[32])keys;
+    uint8_t text[COMMONWARE_COMMITTEE_SIZE(5)];
+    const commonware_written_view written = commonware_committee_write(members, 5, OF(text));
+    CHECK(written.status == COMMONWARE_OK && written.count == 4 && written.size == 1 + 4 * 32);
+    CHECK(text[0] == 4 && text[1] == 0 && text[33] == 1 && text[97] == 3 && text[128] == 3);
+
+    commonware_committee_view view = commonware_committee_read(text, written.size + 3, 1, 256);
+    CHECK(view.status == COMMONWARE_OK && view.count == 4 && view.start == 1 && view.left == 3);
+    view = commonware_committee_read(text, written.size - 1, 1, 256);
+    CHECK(view.status == COMMONWARE_END_OF_INPUT);
+    view = commonware_committee_read(text, written.size, 5, 256);
+    CHECK(view.status == COMMONWARE_INVALID_LENGTH && view.number == 4);
+    view = commonware_committee_read(text, written.size, 256, 1);
+    CHECK(view.status == COMMONWARE_INVALID_LENGTH && view.number == 4);
+    text[40] ^= 255;
+    view = commonware_committee_read(text, written.size, 0, SIZE_MAX);
+    CHECK(view.status == COMMONWARE_OK);
+    text[33] = 0;
+    view = commonware_committee_read(text, written.size, 0, SIZE_MAX);
+    CHECK(view.status == COMMONWARE_OK);
+    text[40] ^= 255;
+    memset(text + 33, 0, 32);
+    view = commonware_committee_read(text, written.size, 0, SIZE_MAX);
+    CHECK(view.status == COMMONWARE_NOT_STRICT);
+    const uint8_t overlong[] = {0x80, 0}, past[] = {255, 255, 255, 255, 16};
+    CHECK(commonware_committee_read(OF(overlong), 0, 9).status == COMMONWARE_INVALID_VARINT);
+    CHECK(commonware_committee_read(OF(past), 0, 9).status == COMMONWARE_INVALID_VARINT);
+    const uint8_t most[] = {255, 255, 255, 255, 15};
+    view = commonware_committee_read(OF(most), 0, 9);
+    CHECK(view.status == COMMONWARE_INVALID_LENGTH && view.number == UINT32_MAX);
+    view = commonware_committee_read(OF(most), 0, SIZE_MAX);
+    CHECK(view.status == COMMONWARE_END_OF_INPUT);
+    view = commonware_committee_read(NULL, 0, 0, 9);
+    CHECK(view.status == COMMONWARE_END_OF_INPUT);
+
+    uint8_t room[128];
+    memset(room, 0xee, sizeof room);
+    const commonware_written_view refused = commonware_committee_write(members, 5, OF(room));
+    CHECK(refused.status == COMMONWARE_ROOM && refused.size == 129 && refused.count == 4);
+    CHECK(room[0] == 0xee && memcmp(room, room + 1, sizeof room - 1) == 0);
+    CHECK(commonware_committee_write(members, 5, NULL, 0).status == COMMONWARE_ROOM);
+    const commonware_written_view none = commonware_committee_write(NULL, 0, OF(room));
+    CHECK(none.status == COMMONWARE_OK && none.size == 1 && room[0] == 0 && room[1] == 0xee);
+}
+
+static void test_index(void) {
+    uint8_t keys[3][32] = {{1}, {3}, {3, 0, 7}};
+    const uint8_t(*members)[32] = (const uint8_t(*)[32])keys;
+    const uint8_t sought[5][32] = {{0}, {3}, {3, 0, 7}, {2}, {9}};
+    const uint32_t statuses[5] = {12, 0, 0, 12, 12};
+    const size_t indices[5] = {0, 1, 2, 1, 3};
+    for (size_t i = 0; i < 5; i++) {
+        const commonware_place_view view = commonware_committee_index(members, 3, &sought[i]);
+        CHECK(view.status == statuses[i] && view.index == indices[i]);
+    }
+    const commonware_place_view none = commonware_committee_index(NULL, 0, &sought[0]);
+    CHECK(none.status == COMMONWARE_ABSENT && none.index == 0);
+}
+
+static void test_certificate(void) {
+    uint32_t signers[4] = {9, 9, 9, 9};
+    commonware_certificate_view view = commonware_certificate_read(OF(first), 32, 256, OF(signers));
+    CHECK(view.status == COMMONWARE_OK && view.signers == 3 && view.left == 0);
+    CHECK(view.value_start == 1 && view.value_length == 1);
+    CHECK(signers[0] == 0 && signers[1] == 1 && signers[2] == 2 && signers[3] == 9);
+    memset(signers, 0xee, sizeof signers);
+    view = commonware_certificate_read(OF(first), 32, 256, signers, 2);
+    CHECK(view.status == COMMONWARE_ROOM && view.signers == 3 && signers[0] == 0xeeeeeeee);
+    CHECK(view.value_start == 1 && view.value_length == 1);
+    view = commonware_certificate_read(OF(first), 32, 256, NULL, 0);
+    CHECK(view.status == COMMONWARE_ROOM && view.signers == 3);
+    view = commonware_certificate_read(OF(first), 0, 256, OF(signers));
+    CHECK(view.status == COMMONWARE_INVALID_LENGTH && view.number == 1);
+    view = commonware_certificate_read(OF(first), 32, 2, OF(signers));
+    CHECK(view.status == COMMONWARE_INVALID_LENGTH && view.number == 3);
+    view = commonware_certificate_read(first, 5, 32, 256, OF(signers));
+    CHECK(view.status == COMMONWARE_END_OF_INPUT);
+    view = commonware_certificate_read(NULL, 0, 32, 256, OF(signers));
+    CHECK(view.status == COMMONWARE_END_OF_INPUT && signers[0] == 0xeeeeeeee);
+
+    const uint32_t indices[] = {0, 1, 2}, twice[] = {4, 5, 5}, large[] = {127, 128, UINT32_MAX};
+    uint8_t text[COMMONWARE_CERTIFICATE_SIZE(1, 3)];
+    memset(text, 0xee, sizeof text);
+    commonware_written_view written = commonware_certificate_write(first + 1, 1, OF(twice), OF(text));
+    CHECK(written.status == COMMONWARE_NOT_STRICT && written.number == 2 && text[0] == 0xee);
+    written = commonware_certificate_write(first + 1, 1, OF(indices), text, 5);
+    CHECK(written.status == COMMONWARE_ROOM && written.size == 6 && text[0] == 0xee);
+    written = commonware_certificate_write(first + 1, 1, OF(indices), OF(text));
+    CHECK(written.status == COMMONWARE_OK && written.size == 6 && written.count == 3);
+    CHECK(memcmp(text, first, 6) == 0 && text[6] == 0xee);
+    written = commonware_certificate_write(first + 1, 1, OF(large), OF(text));
+    const uint8_t spelt[] = {1, 0xaa, 3, 127, 128, 1, 255, 255, 255, 255, 15};
+    CHECK(written.status == COMMONWARE_OK && written.size == sizeof spelt);
+    CHECK(memcmp(text, spelt, sizeof spelt) == 0);
+    written = commonware_certificate_write(NULL, 0, NULL, 0, OF(text));
+    CHECK(written.status == COMMONWARE_OK && written.size == 2 && text[0] == 0 && text[1] == 0);
+    CHECK(commonware_certificate_write(NULL, 0, NULL, 0, NULL, 0).status == COMMONWARE_ROOM);
+}
+
+static void test_conflict(void) {
+    uint32_t out[4] = {9, 9, 9, 9};
+    commonware_conflict_view view = commonware_conflict(3, 4, OF(first), OF(second), OF(out));
+    CHECK(view.status == COMMONWARE_OK && view.count == 2 && view.which == 0);
+    CHECK(out[0] == 1 && out[1] == 2 && out[2] == 9);
+    view = commonware_conflict(3, 4, OF(first), OF(second), out, 1);
+    CHECK(view.status == COMMONWARE_ROOM && view.count == 2 && out[0] == 1);
+    view = commonware_conflict(5, 4, OF(first), OF(second), OF(out));
+    CHECK(view.status == COMMONWARE_TOO_FEW);
+    view = commonware_conflict(3, 3, OF(first), OF(second), OF(out));
+    CHECK(view.status == COMMONWARE_OUTSIDE);
+    view = commonware_conflict(3, 4, OF(first), OF(first), OF(out));
+    CHECK(view.status == COMMONWARE_SAME_VALUE);
+    view = commonware_conflict(3, 0, OF(first), OF(second), OF(out));
+    CHECK(view.status == COMMONWARE_NO_MEMBERS);
+    view = commonware_conflict(1, 0, OF(first), OF(second), OF(out));
+    CHECK(view.status == COMMONWARE_NO_MODEL);
+    view = commonware_conflict(3, 4, first, 5, second, 5, OF(out));
+    CHECK(view.status == COMMONWARE_END_OF_INPUT && view.which == 1);
+    view = commonware_conflict(3, 4, OF(first), second, 5, OF(out));
+    CHECK(view.status == COMMONWARE_END_OF_INPUT && view.which == 2);
+    const uint8_t longer[] = {1, 0xbb, 3, 1, 2, 3, 0, 0};
+    view = commonware_conflict(3, 4, OF(first), OF(longer), OF(out));
+    CHECK(view.status == COMMONWARE_LEFT_OVER && view.which == 2 && view.number == 2);
+    view = commonware_conflict(3, 4, NULL, 0, NULL, 0, NULL, 0);
+    CHECK(view.status == COMMONWARE_END_OF_INPUT && view.which == 1);
+    CHECK(out[0] == 1 && out[1] == 2 && out[2] == 9);
+}
+
+/* Every text up to some length stands before a page that can't be read, with each room before one that
+ * can't be written. */
+static void test_pages(void) {
+    const size_t page = (size_t)sysconf(_SC_PAGESIZE);
+    uint8_t *const pages = mmap(NULL, 4 * page, PROT_READ | PROT_WRITE, MAP_PRIVATE | MAP_ANONYMOUS, -1, 0);
+    CHECK(pages != MAP_FAILED);
+    CHECK(mprotect(pages + page, page, PROT_NONE) == 0);
+    CHECK(mprotect(pages + 3 * page, page, PROT_NONE) == 0);
+    uint8_t committee[1 + 3 * 32] = {3};
+    committee[33] = 1;
+    committee[65] = 2;
+    for (size_t length = 0; length <= sizeof committee; length++) {
+        uint8_t *const text = pages + page - length;
+        memcpy(text, committee, length);
+        const uint32_t status = commonware_committee_read(text, length, 0, 9).status;
+        CHECK(status == (length < sizeof committee ? COMMONWARE_END_OF_INPUT : COMMONWARE_OK));
+    }
+    const uint8_t(*members)[32] = (const uint8_t(*)[32])(pages + page - 96);
+    CHECK(commonware_committee_index(members, 3, members + 2).index == 2);
+    uint8_t *const room = pages + 3 * page;
+    CHECK(commonware_committee_write(members, 3, room - 97, 97).status == COMMONWARE_OK);
+    CHECK(commonware_committee_write(members, 3, room - 96, 96).status == COMMONWARE_ROOM);
+    CHECK(memcmp(room - 97, committee, 97) == 0);
+    for (size_t length = 0; length <= sizeof first; length++) {
+        uint8_t *const text = pages + page - length;
+        memcpy(text, first, length);
+        uint32_t *const out = (uint32_t *)(void *)room - 3;
+        const uint32_t status = commonware_certificate_read(text, length, 9, 9, out, 3).status;
+        CHECK(status == (length < sizeof first ? COMMONWARE_END_OF_INPUT : COMMONWARE_OK));
+    }
+    const uint32_t *const indices = (const uint32_t *)(const void *)room - 3;
+    CHECK(commonware_certificate_write(first + 1, 1, indices, 3, pages + page - 6, 6).status == 0);
+    CHECK(memcmp(pages + page - 6, first, 6) == 0);
+    CHECK(munmap(pages, 4 * page) == 0);
+}
+
+/* Lengths past 2^32, over zeros that no one has to hold. */
+static void test_long(void) {
+    const size_t limit = (size_t)1 << 32;
+    uint8_t *const zeros = mmap(NULL, 4 * limit, PROT_READ, MAP_PRIVATE | MAP_ANONYMOUS | MAP_NORESERVE, -1, 0);
+    if (zeros == MAP_FAILED) {
+        puts("no room for lengths past 2^32");
+        return;
+    }
+    uint8_t out[3] = {9, 9, 9};
+    commonware_written_view written = commonware_certificate_write(zeros, limit, NULL, 0, OF(out));
+    CHECK(written.status == COMMONWARE_INVALID_LENGTH && written.number == limit && out[0] == 9);
+    const uint32_t *const indices = (const uint32_t *)(const void *)zeros;
+    written = commonware_certificate_write(zeros, 0, indices, limit, OF(out));
+    CHECK(written.status == COMMONWARE_INVALID_LENGTH && written.number == limit && out[0] == 9);
+    written = commonware_certificate_write(zeros, limit - 1, NULL, 0, OF(out));
+    CHECK(written.status == COMMONWARE_ROOM && written.size == limit + 5 && out[0] == 9);
+    const commonware_committee_view view = commonware_committee_read(zeros, 2 * limit, 0, SIZE_MAX);
+    CHECK(view.status == COMMONWARE_OK && view.count == 0 && view.left == 2 * limit - 1);
+    CHECK(munmap(zeros, 4 * limit) == 0);
+}
+
+/* Each request refused in turn, with all after it, until a run has none refused. */
+static void test_memory(void) {
+    uint8_t keys[5][32] = {{5}, {4}, {3}, {2}, {1}};
+    const uint8_t(*members)[32] = (const uint8_t(*)[32])keys;
+    uint8_t committee[COMMONWARE_COMMITTEE_SIZE(5)];
+    uint32_t out[4];
+    for (int call = 0; call < 6; call++) {
+        for (allowed = 0;; allowed++) {
+            requests = 0;
+            memset(out, 0xee, sizeof out);
+            memset(committee, 0xee, sizeof committee);
+            committee[0] = 0;
+            const uint32_t status =
+                call == 0   ? commonware_committee_write(members, 5, OF(committee)).status
+                : call == 1 ? commonware_certificate_read(OF(first), 32, 256, OF(out)).status
+                : call == 2 ? commonware_conflict(3, 4, OF(first), OF(second), OF(out)).status
+                : call == 3 ? commonware_committee_read(OF(committee), 0, 256).status
+                : call == 4 ? commonware_committee_index(members, 0, members).status - COMMONWARE_ABSENT
+                            : commonware_certificate_write(NULL, 0, NULL, 0, OF(committee)).status;
+            CHECK(live == 0);
+            if (status == COMMONWARE_OK) {
+                break;
+            }
+            CHECK(status == COMMONWARE_MEMORY && out[0] == 0xeeeeeeee && committee[1] == 0xee);
+        }
+        CHECK(allowed == requests && (allowed > 0) == (call < 3));
+        printf("call %d: each of %zu requests refused\n", call, allowed);
+    }
+    allowed = SIZE_MAX;
+}
+
+int main(void) {
+    test_numbers();
+    test_committee();
+    test_index();
+    test_certificate();
+    test_conflict();
+    test_pages();
+    test_long();
+    test_memory();
+    printf("%d failed\n", failed);
+    return failed != 0;
+}

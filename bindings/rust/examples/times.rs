@@ -1,0 +1,240 @@
+//! Nanoseconds a call, through the static library and by plain Rust that does the same checks. Hold it
+//! to one core (taskset).
+
+use commonware_proved::{Certificate, Committee, FaultModel, Member, conflict};
+use std::hint::black_box;
+use std::time::Instant;
+
+/// The number at the front, and how many bytes it takes.
+fn varint(text: &[u8]) -> Option<(u32, usize)> {
+    let mut n = 0u64;
+    for i in 0..5 {
+        let b = *text.get(i)?;
+        n |= u64::from(b & 127) << (7 * i);
+        if b < 128 {
+            if (b == 0 && i > 0) || n > u64::from(u32::MAX) {
+                return None;
+            }
+            return Some((n as u32, i + 1));
+        }
+    }
+    None
+}
+
+/// The members where they stand, and what follows them.
+#[inline(never)]
+fn plain_view(text: &[u8], least: usize, most: usize) -> Option<(&[Member], &[u8])> {
+    let (count, start) = varint(text)?;
+    let count = count as usize;
+    if count < least || most < count {
+        return None;
+    }
+    let rest = &text[start..];
+    let size = count.checked_mul(32)?;
+    if rest.len() < size {
+        return None;
+    }
+    let (members, _) = rest[..size].as_chunks::<32>();
+    if members.windows(2).any(|w| w[0] >= w[1]) {
+        return None;
+    }
+    Some((members, &rest[size..]))
+}
+
+/// The same into a list, item by item.
+#[inline(never)]
+fn plain_list(text: &[u8], least: usize, most: usize) -> Option<(Vec<Member>, &[u8])> {
+    let (count, start) = varint(text)?;
+    let count = count as usize;
+    if count < least || most < count {
+        return None;
+    }
+    let mut rest = &text[start..];
+    let mut members: Vec<Member> = Vec::with_capacity(count.min(rest.len() / 32));
+    for _ in 0..count {
+        let (member, more) = rest.split_first_chunk::<32>()?;
+        members.push(*member);
+        rest = more;
+    }
+    if members.windows(2).any(|w| w[0] >= w[1]) {
+        return None;
+    }
+    Some((members, rest))
+}
+
+#[inline(never)]
+fn plain_write(members: &[Member]) -> Vec<u8> {
+    let mut items = members.to_vec();
+    items.sort();
+    items.dedup();
+    let mut n = items.len();
+    let mut out = Vec::with_capacity(5 + 32 * n);
+    while n >= 128 {
+        out.push((n % 128 + 128) as u8);
+        n /= 128;
+    }
+    out.push(n as u8);
+    out.extend(items.iter().flatten());
+    out
+}
+
+#[inline(never)]
+fn plain_index(members: &[Member], key: &Member) -> Option<usize> {
+    members.binary_search(key).ok()
+}
+
+#[inline(never)]
+fn plain_quorum(k: u32, n: u32) -> u32 {
+    if k < 2 || n == 0 { 0 } else { n - (n - 1) / k }
+}
+
+/// Nanoseconds a call in each of some runs, in order.
+fn sample(rounds: u32, f: &mut dyn FnMut()) -> f64 {
+    let start = Instant::now();
+    for _ in 0..rounds {
+        f();
+    }
+    start.elapsed().as_nanos() as f64 / f64::from(rounds)
+}
+
+/// How many runs each time and each ratio is the median of. They are short, so that what else the
+/// processor does falls into few of them.
+const RUNS: usize = 401;
+
+/// Prints the medians of both, and the median of the ratios of neighbouring runs with its quartiles.
+fn compare(name: &str, rounds: u32, mut ours: impl FnMut(), mut plain: impl FnMut()) {
+    let mut runs: Vec<(f64, f64)> = (0..RUNS)
+        .map(|_| (sample(rounds, &mut ours), sample(rounds, &mut plain)))
+        .collect();
+    let mut ratios: Vec<f64> = runs.iter().map(|(a, b)| a / b).collect();
+    ratios.sort_by(f64::total_cmp);
+    let mut median = |of: fn(&(f64, f64)) -> f64| {
+        runs.sort_by(|a, b| of(a).total_cmp(&of(b)));
+        of(&runs[RUNS / 2])
+    };
+    let (a, b) = (median(|run| run.0), median(|run| run.1));
+    let (low, middle, high) = (ratios[RUNS / 4], ratios[RUNS / 2], ratios[RUNS * 3 / 4]);
+    println!("{name:<34} {a:>9.1} ns {b:>9.1} ns  {middle:.2} ({low:.2} to {high:.2})");
+}
+
+/// `n` random keys.
+fn random_keys(seed: &mut u64, n: u32) -> Vec<Member> {
+    let mut next = || {
+        *seed ^= *seed << 13;
+        *seed ^= *seed >> 7;
+        *seed ^= *seed << 17;
+        seed.to_le_bytes()
+    };
+    (0..n)
+        .map(|_| {
+            let mut key = [0; 32];
+            for part in key.chunks_mut(8) {
+                part.copy_from_slice(&next());
+            }
+            key
+        })
+        .collect()
+}
+
+fn main() {
+    println!(
+        "{:<34} {:>12} {:>12}  ratio (quartiles)",
+        "", "library", "plain Rust"
+    );
+    compare(
+        "quorum",
+        10_000,
+        || {
+            black_box(FaultModel::N3F1.quorum(black_box(100)));
+        },
+        || {
+            black_box(plain_quorum(black_box(3), black_box(100)));
+        },
+    );
+    let mut seed = 1;
+    for n in [4, 100, 256] {
+        let keys = random_keys(&mut seed, n);
+        let bytes = Committee::encode(&keys).unwrap();
+        assert_eq!(bytes, plain_write(&keys));
+        let rounds = 8_000 / n;
+        let read = || {
+            black_box(Committee::read(black_box(&bytes), 1..=256)).unwrap();
+        };
+        compare(&format!("read {n}, to in place"), rounds, read, || {
+            black_box(plain_view(black_box(&bytes), 1, 256)).unwrap();
+        });
+        compare(&format!("read {n}, to into a list"), rounds, read, || {
+            black_box(plain_list(black_box(&bytes), 1, 256)).unwrap();
+        });
+        let committee = Committee::try_from(&bytes[..]).unwrap();
+        compare(
+            &format!("index of each of {n}"),
+            1 + rounds / 20,
+            || {
+                for key in &keys {
+                    black_box(committee.index_of(black_box(key)));
+                }
+            },
+            || {
+                for key in &keys {
+                    black_box(plain_index(committee.members(), black_box(key)));
+                }
+            },
+        );
+        compare(
+            &format!("write {n} random keys"),
+            1 + rounds / 40,
+            || drop(black_box(Committee::encode(black_box(&keys))).unwrap()),
+            || drop(black_box(plain_write(black_box(&keys)))),
+        );
+        conflicts(n, 1 + rounds / 4);
+    }
+}
+
+/// Two certificates that all of n members signed.
+fn conflicts(n: u32, rounds: u32) {
+    let signers: Vec<u32> = (0..n).collect();
+    let texts = [b"a", b"b"].map(|value| Certificate::encode(value, &signers).unwrap());
+    compare(
+        &format!("conflict of {n}"),
+        rounds,
+        || drop(black_box(conflict(FaultModel::N3F1, n, &texts[0], &texts[1])).unwrap()),
+        || drop(black_box(plain_conflict(n, &texts[0], &texts[1])).unwrap()),
+    );
+}
+
+/// The value and the signers of a text that is a certificate and nothing more.
+fn plain_parts(text: &[u8]) -> Option<(&[u8], Vec<u32>)> {
+    let (length, start) = varint(text)?;
+    let (value, rest) = text[start..].split_at_checked(length as usize)?;
+    let (count, start) = varint(rest)?;
+    let mut rest = &rest[start..];
+    let mut signers = Vec::with_capacity((count as usize).min(rest.len()));
+    for _ in 0..count {
+        let (signer, size) = varint(rest)?;
+        signers.push(signer);
+        rest = &rest[size..];
+    }
+    let strict = signers.windows(2).all(|w| w[0] < w[1]);
+    (strict && rest.is_empty()).then_some((value, signers))
+}
+
+#[inline(never)]
+fn plain_conflict(n: u32, first: &[u8], second: &[u8]) -> Option<Vec<u32>> {
+    let (x, a) = plain_parts(first)?;
+    let (y, b) = plain_parts(second)?;
+    let quorum = plain_quorum(3, n) as usize;
+    let outside = a.iter().chain(&b).any(|i| *i >= n);
+    if x == y || outside || a.len() < quorum || b.len() < quorum {
+        return None;
+    }
+    let mut others = b.iter().peekable();
+    let mut both = Vec::with_capacity(a.len().min(b.len()));
+    for i in a {
+        while others.next_if(|j| **j < i).is_some() {}
+        if others.peek() == Some(&&i) {
+            both.push(i);
+        }
+    }
+    Some(both)
+}

@@ -1,0 +1,35 @@
+//! Committees, certificates and quorums of consensus nodes: how many of n participants may be
+//! faulty, the bytes of committees and of certificates, and the members that signed two different
+//! values.
+//!
+//! Each call is one call of the static library `commonware_c`, which is written in Rattle and whose
+//! contracts are proved; nothing is decided here. No call panics, and no call aborts for want of
+//! memory: that is an error, which says nothing of what was given.
+//!
+//! ```
+//! use commonware_proved::{Certificate, Committee, FaultModel, conflict};
+//!
+//! let bytes = Committee::encode(&[[7; 32], [1; 32], [3; 32], [5; 32]])?;
+//! let committee = Committee::try_from(&bytes[..])?;
+//! assert_eq!(committee.index_of(&[7; 32]), Some(3));
+//! assert_eq!(committee.quorum(FaultModel::N3F1), Some(3));
+//!
+//! let first = Certificate::encode(b"block 1", &[0, 1, 2])?;
+//! let second = Certificate::encode(b"block 2", &[1, 2, 3])?;
+//! assert_eq!(conflict(FaultModel::N3F1, 4, &first, &second)?, [1, 2]);
+//! # Ok::<(), Box<dyn std::error::Error>>(())
+//! ```
+
+mod certificate;
+mod committee;
+mod conflict;
+mod error;
+mod faults;
+mod raw;
+mod room;
+
+pub use certificate::Certificate;
+pub use committee::{Committee, MEMBER_SIZE, Member};
+pub use conflict::{ConflictError, conflict};
+pub use error::{EncodeError, Refusal};
+pub use faults::FaultModel;

@@ -1,0 +1,102 @@
+//! The functions of the static library, as `bindings/c/commonware.h` declares them. `.ci/native`
+//! compares the names and the numbers of arguments with the header's and with the library's own.
+
+use crate::Member;
+
+#[repr(C)]
+#[derive(Clone, Copy)]
+pub struct CommitteeView {
+    pub status: u32,
+    pub count: u32,
+    pub number: usize,
+    pub start: usize,
+    pub left: usize,
+}
+
+#[repr(C)]
+#[derive(Clone, Copy)]
+pub struct PlaceView {
+    pub status: u32,
+    pub index: usize,
+}
+
+#[repr(C)]
+#[derive(Clone, Copy)]
+pub struct WrittenView {
+    pub status: u32,
+    pub count: usize,
+    pub number: usize,
+    pub size: usize,
+}
+
+#[repr(C)]
+#[derive(Clone, Copy)]
+pub struct CertificateView {
+    pub status: u32,
+    pub signers: u32,
+    pub number: usize,
+    pub value_start: usize,
+    pub value_length: usize,
+    pub left: usize,
+}
+
+#[repr(C)]
+#[derive(Clone, Copy)]
+pub struct ConflictView {
+    pub status: u32,
+    pub which: u32,
+    pub number: usize,
+    pub count: usize,
+}
+
+unsafe extern "C" {
+    // These take numbers alone, and answer each.
+    pub safe fn commonware_max_faults(k: u32, n: u32) -> u32;
+    pub safe fn commonware_quorum(k: u32, n: u32) -> u32;
+    pub safe fn commonware_smaller_quorum(k: u32, n: u32) -> u32;
+
+    // A pointer and the length after it are those of one slice, and `out` overlaps no other.
+    pub fn commonware_committee_read(
+        text: *const u8,
+        text_length: usize,
+        least: usize,
+        most: usize,
+    ) -> CommitteeView;
+    pub fn commonware_committee_index(
+        members: *const Member,
+        members_length: usize,
+        key: *const Member,
+    ) -> PlaceView;
+    pub fn commonware_committee_write(
+        members: *const Member,
+        members_length: usize,
+        out: *mut u8,
+        out_length: usize,
+    ) -> WrittenView;
+    pub fn commonware_certificate_read(
+        text: *const u8,
+        text_length: usize,
+        most_bytes: usize,
+        most_signers: usize,
+        out: *mut u32,
+        out_length: usize,
+    ) -> CertificateView;
+    pub fn commonware_certificate_write(
+        value: *const u8,
+        value_length: usize,
+        signers: *const u32,
+        signers_length: usize,
+        out: *mut u8,
+        out_length: usize,
+    ) -> WrittenView;
+    pub fn commonware_conflict(
+        k: u32,
+        members: u32,
+        first: *const u8,
+        first_length: usize,
+        second: *const u8,
+        second_length: usize,
+        out: *mut u32,
+        out_length: usize,
+    ) -> ConflictView;
+}

@@ -1,0 +1,153 @@
+//! Each request for memory is refused in turn, with all after it: nothing is lost, and all is given back.
+//!
+//! The three functions of the heap are defined here, in place of those of the archive.
+
+use commonware_proved::{
+    Certificate, Committee, ConflictError, EncodeError, FaultModel, Refusal, conflict,
+};
+use std::cell::Cell;
+use std::ptr::NonNull;
+
+unsafe extern "C" {
+    fn malloc(size: usize) -> *mut u8;
+    fn realloc(block: *mut u8, size: usize) -> *mut u8;
+    fn free(block: *mut u8);
+}
+
+thread_local! {
+    static REQUESTS: Cell<usize> = const { Cell::new(0) };
+    static ALLOWED: Cell<usize> = const { Cell::new(usize::MAX) };
+    static LIVE: Cell<usize> = const { Cell::new(0) };
+}
+
+#[repr(C)]
+struct Tried {
+    ok: bool,
+    block: NonNull<u8>,
+}
+
+fn tried(block: *mut u8) -> Tried {
+    match NonNull::new(block) {
+        Some(block) => Tried { ok: true, block },
+        None => Tried {
+            ok: false,
+            block: NonNull::dangling(),
+        },
+    }
+}
+
+/// Whether one more request is let through.
+fn is_allowed() -> bool {
+    let requests = REQUESTS.get();
+    REQUESTS.set(requests + 1);
+    requests < ALLOWED.get()
+}
+
+#[unsafe(no_mangle)]
+extern "C" fn rattle_alloc(size: usize, align: usize) -> Tried {
+    if !is_allowed() {
+        return tried(std::ptr::null_mut());
+    }
+    LIVE.set(LIVE.get() + 1);
+    // SAFETY: `malloc` takes any size.
+    tried(unsafe { malloc(size.max(align)) })
+}
+
+/// # Safety
+///
+/// `block` came from one of these functions, and wasn't given back.
+#[unsafe(no_mangle)]
+unsafe extern "C" fn rattle_realloc(
+    block: *mut u8,
+    _kept: usize,
+    size: usize,
+    align: usize,
+) -> Tried {
+    if !is_allowed() {
+        return tried(std::ptr::null_mut());
+    }
+    // SAFETY: as the caller promises.
+    tried(unsafe { realloc(block, size.max(align)) })
+}
+
+/// # Safety
+///
+/// As for `rattle_realloc`.
+#[unsafe(no_mangle)]
+unsafe extern "C" fn rattle_dealloc(block: *mut u8) {
+    LIVE.set(LIVE.get() - 1);
+    // SAFETY: as the caller promises.
+    unsafe { free(block) }
+}
+
+/// Makes the call with each request refused in turn, until one run has none refused; how many
+/// requests there are.
+fn refuse_each<T, E: PartialEq + std::fmt::Debug>(
+    refused: &E,
+    call: impl Fn() -> Result<T, E>,
+) -> usize {
+    for allowed in 0.. {
+        REQUESTS.set(0);
+        ALLOWED.set(allowed);
+        let result = call();
+        ALLOWED.set(usize::MAX);
+        assert_eq!(LIVE.get(), 0, "a block is lost after {allowed} requests");
+        match result {
+            Ok(_) => {
+                assert_eq!(REQUESTS.get(), allowed);
+                return allowed;
+            }
+            Err(error) => assert_eq!(&error, refused, "after {allowed} requests"),
+        }
+    }
+    unreachable!("some run has no request refused")
+}
+
+#[test]
+fn a_committee_is_read_without_memory() {
+    let bytes = Committee::encode(&[[2; 32], [1; 32]]).unwrap();
+    let requests = refuse_each(&Refusal::Memory, || Committee::try_from(&bytes[..]));
+    assert_eq!(requests, 0);
+    let committee = Committee::try_from(&bytes[..]).unwrap();
+    assert_eq!(
+        refuse_each(&(), || committee.index_of(&[2; 32]).ok_or(())),
+        0
+    );
+}
+
+#[test]
+fn a_committee_is_written_or_memory_is_told() {
+    let keys: Vec<_> = (0..200u8).rev().map(|i| [i; 32]).collect();
+    let requests = refuse_each(&EncodeError::Memory, || Committee::encode(&keys));
+    assert!(requests > 0);
+}
+
+#[test]
+fn a_certificate_is_written_without_memory() {
+    let signers: Vec<u32> = (0..200).collect();
+    let requests = refuse_each(&EncodeError::Memory, || Certificate::encode(b"x", &signers));
+    assert_eq!(requests, 0);
+}
+
+#[test]
+fn a_certificate_is_read_or_memory_is_told() {
+    let signers: Vec<u32> = (0..5_000).collect();
+    let bytes = Certificate::encode(&[7; 100], &signers).unwrap();
+    let requests = refuse_each(&Refusal::Memory, || Certificate::try_from(&bytes[..]));
+    assert!(requests > 1);
+}
+
+#[test]
+fn a_conflict_is_told_or_memory_is() {
+    let signers: Vec<u32> = (0..5_000).collect();
+    let texts = [b"x", b"y"].map(|value| Certificate::encode(value, &signers).unwrap());
+    let call = || conflict(FaultModel::N3F1, 5_000, &texts[0], &texts[1]);
+    let of_memory = |error| match error {
+        ConflictError::First(Refusal::Memory) | ConflictError::Second(Refusal::Memory) => {
+            ConflictError::Memory
+        }
+        other => other,
+    };
+    let requests = refuse_each(&ConflictError::Memory, || call().map_err(of_memory));
+    assert!(requests > 2);
+}

@@ -1,0 +1,9 @@
+pub mod Chunks
+pub mod Exact
+pub mod Fewer
+pub mod Keys
+pub mod Made
+pub mod NoGap
+pub mod Offsets
+pub mod Spelt
+pub mod Spliced

@@ -1,0 +1,46 @@
+-- What a foreign caller is told of the bytes of a committee: numbers, and where its members stand.
+use Rattle.std.specs.Prelude.{◌≡◌, ℕ, ◌+◌, ◌*◌, ◌≤◌, List, Some, drop, length, nat_eq, slice_get, take}
+use Rattle.std.specs.List.{AllByRecursion, flat_map}
+use Rattle.std.specs.Cmp.Lexicographic.{pointwise}
+use Rattle.std.specs.declared.ops.Bound.TheVariants.{Included}
+use Rattle.commonware_base.specs.Fault.{Fault}
+use Rattle.commonware_base.specs.Lists.{list_enc, IsAllowedList}
+use Rattle.commonware_base.specs.Range.{Bounds}
+use Rattle.commonware_base.specs.Text.{Accepts}
+use Rattle.commonware_ordered.specs.Dedup.{IsDedup}
+use Rattle.commonware_ordered.specs.Sets.{IsWritableSet, SetFault}
+use Rattle.committee_core.specs.Members.{IsMember, member_bytes, member_cmp, member_fault}
+
+-- the lengths from least to most
+abbrev pub between : ℕ → ℕ → Bounds ℕ
+between least most = record { lower = Some least; upper = Included most }
+
+-- s is the bytes of a set of least to most members, and then rest
+abbrev pub IsCommitteeOf : ℕ → ℕ → List ℕ → List (List ℕ) → List ℕ → Type 0
+IsCommitteeOf least most s members rest =
+    Accepts (list_enc member_bytes) (IsWritableSet IsMember member_cmp)
+    (IsAllowedList (between least most) (λ _. Unit {0})) s members rest
+
+-- the first fault of s, where s begins with no committee of least to most members
+abbrev pub committee_fault : ℕ → ℕ → List ℕ → Fault → Type 0
+committee_fault least most =
+    SetFault member_bytes IsMember member_cmp (λ _. Unit {0}) member_fault (between least most)
+
+-- each member is the 32 bytes of s at its place, from start on
+abbrev pub StandAt : List ℕ → ℕ → List (List ℕ) → Type 0
+StandAt s start members = (i : ℕ) (m : List ℕ) → slice_get members i ≡ Some m → take 32 (drop (start + 32 * i) s) ≡ m
+
+-- s begins with these keys, `count` of them
+pub record AreKeys (keys : List (List ℕ)) (count : ℕ) (s : List ℕ) : Type 0 where
+  pub number : length keys ≡ count
+  pub enough : count * 32 ≤ length s
+  pub each : AllByRecursion IsMember keys
+  pub bytes : take (count * 32) s ≡ flat_map member_bytes keys
+
+-- the set is these keys in order, of equal ones one; it has `count` members, no more than the keys, and `size` bytes
+pub record IsSetOf (keys set : List (List ℕ)) (count size : ℕ) : Type 0 where
+  pub dedup : IsDedup (pointwise nat_eq) member_cmp keys set
+  pub count_is : count ≡ length set
+  pub count_most : count ≤ length keys
+  pub size_is : size ≡ length (list_enc member_bytes set)
+  pub size_most : size ≤ 5 + 32 * count

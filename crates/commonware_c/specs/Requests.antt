@@ -1,0 +1,19 @@
+-- What a foreign caller asks to be written, and what is wrong with it.
+use Rattle.std.specs.Prelude.{◌≡◌, ℕ, ◌-◌, ◌^◌, ◌<◌, ◌≤◌, List, length, slice_index_or}
+use Rattle.std.specs.List.{AllAdjacentBelow}
+
+-- the index at the place is the first that isn't greater than the one before it
+pub record IsFirstDescent (signers : List ℕ) (place : ℕ) : Type 0 where
+  pub second : 0 < place
+  pub inside : place < length signers
+  pub rising : AllAdjacentBelow (λ x y. x < y) signers place
+  pub descends : (d : ℕ) → slice_index_or signers place d ≤ slice_index_or signers (place - 1) d
+
+-- The first fault of a request for a certificate: a value or signers of 2 ^ 32 or more, which have no length in the
+-- encoding, or the first index that isn't greater than the one before it.
+pub data IsUnwritable (value signers : List ℕ) (status number : ℕ) : Type 0 where
+  long_value : status ≡ 3 → number ≡ length value → 2 ^ 32 ≤ number → IsUnwritable value signers status number
+  many_signers : status ≡ 3 → length value < 2 ^ 32 → number ≡ length signers → 2 ^ 32 ≤ number
+      → IsUnwritable value signers status number
+  not_rising : status ≡ 4 → length value < 2 ^ 32 → length signers < 2 ^ 32 → IsFirstDescent signers number
+      → IsUnwritable value signers status number

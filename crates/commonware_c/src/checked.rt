@@ -1,0 +1,98 @@
+//! The bytes of a committee, judged where they stand: no memory is taken.
+ghost use Rattle.std.specs.Prelude.{◌≡◌, ◌↔◌, ◌*◌, ◌<◌, ℕ, List, IfErr, IfNone, IfOk, IfSome, IsTrue, length};
+ghost use Rattle.commonware_base.specs.Refusal.{Refuses};
+ghost use Rattle.commonware_base.specs.Source.{rest_of};
+ghost use Rattle.commonware_ordered.specs.Strict.{IsStrict};
+ghost use Rattle.committee_core.specs.BigEndian.{spelt};
+ghost use Rattle.committee_core.specs.Members.{member_cmp};
+ghost use Rattle.commonware_c.specs.Committees.{AreKeys, IsCommitteeOf, committee_fault};
+
+use committee_core::Member;
+use commonware_base::codec::{Error, RangeCfg, Read, Source, UInt};
+use std::alloc::Global;
+use std::cmp::Ordering;
+
+/// How many members the committee of `least` to `most` has with whose bytes a source goes on. The
+/// source is left after it. No item asks the allocator.
+#[inline(always)]
+pub(crate) fn check(
+    alloc: Global,
+    src: &mut Source<'_>,
+    least: usize,
+    most: usize,
+) -> Result<u32, Error>
+    ensures accepted { IfOk result (λ count. (members : List (List ℕ)) × (count ≡ length members)
+        × IsCommitteeOf least most (rest_of src.old) members (rest_of src.new)) }
+    ensures refused { IfErr result
+        (Refuses (committee_fault least most (rest_of src.old)) (Unit {0})) }
+{
+    let count = match <UInt as Read<Global>>::read_cfg(alloc, src, &()) {
+        Ok(UInt(count)) => count,
+        Err(error) => return Err(error),
+    };
+    let range = RangeCfg::from(least..=most);
+    if !range.contains(&(count as usize)) {
+        return Err(Error::InvalidLength(count as usize));
+    }
+    let Some(keys) = keys_of(src, count as usize) else {
+        return Err(Error::EndOfBuffer);
+    };
+    if !are_in_order(keys) {
+        return Err(Error::Invalid("Set", "items must be sorted and unique"));
+    }
+    src.advance(keys.len() * 32);
+    Ok(count)
+}
+
+/// The next `count` keys of a source, where they stand, or `None` where fewer are left.
+#[inline(always)]
+fn keys_of<'a>(src: &Source<'a>, count: usize) -> Option<&'a [[u8; 32]]>
+    ensures keys { IfSome result (λ keys. AreKeys keys.now count (rest_of src.now)) }
+    ensures none { IfNone result (length (rest_of src.now) < count * 32) }
+{
+    if src.remaining() / 32 < count {
+        return None;
+    }
+    let (keys, _) = src.rest()[..count * 32].as_chunks::<32>();
+    Some(keys)
+}
+
+/// Whether each key is less than the next.
+#[inline(always)]
+fn are_in_order(keys: &[[u8; 32]]) -> bool
+    ensures { IsTrue result ↔ IsStrict member_cmp keys.now }
+{
+    keys.is_sorted_by(|x, y| order(x, y).is_lt())
+}
+
+/// The order of two keys, which is that of members. Most keys differ in their first eight bytes,
+/// which are compared where they stand.
+#[inline(always)]
+pub(crate) fn order(x: &[u8; 32], y: &[u8; 32]) -> Ordering
+    ensures { result ≡ member_cmp x.now y.now }
+{
+    let a = first_word(x);
+    let b = first_word(y);
+    if a != b {
+        return a.cmp(&b);
+    }
+    whole_order(x, y)
+}
+
+/// The first eight bytes of a key as one number, the first of them the greatest.
+#[inline(always)]
+fn first_word(key: &[u8; 32]) -> u64
+    ensures { result ≡ spelt 8 0 key.now }
+{
+    u64::from_be_bytes([
+        key[0], key[1], key[2], key[3], key[4], key[5], key[6], key[7],
+    ])
+}
+
+/// The order of two keys by all their bytes.
+#[inline(never)]
+fn whole_order(x: &[u8; 32], y: &[u8; 32]) -> Ordering
+    ensures { result ≡ member_cmp x.now y.now }
+{
+    Member::new(*x).cmp(&Member::new(*y))
+}
