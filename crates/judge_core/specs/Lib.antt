@@ -1,4 +1,5 @@
 pub mod Answered
 pub mod Command
-pub mod Readings
+pub mod Faults
 pub mod Session
+pub mod Tasks
