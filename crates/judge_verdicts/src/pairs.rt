@@ -151,7 +151,7 @@ where
 {
     match read_columns::<K, V, A>(alloc, text, cfg)? {
         Ok((keys, values)) => make_bimap(alloc, pairs_of(alloc, keys, values)?),
-        Err(what) => Ok(Err(NotBuilt::Unread(what))),
+        Err(misread) => Ok(Err(NotBuilt::Unread(misread))),
     }
 }
 
