@@ -10,6 +10,7 @@ mod answer;
 mod arguments;
 mod command;
 mod error;
+mod help;
 mod lines;
 mod program;
 mod stream;
@@ -20,6 +21,7 @@ pub use answer::{Answer, answer_to, write_answer};
 pub use arguments::{on_host, start};
 pub use command::{Command, parse_args};
 pub use error::Failure;
+pub use help::{say_help, say_version};
 pub use judge_questions::{
     Collection, FORMS, Form, Limit, Limits, Question, SetForm, Task, Unreadable, VERBS, Verb,
     read_form, read_limit, read_model, read_question, read_size, read_task, read_text, read_verb,
