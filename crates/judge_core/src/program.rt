@@ -15,7 +15,8 @@ use std::alloc::Allocator;
 use std::io::{Read, Write};
 
 /// Does what the command asks for: answers the lines of the reader; or writes the names of the
-/// types, the help or the version, for which the reader isn't touched. The answer is whether all answers are verdicts.
+/// types, the help or the version, for which the reader isn't touched. The answer is whether all
+/// answers are verdicts.
 pub fn run<A: Allocator + Copy, R: Read, W: Write>(
     alloc: A,
     command: Command,
@@ -58,10 +59,10 @@ pub fn run<A: Allocator + Copy, R: Read, W: Write>(
 /// Does what the words after the program's name ask for, and answers the exit status.
 ///
 /// The status is 0 where each line that asks for an answer got a verdict, or the types, the help or
-/// the version were written; 1 where some line couldn't be read; 2 where the words ask for no command; and 3 where
-/// memory, the reader or the writer failed. Where it is 2 or 3, one line on `errors` says why, in
-/// one write where `errors` takes it whole. Where `errors` fails, the status is the same. No call
-/// of a device is tried again.
+/// the version were written; 1 where some line couldn't be read; 2 where the words ask for no
+/// command; and 3 where memory, the reader or the writer failed. Where it is 2 or 3, one line on
+/// `errors` says why, in one write where `errors` takes it whole. Where `errors` fails, the status
+/// is the same. No call of a device is tried again.
 pub fn session<A: Allocator + Copy, R: Read, W: Write, E: Write>(
     alloc: A,
     words: &[String<A>],
