@@ -26,6 +26,8 @@ fn feeds(bytes: &[u8]) -> usize {
 #[derive(Drop)]
 struct Asking<'a> {
     pieces: &'a [&'static str],
+    /// How many of them were given.
+    given: usize,
     dialogue: &'a Dialogue,
 }
 
@@ -39,13 +41,13 @@ impl<'a> Read for Asking<'a> {
         if dialogue.flushed.get() != dialogue.asked.get() {
             dialogue.late.set(true);
         }
-        let Some((piece, later)) = self.pieces.split_first() else {
+        let Some(piece) = self.pieces.get(self.given) else {
             return Ok(0);
         };
         let bytes = piece.as_bytes();
         let n = bytes.len().min(buf.len());
         buf[..n].copy_from_slice(&bytes[..n]);
-        self.pieces = later;
+        self.given = self.given.saturating_add(1);
         dialogue
             .asked
             .set(dialogue.asked.get().saturating_add(feeds(&bytes[..n])));
@@ -95,6 +97,7 @@ fn a_line_is_answered_before_the_next_is_read(rt: HostRuntime) {
     let words = Vec::new(rt.alloc());
     let mut input = Watched::new(Asking {
         pieces: &pieces,
+        given: 0,
         dialogue: &dialogue,
     });
     let mut output = Watched::new(Hearing {
