@@ -8,9 +8,7 @@ use Rattle.std.proofs.lemmas.Grind.{flat_map-append}
 use Rattle.std.proofs.lemmas.List.Elements.{filter-append}
 use Rattle.std.proofs.lemmas.List.Folds.{list_all-append}
 use Rattle.std.proofs.lemmas.List.Quantifiers.{position-Some}
-use Rattle.judge_core.specs.Answered.{AreAnswered, Continues, HasNoFeed, IsAnswer, answer_line, is_asked, is_judged}
-use Rattle.judge_core.specs.declared.answer.Answer.{Answer}
-use Rattle.judge_core.specs.declared.answer.Answer.TheVariants.{Judged, Unread}
+use Rattle.judge_core.specs.Answered.{AreAnswered, Continues, HasNoFeed, IsTold, Told, is_asked}
 
 -- lists of pairs that go together, one after another
 zip_append : {X Y : Type 0} (R : X → Y → Type 0) (a b : List X) (x y : List Y) → AllZip R a x → AllZip R b y → AllZip R (a ++ b) (x ++ y)
@@ -28,27 +26,27 @@ neither false false p q = refl
 pub asks : (line : List ℕ) → (length line == 0) ≡ false → (get_or line 0 0 ≡ 35 → ⊥) → is_asked line ≡ true
 asks line some other = neither (length line == 0) (get_or line 0 0 == 35) some (grind (arith, nat_tests))
 
--- whether one answer is a verdict
-one_verdict : (answer : Answer) → is_judged answer ≡ list_all is_judged (answer ∷ [])
-one_verdict (Judged verdict) = refl
-one_verdict (Unread what) = refl
+-- one is true exactly where all of one are
+only_one : (b : Bool) → b ≡ b && true
+only_one true = refl
+only_one false = refl
 
 -- its answer
-pub one_answered : (line : List ℕ) (answer : Answer) (judged : Bool) → is_asked line ≡ true → IsAnswer line answer → judged ≡ is_judged answer → AreAnswered (line ∷ []) (answer_line answer) judged
-one_answered line answer judged asked right verdict = record {
-  answers = answer ∷ [];
-  right = subst (λ ls. AllZip IsAnswer ls (answer ∷ [])) (sym (cond-true (is_asked line) (line ∷ []) [] asked)) (right, tt);
-  text = sym (append-nil (answer_line answer));
-  verdicts = verdict ∙ one_verdict answer;
+pub one_answered : (line : List ℕ) (told : Told) → is_asked line ≡ true → IsTold line told → AreAnswered (line ∷ []) told.text told.judged
+one_answered line told asked right = record {
+  answers = told ∷ [];
+  right = subst (λ ls. AllZip IsTold ls (told ∷ [])) (sym (cond-true (is_asked line) (line ∷ []) [] asked)) (right, tt);
+  text = sym (append-nil told.text);
+  verdicts = only_one told.judged;
 }
 
 -- the answers to lines, and then those to more lines
 pub both_answered : (l m : List (List ℕ)) (s t : List ℕ) (a b : Bool) → AreAnswered l s a → AreAnswered m t b → AreAnswered (l ++ m) (s ++ t) (a && b)
 both_answered l m s t a b h k = record {
   answers = h.answers ++ k.answers;
-  right = subst (λ ls. AllZip IsAnswer ls (h.answers ++ k.answers)) (sym (filter-append is_asked l m)) (zip_append IsAnswer (filter is_asked l) (filter is_asked m) h.answers k.answers h.right k.right);
-  text = ap (λ u. u ++ t) h.text ∙ ap (λ u. flat_map answer_line h.answers ++ u) k.text ∙ sym (flat_map-append answer_line h.answers k.answers);
-  verdicts = ap (λ u. u && b) h.verdicts ∙ ap (λ u. list_all is_judged h.answers && u) k.verdicts ∙ sym (list_all-append is_judged h.answers k.answers);
+  right = subst (λ ls. AllZip IsTold ls (h.answers ++ k.answers)) (sym (filter-append is_asked l m)) (zip_append IsTold (filter is_asked l) (filter is_asked m) h.answers k.answers h.right k.right);
+  text = ap (λ u. u ++ t) h.text ∙ ap (λ u. flat_map (λ told. told.text) h.answers ++ u) k.text ∙ sym (flat_map-append (λ (told : Told). told.text) h.answers k.answers);
+  verdicts = ap (λ u. u && b) h.verdicts ∙ ap (λ u. list_all (λ told. told.judged) h.answers && u) k.verdicts ∙ sym (list_all-append (λ (told : Told). told.judged) h.answers k.answers);
 }
 
 -- no line, no answer
@@ -149,7 +147,7 @@ continues_on front one mid other back s t a b (done, splits, answered) (more, sp
 
 -- lines of which the same ask for an answer
 same_asked : (l m : List (List ℕ)) (s : List ℕ) (a : Bool) → filter is_asked l ≡ filter is_asked m → AreAnswered l s a → AreAnswered m s a
-same_asked l m s a e h = record { answers = h.answers; right = subst (λ ls. AllZip IsAnswer ls h.answers) e h.right; text = h.text; verdicts = h.verdicts }
+same_asked l m s a e h = record { answers = h.answers; right = subst (λ ls. AllZip IsTold ls h.answers) e h.right; text = h.text; verdicts = h.verdicts }
 
 -- a last part that isn't empty is a line
 one_line : (b : ℕ) (back : List ℕ) → lines_of_parts ((b ∷ back) ∷ []) ≡ (b ∷ back) ∷ []

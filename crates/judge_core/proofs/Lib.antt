@@ -1,5 +1,4 @@
 pub mod Answering
+pub mod Asked
 pub mod FormNames
-pub mod Judged
-pub mod Seen
 pub mod Stopping

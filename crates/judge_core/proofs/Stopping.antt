@@ -1,7 +1,6 @@
 -- What stands where a run stops early.
-use Rattle.std.proofs.Common.{◌≡◌, ◌≢◌, ℕ, List, [], Bool, Option, Some, None, Result, Ok, Err, refl, sym, subst, IfErr}
+use Rattle.std.proofs.Common.{◌≡◌, ◌≢◌, ℕ, List, [], Bool, Option, Some, None, refl, sym}
 use Rattle.std.specs.Io.KnownBytes.{Appends, Consumes, Keeps}
-use Rattle.std.specs.Result.{IsErrAnd}
 use Rattle.std.proofs.KnownBytes.{Consumes-trans}
 use Rattle.judge_core.specs.Answered.{Continues}
 use Rattle.judge_core.specs.Session.{IsBeginningAnswered}

@@ -1,4 +1,6 @@
 pub mod Answered
 pub mod Command
-pub mod Readings
+pub mod Faults
+pub mod Help
 pub mod Session
+pub mod Tasks

@@ -4,8 +4,9 @@ use Rattle.std.specs.Io.KnownBytes.{Appends, Consumes}
 use Rattle.std.specs.Str.Lines.{lines}
 use Rattle.judge_questions.specs.Forms.{types_text}
 use Rattle.judge_core.specs.Answered.{AreAnswered, Continues}
+use Rattle.judge_core.specs.Help.{help_text, version_text}
 use Rattle.judge_core.specs.declared.command.Command.{Command}
-use Rattle.judge_core.specs.declared.command.Command.TheVariants.{Judge, Types}
+use Rattle.judge_core.specs.declared.command.Command.TheVariants.{Judge, Types, Help, Version}
 
 -- the whole text that was given was answered in what was written: and judged tells whether all answers are verdicts
 abbrev pub IsAllAnswered : (List ℕ → Type 0) → (List ℕ → Type 0) → Bool → Type 0
@@ -29,8 +30,12 @@ pub record IsBeginningAnswered (in_old in_new out_old out_new : Option (List ℕ
 abbrev pub IsDone : Command → (List ℕ → Type 0) → (List ℕ → Type 0) → Bool → Type 0
 IsDone Judge Given Written judged = IsAllAnswered Given Written judged
 IsDone Types Given Written judged = Written types_text × (judged ≡ true)
+IsDone Help Given Written judged = Written help_text × (judged ≡ true)
+IsDone Version Given Written judged = Written version_text × (judged ≡ true)
 
 -- a run of the command stopped early, and its writer has not failed
 abbrev pub IsStopped : Command → Option (List ℕ) → Option (List ℕ) → Option (List ℕ) → Option (List ℕ) → Type 0
 IsStopped Judge in_old in_new out_old out_new = IsBeginningAnswered in_old in_new out_old out_new
 IsStopped Types in_old in_new out_old out_new = out_new ≡ out_old
+IsStopped Help in_old in_new out_old out_new = out_new ≡ out_old
+IsStopped Version in_old in_new out_old out_new = out_new ≡ out_old

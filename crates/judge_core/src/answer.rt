@@ -1,11 +1,11 @@
 //! The answer to a line.
 ghost use Rattle.std.specs.Prelude.{◌≡◌, ◌++◌, ◌∷◌, [], IfOk, OnOk, string_bytes};
-ghost use Rattle.judge_core.specs.Answered.{IsAnswer, answer_line, error_text, is_judged};
+ghost use Rattle.judge_core.specs.Answered.{IsAnswer, answer_line, is_judged};
+ghost use Rattle.judge_core.specs.Faults.{error_text};
 
-use crate::judgement::judge;
-use crate::verdict::Verdict;
 use commonware_utils::codec::Error;
 use judge_questions::{Unreadable, read_question};
+use judge_verdicts::{Verdict, judge};
 use std::alloc::{AllocError, Allocator};
 
 /// The answer to a line.
@@ -44,11 +44,16 @@ pub fn write_answer<A: Allocator>(text: &mut String<A>, answer: &Answer) -> Resu
         Answer::Unread(Unreadable::Name) => writeln!(text, "unreadable type"),
         Answer::Unread(Unreadable::Ranges) => writeln!(text, "unreadable ranges"),
         Answer::Unread(Unreadable::Bytes) => writeln!(text, "unreadable bytes"),
+        Answer::Unread(Unreadable::Model) => writeln!(text, "unreadable model"),
+        Answer::Unread(Unreadable::Number) => writeln!(text, "unreadable number"),
     }
 }
 
-#[tactic(auto, unfolding(crate::specs::Answered::error_text))]
-fn write_fault<A: Allocator>(text: &mut String<A>, error: &Error) -> Result<(), AllocError>
+#[tactic(auto, unfolding(crate::specs::Faults::error_text))]
+pub(crate) fn write_fault<A: Allocator>(
+    text: &mut String<A>,
+    error: &Error,
+) -> Result<(), AllocError>
     ensures { OnOk result
         (string_bytes text.new ≡ string_bytes text.old ++ (error_text error.now ++ 10 ∷ [])) }
 {

@@ -1,6 +1,6 @@
 //! What the words after the program's name ask for.
 ghost use Rattle.std.specs.Prelude.{◌≡◌, Some, map, string_bytes, IfSome, IfNone};
-ghost use Rattle.judge_core.specs.Command.{IsAskedFor};
+ghost use Rattle.judge_core.specs.Command.{AsksFor, IsAskedFor};
 
 use std::alloc::Allocator;
 
@@ -11,10 +11,15 @@ pub enum Command {
     Judge,
     /// Print the names of the types.
     Types,
+    /// Say what words and what lines the program takes.
+    Help,
+    /// Say its version.
+    Version,
 }
 
-/// The command that the words ask for: no word at all is `Command::Judge`, and `types` alone is
-/// `Command::Types`. The answer is `None` exactly where the words ask for no command.
+/// The command that the words ask for: no word at all is `Command::Judge`, and `types`, `--help` or
+/// `--version` alone is what it says. The answer is `None` exactly where the words ask for no
+/// command.
 pub fn parse_args<A: Allocator>(words: &[String<A>]) -> Option<Command>
     ensures asked { IfSome result (IsAskedFor (map string_bytes words.now)) }
     ensures other { IfNone result ((command : Command)
@@ -22,7 +27,20 @@ pub fn parse_args<A: Allocator>(words: &[String<A>]) -> Option<Command>
 {
     match words {
         [] => Some(Command::Judge),
-        [word] if word.as_str() == "types" => Some(Command::Types),
+        [word] => parse_word(word.as_str()),
+        _ => None,
+    }
+}
+
+/// The command that the one word asks for.
+fn parse_word(word: &str) -> Option<Command>
+    ensures asked { IfSome result (AsksFor word.now) }
+    ensures other { IfNone result ((command : Command) → ¬ AsksFor word.now command) }
+{
+    match word {
+        "types" => Some(Command::Types),
+        "--help" => Some(Command::Help),
+        "--version" => Some(Command::Version),
         _ => None,
     }
 }

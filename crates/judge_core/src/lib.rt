@@ -9,25 +9,27 @@
 mod answer;
 mod arguments;
 mod command;
-mod counted;
 mod error;
-mod judgement;
+mod help;
 mod lines;
 mod program;
 mod stream;
+mod tells;
 mod transfer;
-mod verdict;
 
 pub use answer::{Answer, answer_to, write_answer};
 pub use arguments::{on_host, start};
 pub use command::{Command, parse_args};
-pub use counted::Counted;
 pub use error::Failure;
+pub use help::{say_help, say_version};
 pub use judge_questions::{
-    FORMS, Form, Limit, Limits, Question, Unreadable, read_form, read_limit, read_question,
-    read_text,
+    Collection, FORMS, Form, Limit, Limits, Question, SetForm, Task, Unreadable, VERBS, Verb,
+    read_form, read_limit, read_model, read_question, read_size, read_task, read_text, read_verb,
 };
-pub use judgement::{judge, judge_as};
+pub use judge_verdicts::{
+    Counted, FaultNumbers, Found, Misread, NoConflict, NotBuilt, Refutation, Verdict, build,
+    conflict_of, fault_numbers, judge, judge_as, position, refute,
+};
 pub use program::{run, session};
 pub use stream::{answer_all, say_types};
-pub use verdict::Verdict;
+pub use tells::tell;

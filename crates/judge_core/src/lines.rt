@@ -3,7 +3,7 @@ ghost use Rattle.std.specs.Prelude.{◌≡◌, ◌&&◌, ◌++◌, ◌∷◌, []
 ghost use Rattle.std.specs.Str.Lines.{strip_carriage_return};
 ghost use Rattle.judge_core.specs.Answered.{AreAnswered, Continues, HasNoFeed};
 
-use crate::answer::{answer_to, write_answer};
+use crate::tells::tell;
 use judge_questions::place_of;
 use std::alloc::{AllocError, Allocator};
 
@@ -51,9 +51,7 @@ pub(crate) fn answer_line<A: Allocator + Copy>(
     if line.is_empty() || line[0] == b'#' {
         return Ok(true);
     }
-    let answer = answer_to(alloc, line)?;
-    write_answer(said, &answer)?;
-    Ok(answer.is_judged())
+    tell(alloc, line, said)
 }
 
 /// The line without the one carriage return at its end, if it has one.

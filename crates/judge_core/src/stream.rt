@@ -106,7 +106,7 @@ fn say_last<A: Allocator + Copy, W: Write>(
     Ok(judged)
 }
 
-/// Writes the names of the types, each on a line, and flushes.
+/// Writes the names of the types, each on a line with what its ranges are, and flushes.
 pub fn say_types<A: Allocator, W: Write>(alloc: A, output: &mut Watched<W>) -> Result<(), Failure>
     ensures done { OnOk result
         (Appends (W.contents output.old.inner) (W.contents output.new.inner) types_text) }
@@ -119,14 +119,15 @@ pub fn say_types<A: Allocator, W: Write>(alloc: A, output: &mut Watched<W>) -> R
     Ok(write_whole(output, text.as_bytes())?)
 }
 
-/// The names of the types, each on a line.
+/// The names of the types, each on a line with what its ranges are.
 fn names<A: Allocator>(alloc: A) -> Result<String<A>, AllocError>
     ensures { IfOk result (λ text. string_bytes text ≡ types_text) }
 {
     let mut text = String::new(alloc);
     for form in &FORMS {
         let name = form.name();
-        writeln!(text, "{name}")?;
+        let ranges = form.ranges();
+        writeln!(text, "{name}{ranges}")?;
     }
     Ok(text)
 }

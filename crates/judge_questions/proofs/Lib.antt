@@ -4,3 +4,4 @@ pub mod HexLemmas
 pub mod RangeLemmas
 pub mod RangesRead
 pub mod Splits
+pub mod VerbLemmas

@@ -57,6 +57,30 @@ lengths_of NonEmptyU8 = 1
 lengths_of NonEmptyNonEmptyU8 = 2
 lengths_of Certificate = 2
 
+-- the ranges that a question gives for a type, a word each after a blank: what each is the range of
+abbrev pub ranges_of : Form → List ℕ
+ranges_of U8 = []
+ranges_of U32 = []
+ranges_of Varint = []
+ranges_of Usize = codes " NUMBER"
+ranges_of Participant = []
+ranges_of VecU8 = codes " LENGTH"
+ranges_of VecU32 = codes " LENGTH"
+ranges_of VecVecU8 = codes " LENGTH ITEM-LENGTH"
+ranges_of VecVecVecU8 = codes " LENGTH ITEM-LENGTH INNER-LENGTH"
+ranges_of SetU8 = codes " LENGTH"
+ranges_of SetU32 = codes " LENGTH"
+ranges_of SetParticipant = codes " LENGTH"
+ranges_of SetSetU8 = codes " LENGTH ITEM-LENGTH"
+ranges_of SetNonEmptyU8 = codes " LENGTH ITEM-LENGTH"
+ranges_of MapU8U8 = codes " LENGTH"
+ranges_of MapU8SetU8 = codes " LENGTH VALUE-LENGTH"
+ranges_of VecMapU8U8 = codes " LENGTH ITEM-LENGTH"
+ranges_of BiMapU8U8 = codes " LENGTH"
+ranges_of NonEmptyU8 = codes " LENGTH"
+ranges_of NonEmptyNonEmptyU8 = codes " LENGTH ITEM-LENGTH"
+ranges_of Certificate = codes " VALUE-LENGTH SIGNERS"
+
 -- the types
 abbrev pub all_forms : List Form
 all_forms =
@@ -64,6 +88,6 @@ all_forms =
     ∷ SetU32 ∷ SetParticipant ∷ SetSetU8 ∷ SetNonEmptyU8 ∷ MapU8U8 ∷ MapU8SetU8 ∷ VecMapU8U8 ∷ BiMapU8U8 ∷ NonEmptyU8 ∷
     NonEmptyNonEmptyU8 ∷ Certificate ∷ []
 
--- the names of the types, each on a line
+-- the names of the types, each on a line with what its ranges are
 abbrev pub types_text : List ℕ
-types_text = flat_map (λ form. name_of form ++ (10 ∷ [])) all_forms
+types_text = flat_map (λ form. name_of form ++ (ranges_of form ++ (10 ∷ []))) all_forms

@@ -9,7 +9,7 @@ use Rattle.judge_questions.specs.declared.form.Form.{Form}
 use Rattle.judge_questions.specs.declared.form.Form.TheVariants.{SetNonEmptyU8, NonEmptyU8, NonEmptyNonEmptyU8}
 use Rattle.judge_questions.specs.declared.limits.Limits.{Limits}
 use Rattle.judge_questions.specs.declared.question.Unreadable.{Unreadable}
-use Rattle.judge_questions.specs.declared.question.Unreadable.TheVariants.{Name, Ranges, Bytes}
+use Rattle.judge_questions.specs.declared.question.Unreadable.TheVariants.{Name, Ranges, Bytes, Model, Number}
 
 -- the words write the ranges, up to three of them, and those that no word writes are full
 abbrev pub AreRanges : List (List ℕ) → Limits → Type 0
@@ -62,3 +62,5 @@ IsUnreadable line Bytes =
     (form : Form) × (ranges : List (List ℕ)) × (limits : Limits) × (rest : List (List ℕ))
     × (words_of line ≡ name_of form ∷ (ranges ++ rest)) × AreLimits form ranges limits
     × ((word text : List ℕ) → rest ≡ word ∷ [] → ¬ IsText word text)
+IsUnreadable line Model = ⊥
+IsUnreadable line Number = ⊥

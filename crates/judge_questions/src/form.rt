@@ -1,6 +1,6 @@
 //! The types that a question can name.
 ghost use Rattle.std.specs.Prelude.{◌≡◌, ◌≢◌, IfNone, IfSome};
-ghost use Rattle.judge_questions.specs.Forms.{lengths_of, name_of};
+ghost use Rattle.judge_questions.specs.Forms.{lengths_of, name_of, ranges_of};
 
 /// A type that has a byte form, of which a text is judged.
 #[derive(Clone, Copy, PartialEq, Eq)]
@@ -80,6 +80,32 @@ impl Form {
             Form::NonEmptyU8 => "non-empty<u8>",
             Form::NonEmptyNonEmptyU8 => "non-empty<non-empty<u8>>",
             Form::Certificate => "certificate",
+        }
+    }
+
+    /// What the ranges are that a question gives for the type, a word each after a blank.
+    pub fn ranges(self) -> &'static str
+        ensures { result.now ≡ ranges_of self }
+    {
+        match self {
+            Form::U8 | Form::U32 | Form::Varint | Form::Participant => "",
+            Form::Usize => " NUMBER",
+            Form::VecU8
+            | Form::VecU32
+            | Form::SetU8
+            | Form::SetU32
+            | Form::SetParticipant
+            | Form::MapU8U8
+            | Form::BiMapU8U8
+            | Form::NonEmptyU8 => " LENGTH",
+            Form::VecVecU8
+            | Form::SetSetU8
+            | Form::SetNonEmptyU8
+            | Form::VecMapU8U8
+            | Form::NonEmptyNonEmptyU8 => " LENGTH ITEM-LENGTH",
+            Form::VecVecVecU8 => " LENGTH ITEM-LENGTH INNER-LENGTH",
+            Form::MapU8SetU8 => " LENGTH VALUE-LENGTH",
+            Form::Certificate => " VALUE-LENGTH SIGNERS",
         }
     }
 

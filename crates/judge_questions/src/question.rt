@@ -29,13 +29,20 @@ pub struct Question<A: Allocator> {
 /// What of a line can't be read.
 #[derive(Clone, Copy, PartialEq, Eq)]
 pub enum Unreadable {
-    /// The first word is no type's name.
+    /// The first word is no verb and no type's name, or the word after the verb no name of a type
+    /// that it takes.
     Name,
     /// After the type's name there are not as many ranges as the type has, or a list that is never
     /// empty has a bound 0.
     Ranges,
-    /// After the ranges there is not one word of bytes alone.
+    /// After the ranges, or what else comes before them, there are not as many words of bytes as
+    /// there should be, and nothing else.
     Bytes,
+    /// After the verb there is no fault model.
+    Model,
+    /// After the fault model there is no number of members, or not the numbers that there should be
+    /// and nothing else.
+    Number,
 }
 
 /// The question that a line asks: a type's name, a range for each of its lengths, and the bytes of
@@ -63,7 +70,7 @@ pub fn read_question<A: Allocator>(
 }
 
 /// The type that the next word names.
-fn next_form(words: &mut Words<'_>) -> Option<Form>
+pub(crate) fn next_form(words: &mut Words<'_>) -> Option<Form>
     ensures { MatchOption result
         ((form : Form) (rest : List (List ℕ)) → words.old ≢ name_of form ∷ rest)
         (λ form. words.old ≡ name_of form ∷ words.new) }
@@ -157,7 +164,7 @@ fn next_limit(words: &mut Words<'_>) -> Option<Limit>
 }
 
 /// The bytes that the last word writes.
-fn last_text<A: Allocator>(
+pub(crate) fn last_text<A: Allocator>(
     alloc: A,
     words: &mut Words<'_>,
 ) -> Result<Option<Vec<u8, A>>, AllocError>

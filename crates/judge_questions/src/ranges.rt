@@ -56,7 +56,7 @@ fn read_upper(word: &[u8]) -> Option<Bound<usize>>
 }
 
 /// The number that the word writes in decimal digits.
-fn read_number(word: &[u8]) -> Option<usize>
+pub(crate) fn read_number(word: &[u8]) -> Option<usize>
     ensures number { IfSome result (IsNumber word.now) }
     ensures given { (n : ℕ) → IsNumber word.now n → result ≡ Some n }
 {

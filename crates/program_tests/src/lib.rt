@@ -13,6 +13,8 @@ mod counting;
 #[cfg(test)]
 mod devices;
 #[cfg(test)]
+mod dialogue;
+#[cfg(test)]
 mod every_bound;
 #[cfg(test)]
 mod failing_devices;

@@ -1,0 +1,61 @@
+-- What a line asks for by a verb.
+use Rattle.std.proofs.Common.{◌≡◌, ◌≤◌, ℕ, List, Bool, true, false, inl, inr, subst, sym, arith}
+use Rattle.judge_questions.specs.Tasks.{AsksForConflict, AsksForFaults, AsksForPosition, AsksToBuild, AsksToRefute}
+use Rattle.judge_questions.specs.Tasks.{IsModel, IsTask, build_verb}
+use Rattle.judge_questions.specs.declared.collection.Collection.{Collection}
+use Rattle.judge_questions.specs.declared.collection.SetForm.{SetForm}
+use Rattle.judge_questions.specs.declared.task.Task.TheVariants as tasks
+use Rattle.judge_questions.specs.declared.verb.Verb.TheVariants.{Build, BuildUnique, Position, Faults, Refute, Conflict}
+use Rattle.std.proofs.Common.{Vec}
+use Rattle.judge_core.specs.Answered.{AsksBy}
+
+-- a model has a resilience of at least 2
+pub model_resilience : (word : List ℕ) (k : ℕ) → IsModel word k → 2 ≤ k
+model_resilience word k (inl h) = omega (arith, h.1)
+model_resilience word k (inr (inl h)) = omega (arith, h.1)
+model_resilience word k (inr (inr (digits, w, n, two, short))) = two
+
+-- words that ask to build, where equal ones count once or none may be equal
+by_unique : (line : List ℕ) (unique chosen : Bool) (c : Collection) (text : List ℕ) → unique ≡ chosen → AsksBy line (build_verb chosen) (λ words. AsksToBuild words c text) → AsksBy line (build_verb unique) (λ words. AsksToBuild words c text)
+by_unique line unique chosen c text is h = subst (λ u. AsksBy line (build_verb u) (λ words. AsksToBuild words c text)) (sym is) h
+
+module _ {A : Type 0} (line : List ℕ) where
+  pub asked_build : (c : Collection) (unique : Bool) (text : Vec ℕ A) → IsTask line (tasks.Build c unique text) → AsksBy line (build_verb unique) (λ words. AsksToBuild words c text.items)
+  asked_build c unique text (Build, rest, is, h) = by_unique line unique false c text.items h.0 (rest, is, h.1)
+  asked_build c unique text (BuildUnique, rest, is, h) = by_unique line unique true c text.items h.0 (rest, is, h.1)
+  asked_build c unique text (Position, rest, is, h) = absurd h
+  asked_build c unique text (Faults, rest, is, h) = absurd h
+  asked_build c unique text (Refute, rest, is, h) = absurd h
+  asked_build c unique text (Conflict, rest, is, h) = absurd h
+
+  pub asked_position : (set : SetForm) (text item : Vec ℕ A) → IsTask line (tasks.Position set text item) → AsksBy line Position (λ words. AsksForPosition words set text.items item.items)
+  asked_position set text item (Build, rest, is, h) = absurd h
+  asked_position set text item (BuildUnique, rest, is, h) = absurd h
+  asked_position set text item (Position, rest, is, h) = (rest, is, h)
+  asked_position set text item (Faults, rest, is, h) = absurd h
+  asked_position set text item (Refute, rest, is, h) = absurd h
+  asked_position set text item (Conflict, rest, is, h) = absurd h
+
+  pub asked_faults : (k n : ℕ) → IsTask {A = A} line (tasks.Faults k n) → AsksBy line Faults (λ words. AsksForFaults words k n)
+  asked_faults k n (Build, rest, is, h) = absurd h
+  asked_faults k n (BuildUnique, rest, is, h) = absurd h
+  asked_faults k n (Position, rest, is, h) = absurd h
+  asked_faults k n (Faults, rest, is, h) = (rest, is, h)
+  asked_faults k n (Refute, rest, is, h) = absurd h
+  asked_faults k n (Conflict, rest, is, h) = absurd h
+
+  pub asked_refute : (k n f : ℕ) → IsTask {A = A} line (tasks.Refute k n f) → AsksBy line Refute (λ words. AsksToRefute words k n f)
+  asked_refute k n f (Build, rest, is, h) = absurd h
+  asked_refute k n f (BuildUnique, rest, is, h) = absurd h
+  asked_refute k n f (Position, rest, is, h) = absurd h
+  asked_refute k n f (Faults, rest, is, h) = absurd h
+  asked_refute k n f (Refute, rest, is, h) = (rest, is, h)
+  asked_refute k n f (Conflict, rest, is, h) = absurd h
+
+  pub asked_conflict : (k n : ℕ) (one other : Vec ℕ A) → IsTask line (tasks.Conflict k n one other) → AsksBy line Conflict (λ words. AsksForConflict words k n one.items other.items)
+  asked_conflict k n one other (Build, rest, is, h) = absurd h
+  asked_conflict k n one other (BuildUnique, rest, is, h) = absurd h
+  asked_conflict k n one other (Position, rest, is, h) = absurd h
+  asked_conflict k n one other (Faults, rest, is, h) = absurd h
+  asked_conflict k n one other (Refute, rest, is, h) = absurd h
+  asked_conflict k n one other (Conflict, rest, is, h) = (rest, is, h)

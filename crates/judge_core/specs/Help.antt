@@ -1,0 +1,30 @@
+-- What the program says of itself.
+use Rattle.std.specs.Prelude.{ℕ, List, [], ◌∷◌, ◌++◌, codes}
+use Rattle.std.specs.List.{flat_map}
+
+-- the lines on the words and the lines that the program takes
+abbrev pub help_lines : List (List ℕ)
+help_lines =
+    codes "usage: judge, judge types, judge --help, or judge --version"
+    ∷ []
+    ∷ codes "judge            answers the lines of standard input, a line each"
+    ∷ codes "judge types      names the types that have a byte form"
+    ∷ codes "judge --help     says this"
+    ∷ codes "judge --version  says the version"
+    ∷ []
+    ∷ codes "TYPE RANGE.. BYTES            what the bytes are as a value of the type, with a range a length"
+    ∷ codes "build TYPE BYTES              what a builder makes of the listed items, of equal ones the first"
+    ∷ codes "build-unique TYPE BYTES       the same, where equal ones are refused"
+    ∷ codes "position TYPE BYTES ITEM      where the item stands in the set"
+    ∷ codes "faults MODEL N                the numbers of N members: n3f1, n5f1, or k=7 for 7f + 1"
+    ∷ codes "refute MODEL N F              why F of N members can't be faulty"
+    ∷ codes "conflict MODEL N BYTES BYTES  who of N members signed both certificates"
+    ∷ []
+
+-- each line of them
+abbrev pub help_text : List ℕ
+help_text = flat_map (λ line. line ++ (10 ∷ [])) help_lines
+
+-- the line on the version
+abbrev pub version_text : List ℕ
+version_text = codes "judge 0.1.0" ++ (10 ∷ [])

@@ -1,0 +1,81 @@
+-- The lines that tell of what a line asks for by a verb.
+use Rattle.std.specs.Prelude.{ℕ, ◌/◌, ◌%◌, ◌+◌, ◌-◌, ◌*◌, List, [], ◌∷◌, ◌++◌, Option, Some, None}
+use Rattle.std.specs.Prelude.{Result, Ok, Err, codes}
+use Rattle.std.specs.Char.{digit_char}
+use Rattle.std.specs.Fmt.{decimal}
+use Rattle.std.specs.List.{flat_map}
+use Rattle.commonware_utils.specs.Faults.{Overlap}
+use Rattle.judge_verdicts.specs.Numbers.{IsRefutation}
+use Rattle.judge_verdicts.specs.declared.conflict.NoConflict.{NoConflict}
+use Rattle.judge_verdicts.specs.declared.conflict.NoConflict.TheVariants as conflicts
+use Rattle.judge_verdicts.specs.declared.numbers.FaultNumbers.{FaultNumbers}
+use Rattle.judge_verdicts.specs.declared.numbers.Refutation.{Refutation}
+use Rattle.judge_verdicts.specs.declared.places.Found.{Found}
+use Rattle.judge_verdicts.specs.declared.places.Found.TheVariants as places
+use Rattle.judge_verdicts.specs.declared.sets.NotBuilt.{NotBuilt}
+use Rattle.judge_verdicts.specs.declared.sets.NotBuilt.TheVariants as builts
+use Rattle.judge_verdicts.specs.declared.whole.Misread.{Misread}
+use Rattle.judge_verdicts.specs.declared.whole.Misread.TheVariants.{Fault, LeftOver}
+use Rattle.judge_core.specs.Faults.{error_text}
+
+-- the two lowercase hexadecimal digits of a byte
+abbrev pub hex_digits : ℕ → List ℕ
+hex_digits b = digit_char (b / 16) ∷ digit_char (b % 16) ∷ []
+
+-- the digits of each byte, those of the first byte first
+abbrev pub hex_text : List ℕ → List ℕ
+hex_text bytes = flat_map hex_digits bytes
+
+-- the line that says why a text is not the whole of one value
+unfoldable pub misread_line : Misread → List ℕ
+misread_line (Fault error) = error_text error ++ (10 ∷ [])
+misread_line (LeftOver left) = codes "LeftOver " ++ (decimal left ++ (10 ∷ []))
+
+-- the line that says what was built, or why nothing was
+unfoldable pub built_line : Result (List ℕ) NotBuilt → List ℕ
+built_line (Ok bytes) = codes "built " ++ (hex_text bytes ++ (10 ∷ []))
+built_line (Err builts.DuplicateKey) = codes "DuplicateKey" ++ (10 ∷ [])
+built_line (Err builts.DuplicateValue) = codes "DuplicateValue" ++ (10 ∷ [])
+built_line (Err (builts.Unread what)) = misread_line what
+
+-- the line that says where an item stands
+unfoldable pub found_line : Found → List ℕ
+found_line (places.At place) = codes "position " ++ (decimal place ++ (10 ∷ []))
+found_line places.Nowhere = codes "none" ++ (10 ∷ [])
+found_line (places.Unread what) = misread_line what
+
+-- the line of a model's numbers
+unfoldable pub numbers_line : FaultNumbers → List ℕ
+numbers_line numbers =
+    codes "faults "
+    ++ (decimal numbers.faults
+    ++ (codes " quorum "
+    ++ (decimal numbers.quorum ++ (codes " m-quorum " ++ (decimal numbers.smaller_quorum ++ (10 ∷ []))))))
+
+-- the line of two ranges that share too few, or that says that there are none
+unfoldable pub refuted_line : Option Refutation → List ℕ
+refuted_line (Some r) =
+    codes "first "
+    ++ (decimal r.first.start
+    ++ (codes ".."
+    ++ (decimal r.first.end
+    ++ (codes " second "
+    ++ (decimal r.second.start
+    ++ (codes ".."
+    ++ (decimal r.second.end
+    ++ (codes " shared "
+    ++ (decimal r.shared ++ (codes " needed " ++ (decimal r.needed ++ (10 ∷ []))))))))))))
+refuted_line None = codes "tolerated" ++ (10 ∷ [])
+
+-- the line that says who signed both certificates, or why no one is named
+unfoldable pub conflict_line : Result (List ℕ) NoConflict → List ℕ
+conflict_line (Ok bytes) = codes "members " ++ (hex_text bytes ++ (10 ∷ []))
+conflict_line (Err conflicts.EqualValues) = codes "EqualValues" ++ (10 ∷ [])
+conflict_line (Err conflicts.Outside) = codes "Outside" ++ (10 ∷ [])
+conflict_line (Err conflicts.TooFew) = codes "TooFew" ++ (10 ∷ [])
+conflict_line (Err (conflicts.Unread what)) = misread_line what
+
+-- so many faults are refuted; or they are tolerated, so any two subsets of n - f share (k - 2)f + 1
+abbrev pub IsRefuted : ℕ → ℕ → ℕ → Option Refutation → Type 0
+IsRefuted k n f (Some r) = IsRefutation k n f r
+IsRefuted k n f None = Overlap n (n - f) (n - f) ((k - 2) * f + 1)

@@ -1,0 +1,35 @@
+-- Each verb is in the list of the verbs.
+use Rattle.std.proofs.Common.{◌≡◌, ℕ, ◌<◌, List, [], ◌∷◌, get_or, refl, arith}
+use Rattle.judge_questions.specs.declared.verb.Verb.{Verb}
+use Rattle.judge_questions.specs.declared.verb.Verb.TheVariants.{Build, BuildUnique, Position, Faults, Refute, Conflict}
+
+-- the verbs
+abbrev pub all_verbs : List Verb
+all_verbs = Build ∷ BuildUnique ∷ Position ∷ Faults ∷ Refute ∷ Conflict ∷ []
+
+-- its place in the list
+abbrev pub place_in_verbs : Verb → ℕ
+place_in_verbs Build = 0
+place_in_verbs BuildUnique = 1
+place_in_verbs Position = 2
+place_in_verbs Faults = 3
+place_in_verbs Refute = 4
+place_in_verbs Conflict = 5
+
+-- it stands there
+pub listed_verb : (verb : Verb) → get_or all_verbs (place_in_verbs verb) Build ≡ verb
+listed_verb Build = refl
+listed_verb BuildUnique = refl
+listed_verb Position = refl
+listed_verb Faults = refl
+listed_verb Refute = refl
+listed_verb Conflict = refl
+
+-- which is inside
+pub verb_inside : (verb : Verb) → place_in_verbs verb < 6
+verb_inside Build = omega arith
+verb_inside BuildUnique = omega arith
+verb_inside Position = omega arith
+verb_inside Faults = omega arith
+verb_inside Refute = omega arith
+verb_inside Conflict = omega arith

@@ -1,0 +1,57 @@
+//! The types that builders make of items in any order.
+ghost use Rattle.std.specs.Prelude.{◌≡◌};
+ghost use Rattle.judge_questions.specs.Collections.{collection_of, set_form_of};
+
+use crate::form::Form;
+
+/// A set, by its items.
+#[derive(Clone, Copy, PartialEq, Eq)]
+pub enum SetForm {
+    U8,
+    U32,
+    Participant,
+    SetU8,
+    NonEmptyU8,
+}
+
+/// What a builder makes of items in any order.
+#[derive(Clone, Copy, PartialEq, Eq)]
+pub enum Collection {
+    Set(SetForm),
+    MapU8U8,
+    MapU8SetU8,
+    BiMapU8U8,
+}
+
+impl Form {
+    /// The type as that of a set, if it is one.
+    pub fn set_form(self) -> Option<SetForm>
+        ensures { result ≡ set_form_of self }
+    {
+        match self {
+            Form::SetU8 => Some(SetForm::U8),
+            Form::SetU32 => Some(SetForm::U32),
+            Form::SetParticipant => Some(SetForm::Participant),
+            Form::SetSetU8 => Some(SetForm::SetU8),
+            Form::SetNonEmptyU8 => Some(SetForm::NonEmptyU8),
+            _ => None,
+        }
+    }
+
+    /// The type as one that a builder makes, if it is one.
+    pub fn collection(self) -> Option<Collection>
+        ensures { result ≡ collection_of self }
+    {
+        match self {
+            Form::SetU8 => Some(Collection::Set(SetForm::U8)),
+            Form::SetU32 => Some(Collection::Set(SetForm::U32)),
+            Form::SetParticipant => Some(Collection::Set(SetForm::Participant)),
+            Form::SetSetU8 => Some(Collection::Set(SetForm::SetU8)),
+            Form::SetNonEmptyU8 => Some(Collection::Set(SetForm::NonEmptyU8)),
+            Form::MapU8U8 => Some(Collection::MapU8U8),
+            Form::MapU8SetU8 => Some(Collection::MapU8SetU8),
+            Form::BiMapU8U8 => Some(Collection::BiMapU8U8),
+            _ => None,
+        }
+    }
+}

@@ -1,0 +1,63 @@
+//! The words by which a line asks for something other than what a text is.
+ghost use Rattle.std.specs.Prelude.{◌≡◌, ◌≢◌, MatchOption};
+ghost use Rattle.judge_questions.specs.Tasks.{verb_name};
+ghost use Rattle.judge_questions.specs.declared.verb.Verb.{Verb};
+
+use crate::words::are_same;
+
+/// What a line asks for, where it doesn't ask what a text is.
+#[derive(Clone, Copy, PartialEq, Eq)]
+pub enum Verb {
+    /// What a builder makes of items, of which equal ones count once.
+    Build,
+    /// What a builder makes of items, of which no two may be equal.
+    BuildUnique,
+    /// Where an item stands in a set.
+    Position,
+    /// The numbers of a fault model.
+    Faults,
+    /// Why so many faults aren't tolerated.
+    Refute,
+    /// Who signed both of two certificates.
+    Conflict,
+}
+
+/// Each of the words, once.
+pub const VERBS: [Verb; 6] = [
+    Verb::Build,
+    Verb::BuildUnique,
+    Verb::Position,
+    Verb::Faults,
+    Verb::Refute,
+    Verb::Conflict,
+];
+
+impl Verb {
+    /// The word by which a line asks for it.
+    pub fn name(self) -> &'static str
+        ensures { result.now ≡ verb_name self }
+    {
+        match self {
+            Verb::Build => "build",
+            Verb::BuildUnique => "build-unique",
+            Verb::Position => "position",
+            Verb::Faults => "faults",
+            Verb::Refute => "refute",
+            Verb::Conflict => "conflict",
+        }
+    }
+}
+
+/// What a word asks for.
+pub fn read_verb(word: &[u8]) -> Option<Verb>
+    ensures { MatchOption result
+        ((verb : Verb) → word.now ≢ verb_name verb)
+        (λ verb. word.now ≡ verb_name verb) }
+{
+    for verb in &VERBS {
+        if are_same(word, verb.name().as_bytes()) {
+            return Some(*verb);
+        }
+    }
+    None
+}

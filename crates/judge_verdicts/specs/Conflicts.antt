@@ -1,0 +1,45 @@
+-- What two certificates, which are texts, say of who signed both.
+use Rattle.std.specs.Prelude.{◌≡◌, ◌≢◌, ◌⊎◌, ℕ, List, Result, Ok, Err}
+use Rattle.committee_certificates.specs.Signers.{AreInBoth, AreMembers, AreQuorum, AreTooFew, HasOutsider}
+use Rattle.commonware_utils.specs.Codec.{list_enc, varint}
+use Rattle.commonware_utils.specs.Faults.{IsFaultTolerance}
+use Rattle.judge_questions.specs.Limits.{full}
+use Rattle.judge_verdicts.specs.Readings.{a_certificate}
+use Rattle.judge_verdicts.specs.Whole.{IsMisread, IsWhole}
+use Rattle.judge_verdicts.specs.declared.conflict.NoConflict.{NoConflict}
+use Rattle.judge_verdicts.specs.declared.conflict.NoConflict.TheVariants.{EqualValues, Outside, TooFew, Unread}
+
+-- what two certificates say, each its value and its signers, of a committee of n at a resilience k
+abbrev pub IsConflictOf : ℕ → ℕ → List ℕ × List ℕ → List ℕ × List ℕ → Result (List ℕ) NoConflict → Type 0
+IsConflictOf k n one other (Ok bytes) =
+    (one.0 ≢ other.0)
+    × ((faults : ℕ) × IsFaultTolerance k n faults × AreQuorum (λ _. faults) n one.1 × AreQuorum (λ _. faults) n other.1)
+    × ((both : List ℕ) × AreInBoth one.1 other.1 both × (bytes ≡ list_enc varint both))
+IsConflictOf k n one other (Err EqualValues) = one.0 ≡ other.0
+IsConflictOf k n one other (Err Outside) = (one.0 ≢ other.0) × (HasOutsider n one.1 ⊎ HasOutsider n other.1)
+IsConflictOf k n one other (Err TooFew) =
+    (one.0 ≢ other.0) × AreMembers n one.1 × AreMembers n other.1
+    × ((faults : ℕ) × IsFaultTolerance k n faults
+    × (AreTooFew (λ _. faults) n one.1 ⊎ AreTooFew (λ _. faults) n other.1))
+IsConflictOf k n one other (Err (Unread what)) = ⊥
+
+-- both texts are certificates, of which Says holds
+abbrev pub AreBothRead : List ℕ → List ℕ → (List ℕ × List ℕ → List ℕ × List ℕ → Type 0) → Type 0
+AreBothRead first second Says =
+    (one : List ℕ × List ℕ) × (other : List ℕ × List ℕ) × IsWhole (a_certificate full full) first one
+    × IsWhole (a_certificate full full) second other × Says one other
+
+-- what the texts of two certificates say; or one of them isn't read, the first before the second
+abbrev pub IsConflict : ℕ → ℕ → List ℕ → List ℕ → Result (List ℕ) NoConflict → Type 0
+IsConflict k n first second (Ok bytes) =
+    AreBothRead first second (λ one other. IsConflictOf k n one other (Ok bytes))
+IsConflict k n first second (Err EqualValues) =
+    AreBothRead first second (λ one other. IsConflictOf k n one other (Err EqualValues))
+IsConflict k n first second (Err Outside) =
+    AreBothRead first second (λ one other. IsConflictOf k n one other (Err Outside))
+IsConflict k n first second (Err TooFew) =
+    AreBothRead first second (λ one other. IsConflictOf k n one other (Err TooFew))
+IsConflict k n first second (Err (Unread what)) =
+    IsMisread (a_certificate full full) first what
+    ⊎ ((one : List ℕ × List ℕ) × IsWhole (a_certificate full full) first one
+    × IsMisread (a_certificate full full) second what)

@@ -1,0 +1,122 @@
+//! A text that lists keys and then as many values, in any order.
+ghost use Rattle.std.specs.Prelude.{◌≡◌, IfErr, IfOk, MatchResult, zip};
+ghost use Rattle.commonware_utils.specs.Codec.{Accepts, IsListMemoryFree, Refuses, rest_of};
+ghost use Rattle.judge_verdicts.specs.Columns.{columns_of};
+ghost use Rattle.judge_verdicts.specs.Readings.{Reading};
+ghost use Rattle.judge_verdicts.specs.Whole.{IsMisread, IsWhole};
+
+use crate::whole::Misread;
+use commonware_base::codec::{Error, RangeCfg, Read, Source, read_list};
+use std::alloc::{AllocError, Allocator};
+
+/// The keys and the values that the text lists, or why it lists none. The error says that memory
+/// was refused, which it can't be where the reading is memory-free.
+pub(crate) fn read_columns<K: Read<A> + Drop, V: Read<A> + Drop, A: Allocator + Copy>(
+    alloc: A,
+    text: &[u8],
+    cfg: &(RangeCfg<usize>, K::Cfg, V::Cfg),
+) -> Result<Result<(Vec<K, A>, Vec<V, A>), Misread>, AllocError>
+    ensures read { let key : Reading = record {
+      Value = K;
+      enc = K.enc;
+      Writable = K.writable;
+      Allowed = K.allowed cfg.now.1;
+      HasFault = K.fault cfg.now.1;
+      MemoryFree = K.memory_free cfg.now.1;
+      items = λ _. 1;
+    } in let value : Reading = record {
+      Value = V;
+      enc = V.enc;
+      Writable = V.writable;
+      Allowed = V.allowed cfg.now.2;
+      HasFault = V.fault cfg.now.2;
+      MemoryFree = V.memory_free cfg.now.2;
+      items = λ _. 1;
+    } in IfOk result (λ read. MatchResult read
+        (λ columns. IsWhole (columns_of cfg.now.0 key value) text.now
+        (columns.0.items, columns.1.items))
+        (IsMisread (columns_of cfg.now.0 key value) text.now)) }
+    ensures memory { IfErr result (λ _.
+        ¬ IsListMemoryFree (K.fault cfg.now.1) (K.memory_free cfg.now.1) cfg.now.0 text.now) }
+{
+    let mut source = Source::new(text);
+    match next_columns::<K, V, A>(alloc, &mut source, cfg) {
+        Ok(columns) => match source.remaining() {
+            0 => Ok(Ok(columns)),
+            left => Ok(Err(Misread::LeftOver(left))),
+        },
+        Err(Error::Memory) => Err(AllocError),
+        Err(fault) => Ok(Err(Misread::Fault(fault))),
+    }
+}
+
+/// The keys and then the values that come next, or the first fault; `Memory` only where the reading
+/// isn't memory-free.
+fn next_columns<K: Read<A> + Drop, V: Read<A> + Drop, A: Allocator + Copy>(
+    alloc: A,
+    source: &mut Source<'_>,
+    cfg: &(RangeCfg<usize>, K::Cfg, V::Cfg),
+) -> Result<(Vec<K, A>, Vec<V, A>), Error>
+    ensures accepted { let key : Reading = record {
+      Value = K;
+      enc = K.enc;
+      Writable = K.writable;
+      Allowed = K.allowed cfg.now.1;
+      HasFault = K.fault cfg.now.1;
+      MemoryFree = K.memory_free cfg.now.1;
+      items = λ _. 1;
+    } in let value : Reading = record {
+      Value = V;
+      enc = V.enc;
+      Writable = V.writable;
+      Allowed = V.allowed cfg.now.2;
+      HasFault = V.fault cfg.now.2;
+      MemoryFree = V.memory_free cfg.now.2;
+      items = λ _. 1;
+    } in let columns = columns_of cfg.now.0 key value in
+        IfOk result (λ read. Accepts columns.enc columns.Writable columns.Allowed
+        (rest_of source.old) (read.0.items, read.1.items) (rest_of source.new)) }
+    ensures refused { let key : Reading = record {
+      Value = K;
+      enc = K.enc;
+      Writable = K.writable;
+      Allowed = K.allowed cfg.now.1;
+      HasFault = K.fault cfg.now.1;
+      MemoryFree = K.memory_free cfg.now.1;
+      items = λ _. 1;
+    } in let value : Reading = record {
+      Value = V;
+      enc = V.enc;
+      Writable = V.writable;
+      Allowed = V.allowed cfg.now.2;
+      HasFault = V.fault cfg.now.2;
+      MemoryFree = V.memory_free cfg.now.2;
+      items = λ _. 1;
+    } in let columns = columns_of cfg.now.0 key value in
+        IfErr result (Refuses (columns.HasFault (rest_of source.old))
+        (columns.MemoryFree (rest_of source.old))) }
+{
+    let keys = match read_list::<K, A>(alloc, source, cfg.0, &cfg.1) {
+        Ok(keys) => keys,
+        Err(error) => return Err(error),
+    };
+    match read_list::<V, A>(alloc, source, RangeCfg::exact(keys.len()), &cfg.2) {
+        Ok(values) => Ok((keys, values)),
+        Err(error) => Err(error),
+    }
+}
+
+/// The keys, each with the value at its position.
+pub(crate) fn pairs_of<K: Drop, V: Drop, A: Allocator + Copy>(
+    alloc: A,
+    keys: Vec<K, A>,
+    values: Vec<V, A>,
+) -> Result<Vec<(K, V), A>, AllocError>
+    ensures { IfOk result (λ pairs. pairs.items ≡ zip keys.items values.items) }
+{
+    let mut pairs = Vec::with_capacity(alloc, keys.len())?;
+    for (key, value) in keys.into_iter().zip(values) {
+        pairs.push((key, value))?;
+    }
+    Ok(pairs)
+}

@@ -1,0 +1,100 @@
+//! What a text is as a value of a type.
+ghost use Rattle.std.specs.Prelude.{◌≡◌};
+ghost use Rattle.judge_questions.specs.Questions.{IsFit};
+ghost use Rattle.judge_verdicts.specs.Readings.{IsJudged, Reading, reading_of};
+
+use crate::counted::Counted;
+use crate::verdict::Verdict;
+use committee_certificates::Certificate;
+use commonware_utils::Participant;
+use commonware_utils::codec::{Error, Read, Source, UInt};
+use commonware_utils::ordered::{BiMap, Map, Set};
+use commonware_utils::vec::NonEmptyVec;
+use judge_questions::{Form, Limits};
+use std::alloc::{AllocError, Allocator};
+
+/// What the text is as a value of the type under a configuration: the number of items of the value
+/// that its bytes begin with and how many bytes follow, or its first fault. The error says that
+/// memory was refused, which it can't be where the reading is memory-free.
+pub fn judge_as<T: Read<A> + Counted + Drop, A: Allocator>(
+    alloc: A,
+    text: &[u8],
+    cfg: &T::Cfg,
+) -> Result<Verdict, AllocError>
+    ensures { let reading : Reading = record {
+      Value = T;
+      enc = T.enc;
+      Writable = T.writable;
+      Allowed = T.allowed cfg.now;
+      HasFault = T.fault cfg.now;
+      MemoryFree = T.memory_free cfg.now;
+      items = T.items;
+    } in IsJudged reading text.now result }
+{
+    let mut source = Source::new(text);
+    match T::read_cfg(alloc, &mut source, cfg) {
+        Ok(value) => Ok(Verdict::Accepted {
+            items: value.count(),
+            left: source.remaining(),
+        }),
+        Err(Error::Memory) => Err(AllocError),
+        Err(fault) => Ok(Verdict::Refused(fault)),
+    }
+}
+
+/// What the text is as a value of the type that the form names, under the ranges of its lengths.
+/// No bound of a list that is never empty is 0.
+pub fn judge<A: Allocator + Copy>(
+    alloc: A,
+    form: Form,
+    limits: &Limits,
+    text: &[u8],
+) -> Result<Verdict, AllocError>
+    requires { IsFit form limits.now }
+    ensures { IsJudged (reading_of form limits.now) text.now result }
+{
+    let first = limits.first.range();
+    let second = limits.second.range();
+    let third = limits.third.range();
+    match form {
+        Form::U8 => judge_as::<u8, A>(alloc, text, &()),
+        Form::U32 => judge_as::<u32, A>(alloc, text, &()),
+        Form::Varint => judge_as::<UInt, A>(alloc, text, &()),
+        Form::Usize => judge_as::<usize, A>(alloc, text, &first),
+        Form::Participant => judge_as::<Participant, A>(alloc, text, &()),
+        Form::VecU8 => judge_as::<Vec<u8, A>, A>(alloc, text, &(first, ())),
+        Form::VecU32 => judge_as::<Vec<u32, A>, A>(alloc, text, &(first, ())),
+        Form::VecVecU8 => { judge_as::<Vec<Vec<u8, A>, A>, A>(alloc, text, &(first, (second, ()))) }
+        Form::VecVecVecU8 => judge_as::<Vec<Vec<Vec<u8, A>, A>, A>, A>(
+            alloc,
+            text,
+            &(first, (second, (third, ()))),
+        ),
+        Form::SetU8 => judge_as::<Set<u8, A>, A>(alloc, text, &(first, ())),
+        Form::SetU32 => judge_as::<Set<u32, A>, A>(alloc, text, &(first, ())),
+        Form::SetParticipant => judge_as::<Set<Participant, A>, A>(alloc, text, &(first, ())),
+        Form::SetSetU8 => { judge_as::<Set<Set<u8, A>, A>, A>(alloc, text, &(first, (second, ()))) }
+        Form::SetNonEmptyU8 => {
+            let second = limits.second.non_zero();
+            judge_as::<Set<NonEmptyVec<u8, A>, A>, A>(alloc, text, &(first, (second, ())))
+        }
+        Form::MapU8U8 => judge_as::<Map<u8, u8, A>, A>(alloc, text, &(first, (), ())),
+        Form::MapU8SetU8 => {
+            judge_as::<Map<u8, Set<u8, A>, A>, A>(alloc, text, &(first, (), (second, ())))
+        }
+        Form::VecMapU8U8 => {
+            judge_as::<Vec<Map<u8, u8, A>, A>, A>(alloc, text, &(first, (second, (), ())))
+        }
+        Form::BiMapU8U8 => judge_as::<BiMap<u8, u8, A>, A>(alloc, text, &(first, (), ())),
+        Form::NonEmptyU8 => {
+            let first = limits.first.non_zero();
+            judge_as::<NonEmptyVec<u8, A>, A>(alloc, text, &(first, ()))
+        }
+        Form::NonEmptyNonEmptyU8 => {
+            let first = limits.first.non_zero();
+            let second = limits.second.non_zero();
+            judge_as::<NonEmptyVec<NonEmptyVec<u8, A>, A>, A>(alloc, text, &(first, (second, ())))
+        }
+        Form::Certificate => judge_as::<Certificate<A>, A>(alloc, text, &(first, second)),
+    }
+}

@@ -1,0 +1,27 @@
+//! What the oracle says: what a text is as a value of a type, what a builder makes of items in any
+//! order, where an item stands, the numbers of a fault model, and who signed two certificates. Each
+//! verdict is a theorem of the library's own clauses.
+#![tactic(auto)]
+
+mod collections;
+mod columns;
+mod conflict;
+mod counted;
+mod judgement;
+mod numbers;
+mod pairs;
+mod places;
+mod sets;
+mod verdict;
+mod whole;
+
+pub use collections::{build, position};
+pub use conflict::{NoConflict, conflict_of};
+pub use counted::Counted;
+pub use judgement::{judge, judge_as};
+pub use numbers::{FaultNumbers, Refutation, fault_numbers, refute};
+pub use pairs::{build_bimap, build_map};
+pub use places::{Found, position_as};
+pub use sets::{NotBuilt, build_set};
+pub use verdict::Verdict;
+pub use whole::{Misread, read_whole};

@@ -1,0 +1,61 @@
+//! Where an item stands in a set.
+ghost use Rattle.std.specs.Prelude.{◌≡◌, IfErr, IfOk};
+ghost use Rattle.judge_verdicts.specs.Places.{IsFound, WantsMemoryToFind};
+ghost use Rattle.judge_verdicts.specs.Readings.{Reading};
+
+use crate::whole::{Misread, read_whole};
+use commonware_utils::codec::{Canonical, RangeCfg, Read};
+use commonware_utils::ordered::Set;
+use std::alloc::{AllocError, Allocator};
+
+/// Where an item stands in a set, both of which are texts.
+#[derive(PartialEq, Eq, Drop)]
+pub enum Found {
+    /// At this position.
+    At(usize),
+    /// Nowhere.
+    Nowhere,
+    /// The first text is no set of such items, or the second is no such item.
+    Unread(Misread),
+}
+
+/// The position of the item in the set, each the whole of a text. What is wrong with the set comes
+/// first. The error says that memory was refused, which it can't be where both are read without.
+pub fn position_as<T: Ord + Canonical + Read<A> + Drop, A: Allocator + Copy>(
+    alloc: A,
+    set: &[u8],
+    item: &[u8],
+    cfg: &(RangeCfg<usize>, T::Cfg),
+) -> Result<Found, AllocError>
+    ensures found { let reading : Reading = record {
+      Value = T;
+      enc = T.enc;
+      Writable = T.writable;
+      Allowed = T.allowed cfg.now.1;
+      HasFault = T.fault cfg.now.1;
+      MemoryFree = T.memory_free cfg.now.1;
+      items = λ _. 1;
+    } in IfOk result (IsFound cfg.now.0 reading T.eq T.cmp set.now item.now) }
+    ensures memory { let reading : Reading = record {
+      Value = T;
+      enc = T.enc;
+      Writable = T.writable;
+      Allowed = T.allowed cfg.now.1;
+      HasFault = T.fault cfg.now.1;
+      MemoryFree = T.memory_free cfg.now.1;
+      items = λ _. 1;
+    } in IfErr result (λ _. WantsMemoryToFind cfg.now.0 reading T.cmp set.now item.now) }
+{
+    let held = match read_whole::<Set<T, A>, A>(alloc, set, cfg)? {
+        Ok(held) => held,
+        Err(what) => return Ok(Found::Unread(what)),
+    };
+    let value = match read_whole::<T, A>(alloc, item, &cfg.1)? {
+        Ok(value) => value,
+        Err(what) => return Ok(Found::Unread(what)),
+    };
+    match held.position(&value) {
+        Some(place) => Ok(Found::At(place)),
+        None => Ok(Found::Nowhere),
+    }
+}
