@@ -1,5 +1,5 @@
 -- Where an item stands in a set, both of which are texts.
-use Rattle.std.specs.Prelude.{◌≡◌, ◌⊎◌, ℕ, Bool, None, List}
+use Rattle.std.specs.Prelude.{◌⊎◌, ℕ, Bool, None, List}
 use Rattle.std.specs.declared.cmp.Ordering.{Ordering}
 use Rattle.commonware_utils.specs.Codec.{Bounds}
 use Rattle.commonware_utils.specs.Ordered.{HasEqualAt, IsPlaceOf}

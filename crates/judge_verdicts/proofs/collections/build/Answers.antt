@@ -1,8 +1,7 @@
 use Rattle.std.proofs.Common.{◌≡◌, ℕ, ◌∙◌, subst, sym}
 use Rattle.std.specs.Prelude.{IfErr, IfOk, nat_eq}
-use Rattle.std.specs.Cmp.Lexicographic.{pointwise, slice_cmp}
 use Rattle.std.specs.Ordering.{nat_cmp}
-use Rattle.commonware_utils.specs.Codec.{Bounds, as_numbers}
+use Rattle.commonware_utils.specs.Codec.{Bounds}
 use Rattle.judge_questions.specs.Limits.{full}
 use Rattle.judge_verdicts.specs.Builds.{IsBiMapBuilt, IsMapBuilt, WantsMemoryToBuild}
 use Rattle.judge_verdicts.specs.Collections.{IsBuilt, lists_of}

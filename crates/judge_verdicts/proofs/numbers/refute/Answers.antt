@@ -1,4 +1,4 @@
-use Rattle.std.proofs.Common.{◌<◌, ◌+◌, ◌-◌, ◌*◌, arith, refl, sym}
+use Rattle.std.proofs.Common.{◌-◌, arith, refl}
 use Rattle.commonware_faults.specs.SubsetSizeLaws.{shared-places}
 use Rattle.judge_verdicts.proofs.numbers.refute.Goals as goal
 

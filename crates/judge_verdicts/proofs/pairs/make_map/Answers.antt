@@ -1,5 +1,5 @@
 use Rattle.std.proofs.lemmas.Cmp.{on_total}
-use Rattle.judge_verdicts.proofs.Writable.{all_writable, dedup_writable, map_writable, IsWritablePair}
+use Rattle.judge_verdicts.proofs.Writable.{all_writable, dedup_writable, map_writable}
 use Rattle.commonware_utils.specs.Ordered.{on_keys}
 use Rattle.judge_verdicts.proofs.pairs.make_map.Goals as goal
 

@@ -1,4 +1,4 @@
-use Rattle.std.proofs.Common.{inl, inr}
+use Rattle.std.proofs.Common.{inl}
 use Rattle.judge_verdicts.proofs.Results.{on_error}
 use Rattle.judge_verdicts.proofs.places.position_as.Goals as goal
 
