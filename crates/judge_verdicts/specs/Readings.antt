@@ -24,8 +24,7 @@ use Rattle.judge_verdicts.specs.declared.verdict.Verdict.{Verdict}
 use Rattle.judge_verdicts.specs.declared.verdict.Verdict.TheVariants.{Accepted, Refused}
 
 -- What is read: the values and their bytes, which values have a byte form and which the limits allow, the first fault
--- of a
--- text, the texts that are read or refused with no memory, and how many items a value has.
+-- of a text, the texts that are read or refused with no memory, and how many items a value has.
 pub record Reading : Type 1 where
   pub Value : Type 0
   pub enc : Value → List ℕ
@@ -34,6 +33,19 @@ pub record Reading : Type 1 where
   pub HasFault : List ℕ → Fault → Type 0
   pub MemoryFree : List ℕ → Type 0
   pub items : Value → ℕ
+
+-- what a reader reads, by what it says of itself, each value as one item
+abbrev pub reading_by : {V : Type 0} → (V → List ℕ) → (V → Type 0) → (V → Type 0) → (List ℕ → Fault → Type 0)
+    → (List ℕ → Type 0) → Reading
+reading_by {V} bytes writable allowed fault free = record {
+  Value = V;
+  enc = bytes;
+  Writable = writable;
+  Allowed = allowed;
+  HasFault = fault;
+  MemoryFree = free;
+  items = λ _. 1;
+}
 
 -- a verdict is right: the text begins with an allowed value that has so many items, and so many bytes follow it; or the
 -- error names the first fault of the text, so it is no want of memory

@@ -2,7 +2,7 @@
 ghost use Rattle.std.specs.Prelude.{◌≡◌, IfErr, IfOk, MatchResult, zip};
 ghost use Rattle.commonware_utils.specs.Codec.{Accepts, IsListMemoryFree, Refuses, rest_of};
 ghost use Rattle.judge_verdicts.specs.Columns.{columns_of};
-ghost use Rattle.judge_verdicts.specs.Readings.{Reading};
+ghost use Rattle.judge_verdicts.specs.Readings.{reading_by};
 ghost use Rattle.judge_verdicts.specs.Whole.{IsMisread, IsWhole};
 
 use crate::whole::Misread;
@@ -16,23 +16,10 @@ pub(crate) fn read_columns<K: Read<A> + Drop, V: Read<A> + Drop, A: Allocator + 
     text: &[u8],
     cfg: &(RangeCfg<usize>, K::Cfg, V::Cfg),
 ) -> Result<Result<(Vec<K, A>, Vec<V, A>), Misread>, AllocError>
-    ensures read { let key : Reading = record {
-      Value = K;
-      enc = K.enc;
-      Writable = K.writable;
-      Allowed = K.allowed cfg.now.1;
-      HasFault = K.fault cfg.now.1;
-      MemoryFree = K.memory_free cfg.now.1;
-      items = λ _. 1;
-    } in let value : Reading = record {
-      Value = V;
-      enc = V.enc;
-      Writable = V.writable;
-      Allowed = V.allowed cfg.now.2;
-      HasFault = V.fault cfg.now.2;
-      MemoryFree = V.memory_free cfg.now.2;
-      items = λ _. 1;
-    } in IfOk result (λ read. MatchResult read
+    ensures read { let key = reading_by K.enc K.writable (K.allowed cfg.now.1)
+        (K.fault cfg.now.1) (K.memory_free cfg.now.1) in
+        let value = reading_by V.enc V.writable (V.allowed cfg.now.2)
+        (V.fault cfg.now.2) (V.memory_free cfg.now.2) in IfOk result (λ read. MatchResult read
         (λ columns. IsWhole (columns_of cfg.now.0 key value) text.now
         (columns.0.items, columns.1.items))
         (IsMisread (columns_of cfg.now.0 key value) text.now)) }
@@ -57,42 +44,18 @@ fn next_columns<K: Read<A> + Drop, V: Read<A> + Drop, A: Allocator + Copy>(
     source: &mut Source<'_>,
     cfg: &(RangeCfg<usize>, K::Cfg, V::Cfg),
 ) -> Result<(Vec<K, A>, Vec<V, A>), Error>
-    ensures accepted { let key : Reading = record {
-      Value = K;
-      enc = K.enc;
-      Writable = K.writable;
-      Allowed = K.allowed cfg.now.1;
-      HasFault = K.fault cfg.now.1;
-      MemoryFree = K.memory_free cfg.now.1;
-      items = λ _. 1;
-    } in let value : Reading = record {
-      Value = V;
-      enc = V.enc;
-      Writable = V.writable;
-      Allowed = V.allowed cfg.now.2;
-      HasFault = V.fault cfg.now.2;
-      MemoryFree = V.memory_free cfg.now.2;
-      items = λ _. 1;
-    } in let columns = columns_of cfg.now.0 key value in
+    ensures accepted { let key = reading_by K.enc K.writable (K.allowed cfg.now.1)
+        (K.fault cfg.now.1) (K.memory_free cfg.now.1) in
+        let value = reading_by V.enc V.writable (V.allowed cfg.now.2)
+        (V.fault cfg.now.2) (V.memory_free cfg.now.2) in
+        let columns = columns_of cfg.now.0 key value in
         IfOk result (λ read. Accepts columns.enc columns.Writable columns.Allowed
         (rest_of source.old) (read.0.items, read.1.items) (rest_of source.new)) }
-    ensures refused { let key : Reading = record {
-      Value = K;
-      enc = K.enc;
-      Writable = K.writable;
-      Allowed = K.allowed cfg.now.1;
-      HasFault = K.fault cfg.now.1;
-      MemoryFree = K.memory_free cfg.now.1;
-      items = λ _. 1;
-    } in let value : Reading = record {
-      Value = V;
-      enc = V.enc;
-      Writable = V.writable;
-      Allowed = V.allowed cfg.now.2;
-      HasFault = V.fault cfg.now.2;
-      MemoryFree = V.memory_free cfg.now.2;
-      items = λ _. 1;
-    } in let columns = columns_of cfg.now.0 key value in
+    ensures refused { let key = reading_by K.enc K.writable (K.allowed cfg.now.1)
+        (K.fault cfg.now.1) (K.memory_free cfg.now.1) in
+        let value = reading_by V.enc V.writable (V.allowed cfg.now.2)
+        (V.fault cfg.now.2) (V.memory_free cfg.now.2) in
+        let columns = columns_of cfg.now.0 key value in
         IfErr result (Refuses (columns.HasFault (rest_of source.old))
         (columns.MemoryFree (rest_of source.old))) }
 {

@@ -5,7 +5,7 @@ ghost use Rattle.commonware_utils.specs.Ordered.{IsDedup, on_keys};
 ghost use Rattle.judge_verdicts.specs.Builds.{IsBiMapBuilt, IsBiMapMade, IsMapBuilt, IsMapMade};
 ghost use Rattle.judge_verdicts.specs.Builds.{WantsMemoryToBuild};
 ghost use Rattle.judge_verdicts.specs.Columns.{columns_of};
-ghost use Rattle.judge_verdicts.specs.Readings.{Reading};
+ghost use Rattle.judge_verdicts.specs.Readings.{reading_by};
 ghost use Rattle.judge_verdicts.specs.Whole.{items_of};
 
 use crate::columns::{pairs_of, read_columns};
@@ -27,41 +27,15 @@ pub fn build_map<K, V, A: Allocator + Copy>(
 where
     K: Ord + Read<A> + Write<A> + Drop,
     V: Read<A> + Write<A> + Drop,
-    ensures built { let key : Reading = record {
-      Value = K;
-      enc = K.enc;
-      Writable = K.writable;
-      Allowed = K.allowed cfg.now.1;
-      HasFault = K.fault cfg.now.1;
-      MemoryFree = K.memory_free cfg.now.1;
-      items = λ _. 1;
-    } in let value : Reading = record {
-      Value = V;
-      enc = V.enc;
-      Writable = V.writable;
-      Allowed = V.allowed cfg.now.2;
-      HasFault = V.fault cfg.now.2;
-      MemoryFree = V.memory_free cfg.now.2;
-      items = λ _. 1;
-    } in IfOk result (λ built.
+    ensures built { let key = reading_by K.enc K.writable (K.allowed cfg.now.1)
+        (K.fault cfg.now.1) (K.memory_free cfg.now.1) in
+        let value = reading_by V.enc V.writable (V.allowed cfg.now.2)
+        (V.fault cfg.now.2) (V.memory_free cfg.now.2) in IfOk result (λ built.
         IsMapBuilt unique cfg.now.0 key value K.eq K.cmp text.now (items_of built)) }
-    ensures memory { let key : Reading = record {
-      Value = K;
-      enc = K.enc;
-      Writable = K.writable;
-      Allowed = K.allowed cfg.now.1;
-      HasFault = K.fault cfg.now.1;
-      MemoryFree = K.memory_free cfg.now.1;
-      items = λ _. 1;
-    } in let value : Reading = record {
-      Value = V;
-      enc = V.enc;
-      Writable = V.writable;
-      Allowed = V.allowed cfg.now.2;
-      HasFault = V.fault cfg.now.2;
-      MemoryFree = V.memory_free cfg.now.2;
-      items = λ _. 1;
-    } in IfErr result (λ _.
+    ensures memory { let key = reading_by K.enc K.writable (K.allowed cfg.now.1)
+        (K.fault cfg.now.1) (K.memory_free cfg.now.1) in
+        let value = reading_by V.enc V.writable (V.allowed cfg.now.2)
+        (V.fault cfg.now.2) (V.memory_free cfg.now.2) in IfErr result (λ _.
         WantsMemoryToBuild (columns_of cfg.now.0 key value) text.now) }
 {
     match read_columns::<K, V, A>(alloc, text, cfg)? {
@@ -112,41 +86,15 @@ pub fn build_bimap<K, V, A: Allocator + Copy>(
 where
     K: Ord + Read<A> + Write<A> + Drop,
     V: Eq + Hash + Read<A> + Write<A> + Drop,
-    ensures built { let key : Reading = record {
-      Value = K;
-      enc = K.enc;
-      Writable = K.writable;
-      Allowed = K.allowed cfg.now.1;
-      HasFault = K.fault cfg.now.1;
-      MemoryFree = K.memory_free cfg.now.1;
-      items = λ _. 1;
-    } in let value : Reading = record {
-      Value = V;
-      enc = V.enc;
-      Writable = V.writable;
-      Allowed = V.allowed cfg.now.2;
-      HasFault = V.fault cfg.now.2;
-      MemoryFree = V.memory_free cfg.now.2;
-      items = λ _. 1;
-    } in IfOk result (λ built.
+    ensures built { let key = reading_by K.enc K.writable (K.allowed cfg.now.1)
+        (K.fault cfg.now.1) (K.memory_free cfg.now.1) in
+        let value = reading_by V.enc V.writable (V.allowed cfg.now.2)
+        (V.fault cfg.now.2) (V.memory_free cfg.now.2) in IfOk result (λ built.
         IsBiMapBuilt cfg.now.0 key value K.eq K.cmp V.eq text.now (items_of built)) }
-    ensures memory { let key : Reading = record {
-      Value = K;
-      enc = K.enc;
-      Writable = K.writable;
-      Allowed = K.allowed cfg.now.1;
-      HasFault = K.fault cfg.now.1;
-      MemoryFree = K.memory_free cfg.now.1;
-      items = λ _. 1;
-    } in let value : Reading = record {
-      Value = V;
-      enc = V.enc;
-      Writable = V.writable;
-      Allowed = V.allowed cfg.now.2;
-      HasFault = V.fault cfg.now.2;
-      MemoryFree = V.memory_free cfg.now.2;
-      items = λ _. 1;
-    } in IfErr result (λ _.
+    ensures memory { let key = reading_by K.enc K.writable (K.allowed cfg.now.1)
+        (K.fault cfg.now.1) (K.memory_free cfg.now.1) in
+        let value = reading_by V.enc V.writable (V.allowed cfg.now.2)
+        (V.fault cfg.now.2) (V.memory_free cfg.now.2) in IfErr result (λ _.
         WantsMemoryToBuild (columns_of cfg.now.0 key value) text.now) }
 {
     match read_columns::<K, V, A>(alloc, text, cfg)? {

@@ -1,7 +1,7 @@
 //! Where an item stands in a set.
 ghost use Rattle.std.specs.Prelude.{◌≡◌, IfErr, IfOk};
 ghost use Rattle.judge_verdicts.specs.Places.{IsFound, WantsMemoryToFind};
-ghost use Rattle.judge_verdicts.specs.Readings.{Reading};
+ghost use Rattle.judge_verdicts.specs.Readings.{reading_by};
 
 use crate::whole::{Misread, read_whole};
 use commonware_utils::codec::{Canonical, RangeCfg, Read};
@@ -27,24 +27,12 @@ pub fn position_as<T: Ord + Canonical + Read<A> + Drop, A: Allocator + Copy>(
     item: &[u8],
     cfg: &(RangeCfg<usize>, T::Cfg),
 ) -> Result<Found, AllocError>
-    ensures found { let reading : Reading = record {
-      Value = T;
-      enc = T.enc;
-      Writable = T.writable;
-      Allowed = T.allowed cfg.now.1;
-      HasFault = T.fault cfg.now.1;
-      MemoryFree = T.memory_free cfg.now.1;
-      items = λ _. 1;
-    } in IfOk result (IsFound cfg.now.0 reading T.eq T.cmp set.now item.now) }
-    ensures memory { let reading : Reading = record {
-      Value = T;
-      enc = T.enc;
-      Writable = T.writable;
-      Allowed = T.allowed cfg.now.1;
-      HasFault = T.fault cfg.now.1;
-      MemoryFree = T.memory_free cfg.now.1;
-      items = λ _. 1;
-    } in IfErr result (λ _. WantsMemoryToFind cfg.now.0 reading T.cmp set.now item.now) }
+    ensures found { let reading = reading_by T.enc T.writable (T.allowed cfg.now.1)
+        (T.fault cfg.now.1) (T.memory_free cfg.now.1) in
+        IfOk result (IsFound cfg.now.0 reading T.eq T.cmp set.now item.now) }
+    ensures memory { let reading = reading_by T.enc T.writable (T.allowed cfg.now.1)
+        (T.fault cfg.now.1) (T.memory_free cfg.now.1) in
+        IfErr result (λ _. WantsMemoryToFind cfg.now.0 reading T.cmp set.now item.now) }
 {
     let held = match read_whole::<Set<T, A>, A>(alloc, set, cfg)? {
         Ok(held) => held,

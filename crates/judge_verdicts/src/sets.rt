@@ -3,7 +3,7 @@ ghost use Rattle.std.specs.Prelude.{◌≡◌, IfErr, IfOk};
 ghost use Rattle.commonware_utils.specs.Codec.{IsWritableList};
 ghost use Rattle.commonware_utils.specs.Ordered.{IsDedup};
 ghost use Rattle.judge_verdicts.specs.Builds.{IsSetBuilt, IsSetMade, WantsMemoryToBuild};
-ghost use Rattle.judge_verdicts.specs.Readings.{Reading, list_of};
+ghost use Rattle.judge_verdicts.specs.Readings.{list_of, reading_by};
 ghost use Rattle.judge_verdicts.specs.Whole.{items_of};
 
 use crate::whole::{Misread, read_whole};
@@ -30,15 +30,8 @@ pub fn build_set<T: Ord + Read<A> + Write<A> + Drop, A: Allocator + Copy>(
     text: &[u8],
     cfg: &(RangeCfg<usize>, T::Cfg),
 ) -> Result<Result<Vec<u8, A>, NotBuilt>, AllocError>
-    ensures built { let reading : Reading = record {
-      Value = T;
-      enc = T.enc;
-      Writable = T.writable;
-      Allowed = T.allowed cfg.now.1;
-      HasFault = T.fault cfg.now.1;
-      MemoryFree = T.memory_free cfg.now.1;
-      items = λ _. 1;
-    } in IfOk result (λ built.
+    ensures built { let reading = reading_by T.enc T.writable (T.allowed cfg.now.1)
+        (T.fault cfg.now.1) (T.memory_free cfg.now.1) in IfOk result (λ built.
         IsSetBuilt unique cfg.now.0 reading T.eq T.cmp text.now (items_of built)) }
     ensures memory { IfErr result (λ _. WantsMemoryToBuild (list_of cfg.now.0 (record {
       Value = T;

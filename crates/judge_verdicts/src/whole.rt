@@ -1,6 +1,6 @@
 //! A text that is one whole value.
 ghost use Rattle.std.specs.Prelude.{◌≡◌, IfErr, IfOk, MatchResult};
-ghost use Rattle.judge_verdicts.specs.Readings.{Reading};
+ghost use Rattle.judge_verdicts.specs.Readings.{reading_by};
 ghost use Rattle.judge_verdicts.specs.Whole.{IsMisread, IsWhole};
 
 use commonware_utils::codec::{Error, Read, Source};
@@ -23,15 +23,9 @@ pub fn read_whole<T: Read<A> + Drop, A: Allocator>(
     text: &[u8],
     cfg: &T::Cfg,
 ) -> Result<Result<T, Misread>, AllocError>
-    ensures read { let reading : Reading = record {
-      Value = T;
-      enc = T.enc;
-      Writable = T.writable;
-      Allowed = T.allowed cfg.now;
-      HasFault = T.fault cfg.now;
-      MemoryFree = T.memory_free cfg.now;
-      items = λ _. 1;
-    } in IfOk result (λ read. MatchResult read (IsWhole reading text.now)
+    ensures read { let reading = reading_by T.enc T.writable (T.allowed cfg.now)
+        (T.fault cfg.now) (T.memory_free cfg.now) in
+        IfOk result (λ read. MatchResult read (IsWhole reading text.now)
         (IsMisread reading text.now)) }
     ensures memory { IfErr result (λ _. ¬ T.memory_free cfg.now text.now) }
 {
