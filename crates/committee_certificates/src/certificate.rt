@@ -2,7 +2,7 @@
 
 mod codec;
 mod compare;
-mod text;
+mod display;
 
 pub use codec::certificate_fault_law;
 use commonware_base::Participant;

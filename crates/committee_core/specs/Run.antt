@@ -3,7 +3,7 @@ use Rattle.std.specs.Prelude.{◌≡◌, ℕ, ◌^◌, ◌<◌, ◌≤◌, List,
 use Rattle.std.specs.Int.NonZero.{non_zero_u32_get}
 use Rattle.std.specs.Io.KnownBytes.{Consumes}
 use Rattle.std.specs.declared.ops.Bound.TheVariants.{Included}
-use Rattle.process.specs.Streams.{Gave}
+use Rattle.program_io.specs.Streams.{Gave}
 use Rattle.commonware_base.specs.Fault.{Fault}
 use Rattle.commonware_base.specs.Lists.{list_enc, IsAllowedList, IsListMemoryFree}
 use Rattle.commonware_base.specs.Range.{Bounds}

@@ -7,7 +7,7 @@ ghost use Rattle.committee_core.specs.BoundsReport.{IsBoundsReport, n_line, refu
 ghost use Rattle.committee_core.specs.BoundsReport.{n3f1_refuted_line, n5f1_refuted_line, m_refuted_line};
 
 use crate::Refutation;
-use crate::refute::{m_refutation, refutation};
+use crate::refutation::{m_refutation, refutation};
 use crate::report::{write_n3f1, write_n5f1};
 use commonware_faults::{Faults, N3f1, N5f1};
 use std::alloc::{AllocError, Allocator};

@@ -1,7 +1,7 @@
 //! Why a run has written no report.
 
 use commonware_base::codec;
-use process::WriteFailed;
+use program_io::WriteFailed;
 
 /// Why a run has written no report. Its text is the line that a session says.
 #[derive(Debug, PartialEq, Eq, Drop, thiserror::Error)]

@@ -5,23 +5,23 @@
 //! only hands in the real ones.
 #![tactic(auto)]
 
-mod arguments;
 mod bounds_report;
 mod command;
 mod error;
+mod host;
+mod input;
 mod member;
-mod outcome;
-mod program;
 mod ranges;
-pub mod refute;
+pub mod refutation;
 mod report;
-mod transfer;
+mod run;
+mod session;
 
-pub use arguments::{on_host, start};
 pub use command::{Command, parse_args};
 pub use error::RunError;
+pub use host::{on_host, start};
 pub use member::Member;
-pub use outcome::run;
-pub use process::Watched;
-pub use program::session;
+pub use program_io::Watched;
 pub use ranges::Refutation;
+pub use run::run;
+pub use session::session;

@@ -4,8 +4,8 @@ ghost use Rattle.std.proofs.lemmas.Cmp.{nat_list_eq_equiv};
 ghost use Rattle.commonware_base.specs.CloneLaws.{equal_from_same};
 
 mod codec;
+mod display;
 mod order;
-mod text;
 
 use commonware_base::EqClone;
 use std::marker::Model;

@@ -14,14 +14,13 @@ ghost use Rattle.commonware_bimap.specs.WholeBiMaps.{HasEqualValues};
 mod builders;
 mod codec;
 mod compare;
+mod display;
 mod iterators;
 mod refs;
-mod text;
 
 pub use codec::bimap_fault_law;
-use commonware_map::Map;
+use commonware_map::{Map, Pairs};
 use commonware_ordered::{Error, Set};
-use commonware_pairs::Pairs;
 use std::alloc::{AllocError, Allocator};
 use std::collections::HashSet;
 use std::hash::Hash;

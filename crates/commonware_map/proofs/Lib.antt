@@ -3,5 +3,6 @@ pub mod Calls
 pub mod Columns
 pub mod Lookups
 pub mod MapReads
+pub mod Stepped
 pub mod Walked
 pub mod Zipped

@@ -4,4 +4,5 @@ pub mod MapLaws
 pub mod Maps
 pub mod PairLaws
 pub mod Pairs
+pub mod PairsMut
 pub mod ValueMaps

@@ -1,8 +1,10 @@
 //! Ordered collections: maps from strictly increasing keys to values.
 #![tactic(auto)]
 
+mod iterators;
 mod map;
 mod map_error;
 
+pub use iterators::{MapIntoIter, Pairs, PairsMut};
 pub use map::{Map, map_fault_law};
 pub use map_error::MapError;

@@ -7,15 +7,15 @@ ghost use Rattle.std.specs.Slice.{IsItemAt};
 ghost use Rattle.std.specs.Slice.Iter.{iter_rest};
 ghost use Rattle.commonware_ordered.specs.Strict.{HasEqualAt, IsPlaceOf, IsStrict};
 
+mod borrows;
 mod builders;
 mod codec;
 mod compare;
+mod display;
 mod into_iter;
-mod loans;
 mod pairs;
 mod pairs_mut;
 mod refs;
-mod text;
 mod value_maps;
 
 pub use codec::map_fault_law;

@@ -8,8 +8,8 @@ ghost use Rattle.commonware_ordered.specs.Strict.{HasEqualAt, IsPlaceOf, IsStric
 mod builders;
 mod codec;
 mod compare;
+mod display;
 mod iterators;
-mod text;
 
 use crate::search::place_of;
 pub use codec::{read_set, set_fault_law};

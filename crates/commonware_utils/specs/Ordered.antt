@@ -15,9 +15,9 @@ pub use Rattle.commonware_map.specs.Pairs.{GivesPairsOf, ShowsPairsOf, are_equal
 pub use Rattle.commonware_map.specs.Pairs.{on_both, on_keys, pair_text}
 pub use Rattle.commonware_map.specs.PairLaws.{both_equal}
 pub use Rattle.commonware_map.specs.PairLaws.{pairs_respect_eq}
-pub use Rattle.commonware_pairs.specs.PairsMut.{CanStep, LendsInOrder, LendsInReverse}
-pub use Rattle.commonware_pairs.specs.PairsMut.{pairs_mut_left, pairs_mut_name, pairs_mut_steps}
-pub use Rattle.commonware_pairs.specs.PairsMut.{pairs_mut_steps_back}
+pub use Rattle.commonware_map.specs.PairsMut.{CanStep, LendsInOrder, LendsInReverse}
+pub use Rattle.commonware_map.specs.PairsMut.{pairs_mut_left, pairs_mut_name, pairs_mut_steps}
+pub use Rattle.commonware_map.specs.PairsMut.{pairs_mut_steps_back}
 pub use Rattle.commonware_ordered.specs.SetFrontLaws.{set_fault_settled}
 pub use Rattle.commonware_ordered.specs.Sets.{BeginsUnsorted, IsWritableSet, unsorted_fault}
 pub use Rattle.commonware_ordered.specs.Sets.{SetFault, bad_list, bad_order}
@@ -28,4 +28,4 @@ pub use Rattle.commonware_map.specs.ValueMaps.{Succeeds, TakesPair, TakesRefs}
 pub use Rattle.commonware_ordered.specs.Whole.{HasEqualItems, IsRefusedFor, IsSetOfAll}
 pub use Rattle.commonware_ordered.specs.Whole.{IsSetOfClones, IsWholeSet, IsWholeSetOfClones}
 pub use Rattle.commonware_ordered.specs.Whole.{MatchError}
-pub use Rattle.commonware_pairs.specs.declared.pairs_mut.PairsMut.{PairsMut}
+pub use Rattle.commonware_map.specs.declared.iterators.pairs_mut.PairsMut.{PairsMut}

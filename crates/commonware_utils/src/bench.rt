@@ -2,36 +2,9 @@
 //! there, through the facade: a file a subject, a table a kind.
 ghost use Rattle.std.specs.Prelude.{IfOk, ◌≡◌, OnErr};
 
-mod beginnings;
-mod bimap_values;
-mod bimaps;
-mod clones;
-mod descending;
-mod example;
-mod faults;
-mod headline;
-mod hostile;
-mod insertion;
-mod labelled;
-mod lists;
-mod map_builders;
-mod map_pairs;
-mod map_values;
-mod maps;
-mod messages;
-mod non_empty_lists;
-mod non_zero;
-mod nothing;
-mod numbers;
-mod participants;
-mod quorums;
-mod ranges;
-mod resilience;
-mod set_builders;
-mod set_calls;
-mod sets;
-mod unions;
-mod vec_module_tests;
+mod carried;
+mod items;
+mod rows;
 
 use crate::codec::{EncodeSize, Error, Read, Source, Write};
 use std::alloc::{AllocError, Allocator};

@@ -1,6 +1,5 @@
 //! Ordered collections: sets, maps and bimaps, and quorums of a set.
 
 pub use commonware_bimap::{BiMap, bimap_fault_law};
-pub use commonware_map::{Map, MapError, map_fault_law};
+pub use commonware_map::{Map, MapError, MapIntoIter, Pairs, PairsMut, map_fault_law};
 pub use commonware_ordered::{Error, Quorum, Set, set_fault_law};
-pub use commonware_pairs::{MapIntoIter, Pairs, PairsMut};

@@ -1,6 +1,6 @@
 //! Why a run has not answered all lines.
 
-use process::WriteFailed;
+use program_io::WriteFailed;
 use std::alloc::AllocError;
 
 /// Why a run has not answered all lines. Its text is the line that a session says.

@@ -4,7 +4,7 @@ ghost use Rattle.std.specs.Io.KnownBytes.{Appends};
 ghost use Rattle.judge_core.specs.Help.{help_text, version_text};
 
 use crate::error::Failure;
-use process::{Watched, write_whole};
+use program_io::{Watched, write_whole};
 use std::io::Write;
 
 /// What `--help` says.

@@ -7,21 +7,21 @@
 #![tactic(auto)]
 
 mod answer;
-mod arguments;
 mod command;
 mod error;
 mod help;
+mod host;
+mod input;
 mod lines;
-mod program;
+mod report;
+mod session;
 mod stream;
-mod tells;
-mod transfer;
 
 pub use answer::{Answer, answer_to, write_answer};
-pub use arguments::{on_host, start};
 pub use command::{Command, parse_args};
 pub use error::Failure;
 pub use help::{say_help, say_version};
+pub use host::{on_host, start};
 pub use judge_questions::{
     Collection, FORMS, Form, Limit, Limits, Question, SetForm, Task, Unreadable, VERBS, Verb,
     read_form, read_limit, read_model, read_question, read_size, read_task, read_text, read_verb,
@@ -30,6 +30,6 @@ pub use judge_verdicts::{
     Counted, FaultNumbers, Found, Misread, NoConflict, NotBuilt, Refutation, Verdict, build,
     conflict_of, fault_numbers, judge, judge_as, position, refute,
 };
-pub use program::{run, session};
+pub use report::tell;
+pub use session::{run, session};
 pub use stream::{answer_all, say_types};
-pub use tells::tell;

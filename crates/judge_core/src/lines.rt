@@ -3,7 +3,7 @@ ghost use Rattle.std.specs.Prelude.{◌≡◌, ◌&&◌, ◌++◌, ◌∷◌, []
 ghost use Rattle.std.specs.Str.Lines.{strip_carriage_return};
 ghost use Rattle.judge_core.specs.Answered.{AreAnswered, Continues, HasNoFeed};
 
-use crate::tells::tell;
+use crate::report::tell;
 use judge_questions::place_of;
 use std::alloc::{AllocError, Allocator};
 

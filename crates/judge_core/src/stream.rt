@@ -1,16 +1,16 @@
 //! All lines of a reader, and their answers to a writer.
 ghost use Rattle.std.specs.Prelude.{◌≡◌, ◌≢◌, ◌↔◌, [], ◌∷◌, ℕ, List, string_bytes, Err, IfErr, IfOk, OnOk, true, false};
 ghost use Rattle.std.specs.Io.KnownBytes.{Appends};
-ghost use Rattle.process.specs.Streams.{Gave};
+ghost use Rattle.program_io.specs.Streams.{Gave};
 ghost use Rattle.judge_questions.specs.Forms.{types_text};
 ghost use Rattle.judge_core.specs.Answered.{AreAnswered, Continues, HasNoFeed};
 ghost use Rattle.judge_core.specs.Session.{IsAllAnswered, IsBeginningAnswered};
 
 use crate::error::Failure;
+use crate::input::read_piece;
 use crate::lines::{answer_line, answer_piece, both};
-use crate::transfer::read_piece;
 use judge_questions::FORMS;
-use process::{Watched, write_whole};
+use program_io::{Watched, write_whole};
 use std::alloc::{AllocError, Allocator};
 use std::io::{Read, Write};
 

@@ -3,7 +3,7 @@ ghost use Rattle.std.specs.Prelude.{◌≡◌, ◌*◌, ◌/◌, ◌≤◌};
 ghost use Rattle.std.specs.Duration.{as_nanos};
 
 use crate::failure::Failure;
-use process::{Watched, write_whole};
+use program_io::{Watched, write_whole};
 use std::alloc::Global;
 use std::io::Write;
 use std::time::{Clock, Duration, Instant};

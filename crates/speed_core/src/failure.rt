@@ -2,7 +2,7 @@
 ghost use Rattle.std.specs.Prelude.{◌≡◌};
 ghost use Rattle.speed_core.specs.Status.{status_of};
 
-use process::WriteFailed;
+use program_io::WriteFailed;
 use std::alloc::{AllocError, AllocFailed};
 use std::fmt;
 

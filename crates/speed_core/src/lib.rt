@@ -11,8 +11,8 @@ mod labels;
 pub mod logarithm;
 mod numbers;
 mod plot;
-mod program;
 mod sample;
+mod session;
 mod timer;
 
 pub use axis::Axis;
@@ -20,6 +20,6 @@ pub use bench::{Bench, Work};
 pub use command::Command;
 pub use failure::Failure;
 pub use numbers::{random, rising, wide_bytes};
-pub use program::{failed_read, on_host, session};
 pub use sample::{Sample, parse_line};
+pub use session::{failed_read, on_host, session};
 pub use timer::Timer;

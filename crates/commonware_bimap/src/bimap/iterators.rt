@@ -2,7 +2,7 @@
 ghost use Rattle.commonware_map.specs.Pairs.{GivesPairsOf, ShowsPairsOf};
 
 use super::BiMap;
-use commonware_pairs::{MapIntoIter, Pairs};
+use commonware_map::{MapIntoIter, Pairs};
 use std::alloc::Allocator;
 use std::hash::Hash;
 

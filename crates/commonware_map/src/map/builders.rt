@@ -10,7 +10,7 @@ ghost use Rattle.commonware_ordered.specs.Whole.{IsRefusedFor, IsSetOfAll, IsWho
 
 use super::Map;
 use commonware_base::{EqClone, TryFromIterator};
-use commonware_ordered::{Error, Gathered, Set};
+use commonware_ordered::{Error, Set, SortedEntries};
 use std::alloc::{AllocError, Allocator};
 
 impl<K: Ord + Drop, V: Drop, A: Allocator + Copy> Map<K, V, A> {
@@ -27,11 +27,11 @@ impl<K: Ord + Drop, V: Drop, A: Allocator + Copy> Map<K, V, A> {
             (λ ps. IsDedup (on_keys K.eq) (on_keys K.cmp) ps m)) }
     {
         let rest = iter.into_iter();
-        let mut gathered = Gathered::with_room(alloc, rest.size_hint().0)?;
+        let mut entries = SortedEntries::with_room(alloc, rest.size_hint().0)?;
         for (key, value) in rest {
-            gathered.insert(key, value)?;
+            entries.insert(key, value)?;
         }
-        map_of(gathered)
+        map_of(entries)
     }
 
     /// The map of all the pairs, or `DuplicateKey` where two of their keys are equal. It takes O(n
@@ -55,13 +55,13 @@ impl<K: Ord + Drop, V: Drop, A: Allocator + Copy> TryFromIterator<(K, V), A> for
     /// equal: none is drawn after the first repeat. It takes O(n log n) comparisons.
     fn try_from_iter<I: IntoIterator<Item = (K, V)>>(alloc: A, iter: I) -> Result<Self, Error> {
         let rest = iter.into_iter();
-        let mut gathered = Gathered::with_room(alloc, rest.size_hint().0)?;
+        let mut entries = SortedEntries::with_room(alloc, rest.size_hint().0)?;
         for (key, value) in rest {
-            if !gathered.insert(key, value)? {
+            if !entries.insert(key, value)? {
                 return Err(Error::DuplicateKey);
             }
         }
-        Ok(map_of(gathered)?)
+        Ok(map_of(entries)?)
     }
 }
 
@@ -94,13 +94,13 @@ impl<K: Ord + EqClone, V: Clone, A: Allocator + Copy> Map<K, V, A> {
     }
 }
 
-/// The map of pairs that were gathered.
+/// The map of pairs that were entries.
 fn map_of<K: Ord + Drop, V: Drop, A: Allocator + Copy>(
-    gathered: Gathered<K, V, A>,
+    entries: SortedEntries<K, V, A>,
 ) -> Result<Map<K, V, A>, AllocError>
-    ensures pairs { IfOk result (λ m. m ≡ gathered) }
+    ensures pairs { IfOk result (λ m. m ≡ entries) }
     ensures strict { IfOk result (λ m. IsStrict (on_keys K.cmp) m) }
 {
-    let (keys, values) = gathered.into_columns()?;
+    let (keys, values) = entries.into_columns()?;
     Ok(Map::from_columns(Set::from_strict(keys), values))
 }

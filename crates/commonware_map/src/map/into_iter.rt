@@ -2,7 +2,7 @@
 ghost use Rattle.commonware_map.specs.Pairs.{GivesPairsOf};
 
 use super::Map;
-use commonware_pairs::MapIntoIter;
+use crate::iterators::MapIntoIter;
 use std::alloc::Allocator;
 
 impl<K: Ord + Drop, V: Drop, A: Allocator> IntoIterator for Map<K, V, A> {

@@ -4,7 +4,7 @@ ghost use Rattle.std.specs.Map.Iter.{ShowsInOrder, ShowsInReverse, deref_pair};
 ghost use Rattle.commonware_map.specs.Pairs.{ShowsPairsOf};
 
 use super::Map;
-use commonware_pairs::Pairs;
+use crate::iterators::Pairs;
 use std::alloc::Allocator;
 
 impl<K: Ord, V, A: Allocator> Map<K, V, A> {

@@ -2,10 +2,10 @@
 ghost use Rattle.std.specs.Prelude.{◌≡◌, ◌<◌, ◌^◌, length};
 ghost use Rattle.std.specs.Borrow.{sem};
 ghost use Rattle.commonware_map.specs.Lends.{LendsValuesTo};
-ghost use Rattle.commonware_pairs.specs.PairsMut.{CanStep, LendsInOrder, LendsInReverse, pairs_mut_left, pairs_mut_name};
+ghost use Rattle.commonware_map.specs.PairsMut.{CanStep, LendsInOrder, LendsInReverse, pairs_mut_left, pairs_mut_name};
 
 use super::Map;
-use commonware_pairs::PairsMut;
+use crate::iterators::PairsMut;
 use std::alloc::Allocator;
 
 impl<K: Ord, V, A: Allocator> Map<K, V, A> {

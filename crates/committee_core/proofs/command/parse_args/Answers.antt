@@ -1,6 +1,6 @@
 use Rattle.std.proofs.Common.{◌≡◌, rules, codes, refl, sym}
 use Rattle.std.specs.String.{string_bytes}
-use Rattle.process.proofs.OneWord.{one_word}
+use Rattle.program_io.proofs.OneWord.{one_word}
 use Rattle.committee_core.proofs.Words.{two_words, no_command, one_command}
 use Rattle.committee_core.proofs.command.parse_args.Goals as goal
 

@@ -1,7 +1,7 @@
 use Rattle.std.proofs.Common.{◌≡◌, ℕ, List, [], ◌∷◌, None, Option, Some, rules}
 use Rattle.std.specs.Prelude.{IfNone}
 use Rattle.std.specs.String.{string_bytes}
-use Rattle.process.proofs.OneWord.{one_word}
+use Rattle.program_io.proofs.OneWord.{one_word}
 use Rattle.judge_core.specs.Command.{AsksFor, IsAskedFor}
 use Rattle.judge_core.specs.declared.command.Command.{Command}
 use Rattle.judge_core.specs.declared.command.Command.TheVariants.{Judge, Types, Help, Version}

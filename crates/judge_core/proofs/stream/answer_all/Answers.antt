@@ -6,7 +6,7 @@ use Rattle.judge_core.specs.Answered.{AreAnswered, Continues}
 use Rattle.judge_core.specs.Session.{IsBeginningAnswered}
 use Rattle.judge_core.specs.declared.error.Failure.TheVariants.{WriteFailed}
 use Rattle.judge_core.proofs.Answering.{continues_on, text_ended}
-use Rattle.process.proofs.Errors.{err_along}
+use Rattle.program_io.proofs.Errors.{err_along}
 use Rattle.judge_core.proofs.Stopping.{beginning, for_memory, kept, untouched}
 use Rattle.judge_core.proofs.stream.answer_all.Goals as goal
 

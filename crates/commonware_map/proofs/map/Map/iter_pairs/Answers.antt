@@ -2,7 +2,7 @@ use Rattle.std.proofs.Common.{◌∙◌}
 use Rattle.std.specs.List.{zip}
 use Rattle.std.specs.Map.Iter.{deref_pair}
 use Rattle.commonware_map.proofs.Columns.{zip-parts}
-use Rattle.commonware_pairs.proofs.Stepped.{shown_in_order, shown_in_reverse}
+use Rattle.commonware_map.proofs.Stepped.{shown_in_order, shown_in_reverse}
 use Rattle.commonware_map.proofs.map.Map.iter_pairs.Goals as goal
 
 pub returns-clause-pairs : goal.returns-clause-pairs

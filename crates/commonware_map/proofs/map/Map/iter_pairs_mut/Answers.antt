@@ -1,7 +1,7 @@
 use Rattle.std.proofs.Common.{sym, ◌∙◌, arith}
 use Rattle.std.specs.List.{zip, refill}
 use Rattle.commonware_map.proofs.Columns.{opened}
-use Rattle.commonware_pairs.proofs.Stepped.{lent_in_order, lent_in_reverse}
+use Rattle.commonware_map.proofs.Stepped.{lent_in_order, lent_in_reverse}
 use Rattle.commonware_map.proofs.map.Map.iter_pairs_mut.Goals as goal
 
 pub returns : goal.returns

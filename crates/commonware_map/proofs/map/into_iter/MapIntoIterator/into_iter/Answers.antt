@@ -2,7 +2,7 @@ use Rattle.std.proofs.Common.{length, ap, ◌∙◌, arith}
 use Rattle.std.proofs.lemmas.Map.Entries.{length-values_of}
 use Rattle.std.specs.List.{zip}
 use Rattle.commonware_map.proofs.Columns.{zip-parts}
-use Rattle.commonware_pairs.proofs.Stepped.{given_in_order, given_in_reverse}
+use Rattle.commonware_map.proofs.Stepped.{given_in_order, given_in_reverse}
 use Rattle.commonware_map.proofs.map.into_iter.MapIntoIterator.into_iter.Goals as goal
 
 pub returns : goal.returns

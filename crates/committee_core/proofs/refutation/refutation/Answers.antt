@@ -1,0 +1,20 @@
+-- The sizes of the two ranges, and how many places they share, are differences.
+use Rattle.std.proofs.Common.{arith}
+use Rattle.commonware_faults.specs.ToleranceLaws.{GreatestFit-by_division, Greatest-refuted}
+use Rattle.commonware_faults.specs.SubsetSizeLaws.{size-places, shared-places}
+use Rattle.committee_core.proofs.refutation.refutation.Goals as goal
+
+pub returns-clause-first_size : goal.returns-clause-first_size
+returns-clause-first_size c = omega (arith, size-places)
+
+pub returns-clause-second_size : goal.returns-clause-second_size
+returns-clause-second_size c = omega (arith, size-places)
+
+pub returns-clause-shared : goal.returns-clause-shared
+returns-clause-shared c = omega (arith, c.saturating_sub.ensures, shared-places)
+
+pub returns-clause-refutes : goal.returns-clause-refutes
+returns-clause-refutes c = λ k two above.
+    let fit = GreatestFit-by_division k c.args.n (omega arith) c.requires.some in
+    let few = Greatest-refuted k c.args.n _ c.args.f two fit above c.requires.at_most in
+    omega (arith, c.saturating_sub.ensures, few, shared-places)

@@ -1,0 +1,140 @@
+//! A command, from the bytes that are read to the bytes that are written.
+ghost use Rattle.std.specs.Prelude.{◌≡◌, ◌≢◌, ◌↔◌, ◌^◌, ◌<◌, ◌≤◌, ◌⊎◌, ℕ, List, [], length, true, false};
+ghost use Rattle.std.specs.Prelude.{Err, IfErr, IfOk, OnErr, OnOk, string_bytes};
+ghost use Rattle.std.specs.Io.KnownBytes.{Appends};
+ghost use Rattle.commonware_base.specs.Fronts.{IsFront};
+ghost use Rattle.program_io.specs.Streams.{Gave};
+ghost use Rattle.committee_core.specs.Run.{IsCommittee, IsCommitteeMemoryFree, IsRefusal, IsReport, WantsMemory};
+ghost use Rattle.committee_core.specs.Run.{front_size};
+
+use crate::bounds_report::bounds_report;
+use crate::command::Command;
+use crate::error::RunError;
+use crate::input::read_front;
+use crate::member::Member;
+use crate::report::committee_report;
+use commonware_base::codec;
+use commonware_base::codec::{MaxEncodeSize, RangeCfg, Source};
+use commonware_ordered::Set;
+use program_io::{Watched, write_whole};
+use std::alloc::Allocator;
+use std::io::{Read, Write};
+
+/// The most members that a committee has.
+const MOST: usize = 256;
+
+/// How many first bytes settle what the bytes are: a length has at most five, and each member has
+/// 32.
+const FRONT: usize = 5 + MOST * Member::MAX_ENCODE_SIZE;
+
+/// Does what the command asks for: writes its report, and flushes.
+///
+/// With `Command::Read` the reader is read to its end. The bytes have to be the bytes of a set of
+/// 1 to 256 [`Member`]s, and no more: else the answer is the first fault of the bytes, or how
+/// many bytes are left over. So many of them are kept as settle that, and the rest is counted.
+/// Memory is asked for the members and the report alone, and `Memory` is answered only where the
+/// bytes can't be judged without it, or are more than a `usize` counts. With `Command::Bounds`
+/// the reader isn't touched, and the answer is no fault of bytes.
+///
+/// The report is whole in memory before the first write, so nothing is written where the answer
+/// isn't `WriteFailed`; after that answer nothing is said of how much went out. No call of a
+/// device is tried again.
+pub fn run<A: Allocator + Copy, R: Read, W: Write>(
+    alloc: A,
+    command: Command,
+    input: &mut Watched<R>,
+    output: &mut Watched<W>,
+) -> Result<(), RunError>
+    // The outcome, of the bytes that the reader gave.
+    ensures done { OnOk result ((text : List ℕ)
+        × Appends (W.contents output.old.inner) (W.contents output.new.inner) text
+        × IsReport (Gave (R.remaining input.old.inner) (R.remaining input.new.inner))
+        command text) }
+    ensures refused { IfErr result
+        (IsRefusal (Gave (R.remaining input.old.inner) (R.remaining input.new.inner))) }
+    ensures memory { command ≡ Command.Read → result ≡ Err RunError.Memory
+        → WantsMemory (R.remaining input.old.inner) (R.remaining input.new.inner) }
+
+    // The devices.
+    ensures nothing_written { OnErr result
+        (result ≢ Err RunError.WriteFailed → output.new ≡ output.old) }
+    ensures broken { result ≡ Err RunError.WriteFailed → output.new.failed ≡ true }
+    ensures read_failed { input.old.failed ≡ false
+        → ((result ≡ Err RunError.ReadFailed) ↔ (input.new.failed ≡ true)) }
+    ensures write_failed { output.old.failed ≡ false
+        → ((result ≡ Err RunError.WriteFailed) ↔ (output.new.failed ≡ true)) }
+    ensures ended { command ≡ Command.Read → result ≢ Err RunError.ReadFailed
+        → result ≢ Err RunError.Memory → input.new.ended ≡ true }
+
+    // With `Command::Bounds` nothing is read.
+    ensures untouched { (n : _) → command ≡ Command.Bounds n → input.new ≡ input.old }
+    ensures no_fault { (n : _) → command ≡ Command.Bounds n
+        → IfErr result (λ error. (error ≡ RunError.Memory) ⊎ (error ≡ RunError.WriteFailed)) }
+{
+    let text = match command {
+        Command::Read => read_report(alloc, input)?,
+        Command::Bounds(n) => match bounds_report(alloc, n) {
+            Ok(text) => text,
+            Err(_) => return Err(RunError::Memory),
+        },
+    };
+    Ok(write_whole(output, text.as_bytes())?)
+}
+
+/// The report on the committee that the reader gives, with nothing after it.
+///
+/// The first bytes settle whether they are one: these are kept, and the rest is read and counted.
+/// So memory is asked for the members and the report alone.
+fn read_report<A: Allocator + Copy, R: Read>(
+    alloc: A,
+    input: &mut Watched<R>,
+) -> Result<String<A>, RunError>
+    ensures done { IfOk result (λ text.
+        IsReport (Gave (R.remaining input.old.inner) (R.remaining input.new.inner))
+        Command.Read (string_bytes text)) }
+    ensures refused { IfErr result
+        (IsRefusal (Gave (R.remaining input.old.inner) (R.remaining input.new.inner))) }
+    ensures memory { result ≡ Err RunError.Memory
+        → WantsMemory (R.remaining input.old.inner) (R.remaining input.new.inner) }
+    ensures sound { result ≢ Err RunError.ReadFailed → input.new.failed ≡ input.old.failed }
+    ensures failed { result ≡ Err RunError.ReadFailed → input.new.failed ≡ true }
+    ensures reads { result ≢ Err RunError.WriteFailed }
+    ensures ended { result ≢ Err RunError.ReadFailed → result ≢ Err RunError.Memory
+        → input.new.ended ≡ true }
+{
+    let mut room = [0u8; FRONT];
+    let counted = read_front(input, &mut room)?;
+    let members = read_members(alloc, &room[..counted.kept], counted.total)?;
+    match committee_report(alloc, members.as_slice()) {
+        Ok(text) => Ok(text),
+        Err(_) => Err(RunError::Memory),
+    }
+}
+
+/// The committee that bytes are, with nothing after it. Of these bytes the front is given, and
+/// how many they are.
+fn read_members<A: Allocator + Copy>(
+    alloc: A,
+    front: &[u8],
+    total: usize,
+) -> Result<Set<Member, A>, RunError>
+    requires { length front.now ≤ total }
+    ensures accepted { (s : List ℕ) → IsFront front_size s front.now → length s ≡ total
+        → IfOk result (λ members. IsCommittee s members []) }
+    ensures some { IfOk result (λ members. 1 ≤ length members) }
+    ensures few { IfOk result (λ members. length members < 2 ^ 32) }
+    ensures refused { (s : List ℕ) → IsFront front_size s front.now → length s ≡ total
+        → IfErr result (IsRefusal (λ t. t ≡ s)) }
+    ensures memory { (s : List ℕ) → IsFront front_size s front.now
+        → result ≡ Err RunError.Memory → ¬ IsCommitteeMemoryFree s }
+    ensures device { (result ≢ Err RunError.ReadFailed) × (result ≢ Err RunError.WriteFailed) }
+{
+    let mut src = Source::new(front);
+    let limits = (RangeCfg::from(1..=MOST), ());
+    let members: Set<Member, A> = codec::Read::read_cfg(alloc, &mut src, &limits)?;
+    let left = total - src.position();
+    if left > 0 {
+        return Err(RunError::LeftOver(left));
+    }
+    Ok(members)
+}

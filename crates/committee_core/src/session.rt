@@ -1,0 +1,69 @@
+//! A whole run of the program: what it says, and its exit status.
+ghost use Rattle.std.specs.Prelude.{◌≡◌, ◌≢◌, ◌↔◌, ◌≤◌, map, string_bytes, true, false};
+ghost use Rattle.std.specs.Io.KnownBytes.{Appends};
+ghost use Rattle.program_io.specs.Streams.{Gave};
+ghost use Rattle.committee_core.specs.Command.{AskForNone, IsAskedFor};
+ghost use Rattle.committee_core.specs.Run.{IsDone, IsRefused, status_of};
+
+use crate::command::{Command, parse_args};
+use crate::error::RunError;
+use crate::run::run;
+use program_io::{Watched, say};
+use std::alloc::Allocator;
+use std::io::{Read, Write};
+
+/// Does what the words after the program's name ask for, and answers the exit status.
+///
+/// The status is 0 where the report was written, 1 where the bytes were refused, 2 where the
+/// words ask for no command, and 3 where memory, the reader or the writer failed. Unless it is 0,
+/// one line on `errors` says why, in one write where `errors` takes it whole. Where `errors`
+/// fails, the status is the same. Where the words ask for `Command::Bounds`, or for no command,
+/// nothing is read. No call of a device is tried again.
+pub fn session<A: Allocator + Copy, R: Read, W: Write, E: Write>(
+    alloc: A,
+    words: &[String<A>],
+    input: &mut Watched<R>,
+    output: &mut Watched<W>,
+    errors: &mut E,
+) -> u8
+    // It is done only where the report that was asked for has been written.
+    ensures done { result ≡ 0 → IsDone (map string_bytes words.now)
+        (Gave (R.remaining input.old.inner) (R.remaining input.new.inner))
+        (Appends (W.contents output.old.inner) (W.contents output.new.inner)) }
+    ensures refused { result ≡ 1 →
+        IsRefused (Gave (R.remaining input.old.inner) (R.remaining input.new.inner))
+        × (output.new ≡ output.old) }
+    ensures usage { (result ≡ 2) ↔ AskForNone (map string_bytes words.now) }
+    ensures untouched { result ≡ 2 → (input.new ≡ input.old) × (output.new ≡ output.old) }
+    ensures bounds { (n : _) → IsAskedFor (map string_bytes words.now) (Command.Bounds n)
+        → (input.new ≡ input.old) × (result ≢ 1) }
+    ensures statuses { result ≤ 3 }
+
+    // The devices.
+    ensures silent { result ≡ 0 → errors.new ≡ errors.old }
+    ensures nothing_written { result ≢ 0 → output.new.failed ≡ false → output.new ≡ output.old }
+    ensures ended { IsAskedFor (map string_bytes words.now) Command.Read
+        → result ≤ 1 → input.new.ended ≡ true }
+    ensures read_failed { input.old.failed ≡ false → input.new.failed ≡ true → result ≡ 3 }
+    ensures write_failed { output.old.failed ≡ false → output.new.failed ≡ true → result ≡ 3 }
+{
+    let Some(command) = parse_args(words) else {
+        say(errors, &"usage: committee read, or committee bounds <n>");
+        return 2;
+    };
+    match run(alloc, command, input, output) {
+        Ok(()) => 0,
+        Err(error) => refuse(errors, &error),
+    }
+}
+
+/// Says why no report was written, and answers the exit status.
+pub(crate) fn refuse<E: Write>(errors: &mut E, error: &RunError) -> u8
+    ensures { result ≡ status_of error.now }
+{
+    say(errors, error);
+    match error {
+        RunError::Refused(_) | RunError::LeftOver(_) => 1,
+        RunError::Memory | RunError::ReadFailed | RunError::WriteFailed => 3,
+    }
+}

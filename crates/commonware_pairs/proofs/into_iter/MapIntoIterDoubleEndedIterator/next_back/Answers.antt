@@ -1,9 +1,0 @@
-use Rattle.std.proofs.Common.{sym, ◌∙◌}
-use Rattle.commonware_pairs.proofs.Stepped.{last_pair, last_progress}
-use Rattle.commonware_pairs.proofs.into_iter.MapIntoIterDoubleEndedIterator.next_back.Goals as goal
-
-pub returns-clause-steps : goal.returns-clause-steps
-returns-clause-steps g c = sym c.self.view_is ∙ last_pair _ _ _ _ _ _ c.in_ok-key.ensures.steps c.in_ok-value.ensures.steps c.self.invariant
-
-pub returns-clause-goes : goal.returns-clause-goes
-returns-clause-goes g c = last_progress (λ pair. pair) _ _ _ (sym c.self.view_is ∙ last_pair _ _ _ _ _ _ c.in_ok-key.ensures.steps c.in_ok-value.ensures.steps c.self.invariant)

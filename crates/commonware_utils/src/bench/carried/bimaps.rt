@@ -1,0 +1,217 @@
+//! Bimaps: what is built and refused, look-ups from both sides, texts, and what is written and
+//! read.
+use crate::TryFromIterator;
+use crate::bench::rows::map_pairs::{gives, lends};
+use crate::bench::rows::sets::UNSORTED;
+use crate::bench::{are_equal, is_debugged_as, is_shown_as, is_written_as, read, refuses};
+use crate::codec::{self, RangeCfg, round_trip};
+use crate::ordered::{BiMap, Error, Map, Set, bimap_fault_law};
+use std::alloc::Global;
+use std::process::Abort;
+
+pub(in crate::bench) const REPEATED: codec::Error = codec::Error::Invalid(
+    "BiMap",
+    "duplicate value detected during deserialization",
+);
+
+/// Pairs, and what refuses them; equal keys come before equal values.
+const LISTS: [([(u8, char); 3], Option<Error>); 3] = [
+    ([(1, 'a'), (2, 'b'), (3, 'a')], Some(Error::DuplicateValue)),
+    ([(1, 'a'), (1, 'b'), (2, 'a')], Some(Error::DuplicateKey)),
+    ([(3, 'c'), (1, 'a'), (2, 'b')], None),
+];
+
+/// Texts that are no bimap of bytes.
+const NO_BIMAPS: [(&[u8], codec::Error); 4] = [
+    (b"\x02\x01\x02\x02\x0a\x0a", REPEATED),
+    (b"\x03\x01\x02\x03\x03\x0a\x14\x0a", REPEATED),
+    (b"\x02\x02\x01\x02\x0a\x0a", UNSORTED),
+    (b"\x02\x01\x02\x02\x0a", codec::Error::EndOfBuffer),
+];
+
+/// {1: a, 2: b, 3: c}
+fn letters(rt: &impl Abort, alloc: Global) -> BiMap<u8, char, Global> {
+    BiMap::try_from_array(alloc, [(2u8, 'b'), (3, 'c'), (1, 'a')]).expect(rt, "memory")
+}
+
+/// The bimap of these pairs.
+fn bimap_of(rt: &impl Abort, alloc: Global, pairs: &[(u8, u8)]) -> BiMap<u8, u8, Global> {
+    BiMap::try_from_slice(alloc, pairs).expect(rt, "memory")
+}
+
+/// By every builder.
+#[test]
+fn test_bimap_duplicate_value_error(rt: HostRuntime) {
+    let alloc = rt.alloc();
+    for (pairs, refusal) in LISTS {
+        let list = Vec::from_slice(alloc, &pairs).expect(&rt, "memory");
+        assert!(rt;
+            BiMap::try_from_iter(alloc, pairs).err() == refusal
+                && BiMap::try_from_vec(list).err() == refusal
+                && BiMap::try_from_slice(alloc, &pairs).err() == refusal
+                && BiMap::try_from_array(alloc, pairs).err() == refusal
+                && BiMap::try_from_array_ref(alloc, &pairs).err() == refusal
+        );
+    }
+}
+
+/// Whether the pair stands at the place, by each look-up.
+fn stands_at(bimap: &BiMap<u8, char, Global>, place: usize, key: u8, value: char) -> bool {
+    bimap.get_value(&key) == Some(&value)
+        && bimap.get(place) == Some(&key)
+        && bimap.value(place) == Some(&value)
+        && bimap.position(&key) == Some(place)
+}
+
+#[test]
+fn test_bimap_no_duplicate_values(rt: HostRuntime) {
+    let bimap = letters(&rt, rt.alloc());
+    assert!(rt;
+        bimap.len() == 3
+            && !bimap.is_empty()
+            && bimap.get_value(&4) == None
+            && bimap.values() == ['a', 'b', 'c'].as_slice()
+    );
+    for (place, key, value) in [(0usize, 1u8, 'a'), (1, 2, 'b'), (2, 3, 'c')] {
+        assert!(rt; stands_at(&bimap, place, key, value));
+    }
+}
+
+#[test]
+fn test_bimap_get_key(rt: HostRuntime) {
+    let bimap = letters(&rt, rt.alloc());
+    for (value, key) in [
+        ('a', Some(&1)),
+        ('b', Some(&2)),
+        ('c', Some(&3)),
+        ('d', None),
+    ] {
+        assert!(rt; bimap.get_key(&value) == key);
+    }
+}
+
+#[test]
+fn test_bimap_try_from_map(rt: HostRuntime) {
+    let map = Map::try_from_array(rt.alloc(), [(1u8, 'a'), (2, 'b'), (3, 'c')]).expect(
+        &rt, "memory",
+    );
+    let bimap = BiMap::try_from_map(map).expect(&rt, "memory");
+    assert!(rt; bimap.len() == 3 && bimap.get_value(&1) == Some(&'a'));
+    let none: Map<u8, u8, _> = Map::empty(rt.alloc());
+    assert!(rt; BiMap::try_from_map(none).expect(&rt, "memory") == BiMap::empty(rt.alloc()));
+}
+
+#[test]
+fn test_bimap_try_from_map_duplicate(rt: HostRuntime) {
+    let map = Map::try_from_array(rt.alloc(), [(1u8, 'a'), (2, 'b'), (3, 'a')]).expect(
+        &rt, "memory",
+    );
+    assert!(rt; BiMap::try_from_map(map).err() == Some(Error::DuplicateValue));
+}
+
+/// Whether the bimap of 1, 2 and 3 is seen as the set of its keys.
+fn is_its_keys(bimap: &BiMap<u8, char, Global>) -> bool {
+    let set: &Set<u8, Global> = bimap;
+    let keys: &Set<u8, Global> = bimap.as_ref();
+    set == keys && bimap.keys() == keys && bimap.iter().next_back() == Some(&3)
+}
+
+#[test]
+fn bimaps_are_sets_of_keys(rt: HostRuntime) {
+    assert!(rt; is_its_keys(&letters(&rt, rt.alloc())));
+}
+
+#[test]
+fn bimaps_are_given_up_in_parts(rt: HostRuntime) {
+    let keys = letters(&rt, rt.alloc()).into_keys();
+    assert!(rt; keys.as_slice() == [1, 2, 3].as_slice());
+    let pairs = letters(&rt, rt.alloc()).into_pairs().expect(&rt, "memory");
+    assert!(rt; pairs.as_slice() == [(1, 'a'), (2, 'b'), (3, 'c')].as_slice());
+}
+
+/// The lines on bimaps; those on maps stand with the pairs of maps.
+#[test]
+fn test_pair_iterators(rt: HostRuntime) {
+    let bimap = bimap_of(&rt, rt.alloc(), &[(3, 30), (1, 10), (2, 20)]);
+    let steps = [
+        (false, Some((&1, &10)), 2),
+        (true, Some((&3, &30)), 1),
+        (true, Some((&2, &20)), 0),
+        (false, None, 0),
+        (true, None, 0),
+    ];
+    assert!(rt;
+        lends(bimap.iter_pairs(), 3, &steps)
+            && lends((&bimap).into_iter(), 3, &[(true, Some((&3, &30)), 2)])
+            && gives(bimap.into_iter(), 3, &[(true, Some((3, 30)), 2)])
+    );
+}
+
+#[test]
+fn bimaps_are_shown(rt: HostRuntime) {
+    let alloc = rt.alloc();
+    for (pairs, text) in [
+        ([(2, 10), (1, 20)].as_slice(), "[(1, 20), (2, 10)]"),
+        (&[], "[]"),
+    ] {
+        assert!(rt; is_shown_as(alloc, &bimap_of(&rt, alloc, pairs), text));
+    }
+    assert!(rt; is_debugged_as(alloc, &bimap_of(&rt, alloc, &[(1, 10)]), "BiMap([(1, 10)])"));
+}
+
+#[test]
+fn equal_bimaps_hash_alike(rt: HostRuntime) {
+    let bimap = bimap_of(&rt, rt.alloc(), &[(2, 20), (1, 10)]);
+    assert!(rt; are_equal(&bimap, &bimap.clone().expect(&rt, "memory"), true));
+    for other in [[(1, 10), (2, 21)], [(1, 10), (3, 20)], [(1, 20), (2, 10)]] {
+        assert!(rt; are_equal(&bimap, &bimap_of(&rt, rt.alloc(), &other), false));
+    }
+}
+
+#[test]
+fn bimaps_are_written_as_maps_and_in_lists(rt: HostRuntime) {
+    let alloc = rt.alloc();
+    bimap_fault_law::<u8, u8, _>(alloc, RangeCfg::from(..), &(), &());
+    let two = bimap_of(&rt, alloc, &[(2, 10), (1, 20)]);
+    assert!(rt; is_written_as(alloc, &two, b"\x02\x01\x02\x02\x14\x0a"));
+    let mut bimaps = Vec::new(alloc);
+    for pairs in [[].as_slice(), &[(5, 6)]] {
+        bimaps
+            .push(bimap_of(&rt, alloc, pairs))
+            .expect(&rt, "memory");
+    }
+    assert!(rt; is_written_as(alloc, &bimaps, b"\x02\x00\x00\x01\x05\x01\x06"));
+}
+
+/// Under any range, and under one that all of them keep.
+#[test]
+fn texts_that_are_no_bimap_are_refused(rt: HostRuntime) {
+    for range in [RangeCfg::from(..), RangeCfg::from(0..=10)] {
+        assert!(rt; refuses::<BiMap<u8, u8, _>, _>(rt.alloc(), &(range, (), ()), &NO_BIMAPS));
+    }
+}
+
+/// A map that repeats a value is written, and its bytes are refused.
+#[test]
+fn test_bimap_decode_rejects_duplicate_values(rt: HostRuntime) {
+    let alloc = rt.alloc();
+    let short = (RangeCfg::from(0..=10), (), ());
+    let map = Map::try_from_array(alloc, [(1u8, 10u8), (2, 20), (3, 10)]).expect(&rt, "memory");
+    let bytes = b"\x03\x01\x02\x03\x03\x0a\x14\x0a".as_slice();
+    assert!(rt;
+        is_written_as(alloc, &map, bytes)
+            && refuses::<BiMap<u8, u8, _>, _>(alloc, &short, &[(bytes, REPEATED)])
+    );
+}
+
+#[test]
+fn bimaps_are_read_back(rt: HostRuntime) {
+    let alloc = rt.alloc();
+    let any = (RangeCfg::from(..), (), ());
+    let bytes = b"\x02\x01\x02\x02\x14\x0a\xff";
+    let (bimap, taken) = read::<BiMap<u8, u8, _>, _>(alloc, bytes, &any);
+    let bimap = bimap.expect(&rt, "a value");
+    assert!(rt; taken == 6 && bimap.get_key(&10) == Some(&2));
+    let (again, left) = round_trip(alloc, &bimap, b"\xff\x00", &any).expect(&rt, "a value");
+    assert!(rt; again == bimap && left == 2);
+}

@@ -1,0 +1,167 @@
+//! Sets: what is built, written and read.
+use crate::Participant;
+use crate::bench::{
+    are_ordered, comes_back, is_coded_as, is_read_as, is_written_as, read, refuses,
+};
+use crate::codec::{Error, RangeCfg, Write, round_trip};
+use crate::ordered::{Set, set_fault_law};
+use std::alloc::{AllocError, Allocator, Global};
+use std::cmp::Ordering;
+use std::process::Abort;
+
+pub(in crate::bench) const UNSORTED: Error = Error::Invalid(
+    "Set",
+    "items must be sorted and unique",
+);
+
+/// Texts that are no set of bytes, under any range.
+const NO_SETS: [(&[u8], Error); 5] = [
+    (b"\x83\x00\x01\x02\x03", Error::InvalidVarint),
+    (b"\xff\xff\xff\xff\x10", Error::InvalidVarint),
+    (b"\xff\xff\xff\xff", Error::EndOfBuffer),
+    (b"", Error::EndOfBuffer),
+    (b"\xff\xff\xff\xff\x0f\x01", Error::EndOfBuffer),
+];
+
+/// Texts that are no set of at most ten bytes.
+const NO_SHORT_SETS: [(&[u8], Error); 2] = [
+    (b"\x03\x02\x01", Error::EndOfBuffer),
+    (b"\x0b", Error::InvalidLength(11)),
+];
+
+/// Items of two sets, and the order of the sets.
+const ORDERS: [(&[u8], &[u8], Ordering); 5] = [
+    (&[1, 2], &[1, 2, 3], Ordering::Less),
+    (&[2], &[1, 9], Ordering::Greater),
+    (&[1, 2], &[2], Ordering::Less),
+    (&[1, 2], &[2, 1, 2], Ordering::Equal),
+    (&[1, 2], &[1, 3], Ordering::Less),
+];
+
+/// The set of these items.
+fn set_of(rt: &impl Abort, alloc: Global, items: &[u8]) -> Set<u8, Global> {
+    Set::from_iter_dedup(alloc, items.iter().copied()).expect(rt, "memory")
+}
+
+/// The set of the sets of these items.
+fn nest_of(rt: &impl Abort, alloc: Global, lists: &[&[u8]]) -> Set<Set<u8, Global>, Global> {
+    let mut sets = Vec::new(alloc);
+    for items in lists {
+        sets.push(set_of(rt, alloc, items)).expect(rt, "memory");
+    }
+    Set::from_iter_dedup(alloc, sets).expect(rt, "memory")
+}
+
+/// Whether the set of the items is written as these bytes.
+fn is_set_written_as<T: Ord + Write<A> + Drop, A: Allocator + Copy>(
+    alloc: A,
+    items: Vec<T, A>,
+    bytes: &[u8],
+) -> Result<bool, AllocError> {
+    let set = Set::from_iter_dedup(alloc, items)?;
+    Ok(is_written_as(alloc, &set, bytes))
+}
+
+#[test]
+fn the_empty_set_holds_nothing(rt: HostRuntime) {
+    let set: Set<u8, _> = Set::empty(rt.alloc());
+    assert!(rt;
+        set.is_empty()
+            && set.len() == 0
+            && set.get(0) == None
+            && is_written_as(rt.alloc(), &set, b"\x00")
+    );
+}
+
+#[test]
+fn sets_are_written_as_their_lists(rt: HostRuntime) {
+    let alloc = rt.alloc();
+    set_fault_law::<u8, _>(alloc, RangeCfg::from(..), &());
+    let bytes = vec![in alloc; 3u8, 1, 2, 1].expect(&rt, "memory");
+    assert!(rt; is_set_written_as(alloc, bytes, b"\x03\x01\x02\x03").expect(&rt, "memory"));
+    let words = vec![in alloc; 256u32, 1].expect(&rt, "memory");
+    assert!(rt;
+        is_set_written_as(alloc, words, b"\x02\x00\x00\x00\x01\x00\x00\x01\x00").expect(
+            &rt, "memory"
+        )
+    );
+    let indices = vec![in alloc; Participant::new(300), Participant::new(1)].expect(&rt, "memory");
+    assert!(rt; is_set_written_as(alloc, indices, b"\x02\x01\xac\x02").expect(&rt, "memory"));
+}
+
+#[test]
+fn texts_that_are_no_set_are_refused(rt: HostRuntime) {
+    let alloc = rt.alloc();
+    let (any, few, none) = (
+        RangeCfg::from(..),
+        RangeCfg::from(0..=10),
+        RangeCfg::from(3..2),
+    );
+    assert!(rt;
+        refuses::<Set<u8, _>, _>(alloc, &(any, ()), &NO_SETS)
+            && refuses::<Set<u8, _>, _>(alloc, &(few, ()), &NO_SHORT_SETS)
+            && refuses::<Set<u8, _>, _>(alloc, &(none, ()), &[(b"\x00", Error::InvalidLength(0))])
+    );
+}
+
+#[test]
+fn sets_are_read_and_what_follows_is_left(rt: HostRuntime) {
+    let alloc = rt.alloc();
+    let any = RangeCfg::from(..);
+    let set = set_of(&rt, alloc, &[5, 9]);
+    assert!(rt; is_read_as(alloc, b"\x02\x05\x09\xff\xff", &(any, ()), &set, 3));
+    let nest = nest_of(&rt, alloc, &[&[2], &[2, 1], &[1], &[]]);
+    let bytes = b"\x04\x00\x01\x01\x02\x01\x02\x01\x02";
+    assert!(rt; is_coded_as(alloc, &nest, &(any, (any, ())), bytes));
+}
+
+#[test]
+fn sets_nest_three_deep(rt: HostRuntime) {
+    let alloc = rt.alloc();
+    let any = RangeCfg::from(..);
+    let bytes = b"\x02\x00\x02\x00\x01\x07\xff";
+    let cfg = (any, (any, (any, ())));
+    let (nest, taken) = read::<Set<Set<Set<u8, _>, _>, _>, _>(alloc, bytes, &cfg);
+    let nest = nest.expect(&rt, "a value");
+    assert!(rt; nest.len() == 2 && taken == 6);
+    let (again, left) = round_trip(alloc, &nest, b"\xff", &cfg).expect(&rt, "a value");
+    assert!(rt; again == nest && left == 1);
+}
+
+#[test]
+fn sets_are_ordered_as_their_lists(rt: HostRuntime) {
+    for (items, others, order) in ORDERS {
+        let set = set_of(&rt, rt.alloc(), items);
+        let other = set_of(&rt, rt.alloc(), others);
+        assert!(rt; are_ordered(&set, &other, order));
+    }
+}
+
+#[test]
+fn test_sorted_unique_codec_roundtrip(rt: HostRuntime) {
+    let sorted = set_of(&rt, rt.alloc(), &[1, 2, 3, 4, 5, 6, 7, 8, 9]);
+    assert!(rt; comes_back(rt.alloc(), &sorted, &(RangeCfg::from(0..=9), ())));
+}
+
+/// Whether the text isn't a set of at most ten bytes, as they aren't in order.
+fn is_unsorted(alloc: Global, text: &[u8]) -> bool {
+    let short = (RangeCfg::from(0..=10), ());
+    refuses::<Set<u8, _>, _>(alloc, &short, &[(text, UNSORTED)])
+}
+
+#[test]
+fn test_set_decode_rejects_duplicates(rt: HostRuntime) {
+    assert!(rt; is_unsorted(rt.alloc(), b"\x04\x01\x02\x02\x03"));
+}
+
+#[test]
+fn test_set_decode_rejects_unsorted(rt: HostRuntime) {
+    assert!(rt; is_unsorted(rt.alloc(), b"\x04\x01\x03\x02\x04"));
+}
+
+#[test]
+fn test_set_decode_accepts_valid(rt: HostRuntime) {
+    let set = set_of(&rt, rt.alloc(), &[1, 2, 3, 4]);
+    let short = (RangeCfg::from(0..=10), ());
+    assert!(rt; is_read_as(rt.alloc(), b"\x04\x01\x02\x03\x04", &short, &set, 5));
+}

@@ -1,0 +1,66 @@
+//! The program from its arguments to its exit status.
+ghost use Rattle.std.specs.Prelude.{◌≡◌, ◌≢◌, ◌==◌, ◌≤◌, true, false, IfErr};
+ghost use Rattle.std.specs.Io.KnownBytes.{Appends};
+ghost use Rattle.program_io.specs.Arguments.{HasWords};
+ghost use Rattle.program_io.specs.Streams.{Gave};
+ghost use Rattle.judge_core.specs.Command.{AskForNone, IsAskedFor};
+ghost use Rattle.judge_core.specs.Session.{IsDone};
+ghost use Rattle.judge_core.specs.declared.command.Command.{Command};
+
+use crate::command::Command;
+use crate::error::Failure;
+use crate::session::{fail, session};
+use program_io::{Watched, after_first, take_arguments};
+use std::alloc::Allocator;
+use std::env::Args;
+use std::io::{Read, Write};
+use std::process::ExitCode;
+use std::{env, io};
+
+/// The session of the words that follow the first argument, which is the program's name.
+///
+/// Where the arguments can't be taken, for whatever cause, it is that of a program without
+/// memory: it says so, and the status is 3.
+pub fn start<A: Allocator + Copy, R: Read, W: Write, E: Write>(
+    alloc: A,
+    arguments: io::Result<Args<A>>,
+    input: &mut Watched<R>,
+    output: &mut Watched<W>,
+    errors: &mut E,
+) -> u8
+    ensures done { result ≤ 1 → HasWords arguments (λ words. (command : Command)
+        × IsAskedFor words command
+        × IsDone command (Gave (R.remaining input.old.inner) (R.remaining input.new.inner))
+        (Appends (W.contents output.old.inner) (W.contents output.new.inner)) (result == 0)) }
+    ensures usage { result ≡ 2 → HasWords arguments AskForNone }
+    ensures untouched { result ≡ 2 → (input.new ≡ input.old) × (output.new ≡ output.old) }
+    ensures not_taken { IfErr arguments (λ _.
+        (result ≡ 3) × (input.new ≡ input.old) × (output.new ≡ output.old)) }
+    ensures statuses { result ≤ 3 }
+
+    // The devices.
+    ensures silent { result ≤ 1 → errors.new ≡ errors.old }
+    ensures ended { result ≤ 1 → HasWords arguments (λ words.
+        IsAskedFor words Command.Judge → input.new.ended ≡ true) }
+    ensures read_failed { input.old.failed ≡ false → input.new.failed ≡ true → result ≡ 3 }
+    ensures write_failed { output.old.failed ≡ false → output.new.failed ≡ true → result ≡ 3 }
+{
+    match take_arguments(alloc, arguments) {
+        Some(texts) => session(alloc, after_first(&texts), input, output, errors),
+        None => fail(errors, Failure::Memory),
+    }
+}
+
+/// The program on its host, with its arguments and its three standard streams.
+///
+/// What a process is given and what its streams take no contract can say; runs of the program
+/// show it.
+pub fn on_host(rt: &HostRuntime) -> ExitCode {
+    ExitCode::from(start(
+        rt.alloc(),
+        env::args(rt),
+        &mut Watched::new(rt.stdin()),
+        &mut Watched::new(rt.stdout()),
+        &mut rt.stderr(),
+    ))
+}

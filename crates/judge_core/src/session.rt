@@ -1,0 +1,113 @@
+//! A whole run of the program: what it says, and its exit status.
+ghost use Rattle.std.specs.Prelude.{◌≡◌, ◌==◌, ◌↔◌, ◌≤◌, map, string_bytes, true, false, Err, IfOk, IfErr, OnOk, ◌≢◌, ◌⊎◌};
+ghost use Rattle.std.specs.Io.KnownBytes.{Appends};
+ghost use Rattle.program_io.specs.Streams.{Gave};
+ghost use Rattle.judge_core.specs.Command.{AskForNone, IsAskedFor};
+ghost use Rattle.judge_core.specs.Session.{IsDone, IsStopped};
+ghost use Rattle.judge_core.specs.declared.command.Command.{Command};
+
+use crate::command::{Command, parse_args};
+use crate::error::Failure;
+use crate::help::{say_help, say_version};
+use crate::stream::{answer_all, say_types};
+use program_io::{Watched, say};
+use std::alloc::Allocator;
+use std::io::{Read, Write};
+
+/// Does what the command asks for: answers the lines of the reader; or writes the names of the
+/// types, the help or the version, for which the reader isn't touched. The answer is whether all
+/// answers are verdicts.
+pub fn run<A: Allocator + Copy, R: Read, W: Write>(
+    alloc: A,
+    command: Command,
+    input: &mut Watched<R>,
+    output: &mut Watched<W>,
+) -> Result<bool, Failure>
+    ensures done { IfOk result (IsDone command
+        (Gave (R.remaining input.old.inner) (R.remaining input.new.inner))
+        (Appends (W.contents output.old.inner) (W.contents output.new.inner))) }
+    ensures stopped { IfErr result (λ failure. failure ≢ Failure.WriteFailed → IsStopped command
+        (R.remaining input.old.inner) (R.remaining input.new.inner)
+        (W.contents output.old.inner) (W.contents output.new.inner)) }
+
+    // The devices.
+    ensures read_failed { input.old.failed ≡ false
+        → ((result ≡ Err Failure.ReadFailed) ↔ (input.new.failed ≡ true)) }
+    ensures write_failed { output.old.failed ≡ false
+        → ((result ≡ Err Failure.WriteFailed) ↔ (output.new.failed ≡ true)) }
+    ensures ended { command ≡ Command.Judge → OnOk result (input.new.ended ≡ true) }
+    ensures untouched { command ≡ Command.Types → input.new ≡ input.old }
+    ensures unread { command ≢ Command.Judge → input.new ≡ input.old }
+{
+    match command {
+        Command::Judge => answer_all(alloc, input, output),
+        Command::Types => {
+            say_types(alloc, output)?;
+            Ok(true)
+        }
+        Command::Help => {
+            say_help(output)?;
+            Ok(true)
+        }
+        Command::Version => {
+            say_version(output)?;
+            Ok(true)
+        }
+    }
+}
+
+/// Does what the words after the program's name ask for, and answers the exit status.
+///
+/// The status is 0 where each line that asks for an answer got a verdict, or the types, the help or
+/// the version were written; 1 where some line couldn't be read; 2 where the words ask for no
+/// command; and 3 where memory, the reader or the writer failed. Where it is 2 or 3, one line on
+/// `errors` says why, in one write where `errors` takes it whole. Where `errors` fails, the status
+/// is the same. No call of a device is tried again.
+pub fn session<A: Allocator + Copy, R: Read, W: Write, E: Write>(
+    alloc: A,
+    words: &[String<A>],
+    input: &mut Watched<R>,
+    output: &mut Watched<W>,
+    errors: &mut E,
+) -> u8
+    ensures done { result ≤ 1 → (command : Command)
+        × IsAskedFor (map string_bytes words.now) command
+        × IsDone command (Gave (R.remaining input.old.inner) (R.remaining input.new.inner))
+        (Appends (W.contents output.old.inner) (W.contents output.new.inner)) (result == 0) }
+    ensures usage { (result ≡ 2) ↔ AskForNone (map string_bytes words.now) }
+    ensures untouched { result ≡ 2 → (input.new ≡ input.old) × (output.new ≡ output.old) }
+    ensures types { IsAskedFor (map string_bytes words.now) Command.Types
+        → (input.new ≡ input.old) × (result ≢ 1) }
+    ensures says { (IsAskedFor (map string_bytes words.now) Command.Help
+        ⊎ IsAskedFor (map string_bytes words.now) Command.Version)
+        → (input.new ≡ input.old) × (result ≢ 1) }
+    ensures statuses { result ≤ 3 }
+
+    // The devices.
+    ensures silent { result ≤ 1 → errors.new ≡ errors.old }
+    ensures ended { IsAskedFor (map string_bytes words.now) Command.Judge
+        → result ≤ 1 → input.new.ended ≡ true }
+    ensures read_failed { input.old.failed ≡ false → input.new.failed ≡ true → result ≡ 3 }
+    ensures write_failed { output.old.failed ≡ false → output.new.failed ≡ true → result ≡ 3 }
+{
+    let Some(command) = parse_args(words) else {
+        say(
+            errors,
+            &"usage: judge, judge types, judge --help, or judge --version",
+        );
+        return 2;
+    };
+    match run(alloc, command, input, output) {
+        Ok(true) => 0,
+        Ok(false) => 1,
+        Err(failure) => fail(errors, failure),
+    }
+}
+
+/// Says why a run has stopped, and answers the exit status.
+pub(crate) fn fail<E: Write>(errors: &mut E, failure: Failure) -> u8
+    ensures { result ≡ 3 }
+{
+    say(errors, &failure);
+    3
+}

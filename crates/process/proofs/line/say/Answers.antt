@@ -1,8 +1,0 @@
-use Rattle.std.proofs.Common.{arith}
-use Rattle.process.proofs.Fronts.{front_short}
-use Rattle.process.proofs.line.say.Goals as goal
-
-pub returns : goal.returns
-returns g c =
-    let (front, back, split, appended) = c.write_bytes.ensures.beginning in
-    (front, front_short _ 128 _ front back (omega (arith, c.min-len.ensures)) split, appended)

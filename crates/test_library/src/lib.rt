@@ -1,0 +1,67 @@
+//! Tests of the library with each request for memory refused in turn, with a heap that refuses
+//! large ones, and of what is answered without memory: the collections, readers and writers, the
+//! headline and certificates. Beside them stand those of the equipment that refuses and fails.
+#![tactic(auto)]
+
+#[cfg(test)]
+mod accused;
+#[cfg(test)]
+mod builders;
+#[cfg(test)]
+mod certificates;
+#[cfg(test)]
+mod conflicts;
+#[cfg(test)]
+mod drawn;
+#[cfg(test)]
+mod held_heaps;
+#[cfg(test)]
+mod keys_found;
+#[cfg(test)]
+mod large_calls;
+#[cfg(test)]
+mod large_inputs;
+#[cfg(test)]
+mod long_texts;
+#[cfg(test)]
+mod many_at_once;
+#[cfg(test)]
+mod memory_free_texts;
+#[cfg(test)]
+mod readings;
+#[cfg(test)]
+mod refused_bimaps;
+#[cfg(test)]
+mod refused_codec;
+#[cfg(test)]
+mod refused_headline;
+#[cfg(test)]
+mod refused_insertions;
+#[cfg(test)]
+mod refused_items;
+#[cfg(test)]
+mod refused_lists;
+#[cfg(test)]
+mod refused_maps;
+#[cfg(test)]
+mod refused_queues;
+#[cfg(test)]
+mod refused_sets;
+#[cfg(test)]
+mod refused_texts;
+#[cfg(test)]
+mod refused_unions;
+#[cfg(test)]
+mod refused_value_maps;
+#[cfg(test)]
+mod refusing_heaps;
+#[cfg(test)]
+mod repeat_or_refusal;
+#[cfg(test)]
+mod scripted_devices;
+#[cfg(test)]
+mod signers;
+#[cfg(test)]
+mod sorted_pairs;
+#[cfg(test)]
+mod stated_lengths;
