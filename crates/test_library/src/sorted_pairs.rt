@@ -49,11 +49,13 @@ fn insertion(heap: Heap<'_>, granted: u64) -> Option<(bool, bool)> {
     })
 }
 
-/// A prefix of the pairs is left wherever a request is refused. The tree makes at least one.
+/// A prefix of the pairs is left where a request is refused, tried at the first one and each 37th
+/// after it, up to the first walk that meets no refusal. The tree makes at least one.
 #[test]
 fn a_refused_insertion_leaves_a_prefix(rt: HostRuntime) {
     let mut has_refused = false;
-    for granted in 0..10_000 {
+    for turn in 0..1_000u64 {
+        let granted = turn.wrapping_mul(37);
         let heap = Refusing::<Global>::after(rt.alloc(), u64::MAX);
         let Some((is_refused, right)) = insertion(&heap, granted) else {
             break;
