@@ -14,9 +14,9 @@ use Rattle.commonware_base.specs.Lists.{list_enc, IsWritableList}
 use Rattle.commonware_base.specs.VecLaws.{vec_of}
 use Rattle.commonware_base.specs.NumberLaws.{number_canonical, number_prefix_free, varint_laws}
 use Rattle.commonware_base.specs.Range.{Bounds}
-use Rattle.commonware_base.specs.Sequence.{sequence_cut}
+use Rattle.commonware_base.specs.Sequence.{sequence_case}
 use Rattle.commonware_base.specs.SequenceLaws.{sequence_bytes, sequence_canonical}
-use Rattle.commonware_base.specs.SequenceLaws.{sequence_laws, sequence_one_cut, sequence_prefix_free}
+use Rattle.commonware_base.specs.SequenceLaws.{sequence_laws, sequence_one_case, sequence_prefix_free}
 use Rattle.commonware_base.specs.Text.{AreBytes, CanonicalLaws, IsByte, IsPrefixFree, ReadLaws}
 use Rattle.commonware_base.specs.Varint.{varint, varint_fault}
 use Rattle.commonware_base.specs.VarintLaws.{varint_bytes}
@@ -107,11 +107,11 @@ module _ (value signers : Bounds ℕ) where
       (λ x z y _ _ _ h. h) (λ x z s f _ _ _ w. w)
 
   -- two faults of a text are at one cut
-  pub certificate_one_cut : (s : List ℕ) (f g : Fault)
+  pub certificate_one_case : (s : List ℕ) (f g : Fault)
       (v : CertificateFault value signers s f) (w : CertificateFault value signers s g)
-      → sequence_cut v ≡ sequence_cut w
-  certificate_one_cut =
-      sequence_one_cut (list_enc byte) (IsWritableList IsByte) value_prefix_free
+      → sequence_case v ≡ sequence_case w
+  certificate_one_case =
+      sequence_one_case (list_enc byte) (IsWritableList IsByte) value_prefix_free
       (list_enc varint) (IsWritableSet IsWord nat_cmp) signers_prefix_free
       (IsAllowedValue value) (ValueFault value) value_laws
       (λ _. AreAllowedSigners signers) (λ _. SignersFault signers) (λ _. signers_laws)

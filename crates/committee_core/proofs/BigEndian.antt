@@ -5,7 +5,7 @@ use Rattle.std.specs.Ordering.{ordering_then}
 use Rattle.std.proofs.Common.{◌≡◌, ℕ, zero, suc, ◌+◌, ◌*◌, ◌<◌, ◌≤◌, List, [], ◌∷◌, length, get_or, take, drop, length-drop, nat_cmp, Ordering, Less, Equal, Greater, arith, ap, sym, subst, refl, ◌∙◌}
 use Rattle.std.proofs.lemmas.List.{drop-drop, drop_all}
 use Rattle.std.proofs.lemmas.Cmp.{by_ranked, ranked, nat_cmp_total, tied_itself}
-use Rattle.committee_core.specs.BigEndian.{spelt, IsSettled}
+use Rattle.committee_core.specs.BigEndian.{number_at, IsDetermined}
 
 -- each number of the list is a byte
 abbrev pub Bytes : List ℕ → Type 0
@@ -18,14 +18,14 @@ bytes_past (suc n) [] h = λ k. omega arith
 bytes_past (suc n) (x ∷ xs) h = bytes_past n xs (λ k. h (suc k))
 
 -- of two numbers the lesser stays the lesser, whatever n bytes are written after each
-spelt_less : (n : ℕ) (xs ys : List ℕ) (a b : ℕ) → n ≤ length xs → n ≤ length ys → Bytes xs → Bytes ys → a < b
+numbers_less : (n : ℕ) (xs ys : List ℕ) (a b : ℕ) → n ≤ length xs → n ≤ length ys → Bytes xs → Bytes ys → a < b
     → big_endian a (take n xs) < big_endian b (take n ys)
-spelt_less zero xs ys a b p q h g less = less
-spelt_less (suc n) [] ys a b p q h g less = absurd (omega (arith, p))
-spelt_less (suc n) (x ∷ xs) [] a b p q h g less = absurd (omega (arith, q))
-spelt_less (suc n) (x ∷ xs) (y ∷ ys) a b p q h g less =
+numbers_less zero xs ys a b p q h g less = less
+numbers_less (suc n) [] ys a b p q h g less = absurd (omega (arith, p))
+numbers_less (suc n) (x ∷ xs) [] a b p q h g less = absurd (omega (arith, q))
+numbers_less (suc n) (x ∷ xs) (y ∷ ys) a b p q h g less =
     let small : x < 256 = h 0 in
-    spelt_less n xs ys (a * 256 + x) (b * 256 + y) (omega (arith, p)) (omega (arith, q)) (λ k. h (suc k)) (λ k. g (suc k)) (omega arith)
+    numbers_less n xs ys (a * 256 + x) (b * 256 + y) (omega (arith, p)) (omega (arith, q)) (λ k. h (suc k)) (λ k. g (suc k)) (omega arith)
 
 less : (a b : ℕ) → a < b → nat_cmp a b ≡ Less
 less a b l = by_ranked (a < b) (a ≡ b) (b < a) (nat_cmp a b) (ranked a b _ refl) (λ e _. e) (λ _ s. absurd (omega arith)) (λ _ g. absurd (omega arith))
@@ -42,12 +42,12 @@ decided_as x y a b r s up down same = by_ranked (x < y) (x ≡ y) (y < x) (nat_c
     (λ e l. ap (λ o. ordering_then o r) e ∙ sym (ap (λ o. ordering_then o s) (greater a b (down l))))
 
 -- lists compare as the numbers that n bytes of each spell after one number, and then as the rest
-spelt_in_order : (n : ℕ) (xs ys : List ℕ) (a : ℕ) → n ≤ length xs → n ≤ length ys → Bytes xs → Bytes ys
+numbers_in_order : (n : ℕ) (xs ys : List ℕ) (a : ℕ) → n ≤ length xs → n ≤ length ys → Bytes xs → Bytes ys
     → slice_cmp nat_cmp xs ys ≡ ordering_then (nat_cmp (big_endian a (take n xs)) (big_endian a (take n ys))) (slice_cmp nat_cmp (drop n xs) (drop n ys))
-spelt_in_order zero xs ys a p q h g = sym (ap (λ o. ordering_then o (slice_cmp nat_cmp xs ys)) (tied_itself nat_cmp_total a))
-spelt_in_order (suc n) [] ys a p q h g = absurd (omega (arith, p))
-spelt_in_order (suc n) (x ∷ xs) [] a p q h g = absurd (omega (arith, q))
-spelt_in_order (suc n) (x ∷ xs) (y ∷ ys) a p q h g =
+numbers_in_order zero xs ys a p q h g = sym (ap (λ o. ordering_then o (slice_cmp nat_cmp xs ys)) (tied_itself nat_cmp_total a))
+numbers_in_order (suc n) [] ys a p q h g = absurd (omega (arith, p))
+numbers_in_order (suc n) (x ∷ xs) [] a p q h g = absurd (omega (arith, q))
+numbers_in_order (suc n) (x ∷ xs) (y ∷ ys) a p q h g =
     let p1 : n ≤ length xs = omega (arith, p) in
     let q1 : n ≤ length ys = omega (arith, q) in
     let h1 : Bytes xs = λ k. h (suc k) in
@@ -56,23 +56,23 @@ spelt_in_order (suc n) (x ∷ xs) (y ∷ ys) a p q h g =
     let small_too : y < 256 = g 0 in
     let rest = slice_cmp nat_cmp (drop n xs) (drop n ys) in
     decided_as x y (big_endian (a * 256 + x) (take n xs)) (big_endian (a * 256 + y) (take n ys)) (slice_cmp nat_cmp xs ys) rest
-    (λ l. spelt_less n xs ys (a * 256 + x) (a * 256 + y) p1 q1 h1 g1 (omega arith))
-    (λ l. spelt_less n ys xs (a * 256 + y) (a * 256 + x) q1 p1 g1 h1 (omega arith))
+    (λ l. numbers_less n xs ys (a * 256 + x) (a * 256 + y) p1 q1 h1 g1 (omega arith))
+    (λ l. numbers_less n ys xs (a * 256 + y) (a * 256 + x) q1 p1 g1 h1 (omega arith))
     (λ e. subst (λ z. slice_cmp nat_cmp xs ys ≡ ordering_then (nat_cmp (big_endian (a * 256 + x) (take n xs)) (big_endian (a * 256 + z) (take n ys))) rest) e
-    (spelt_in_order n xs ys (a * 256 + x) p1 q1 h1 g1))
+    (numbers_in_order n xs ys (a * 256 + x) p1 q1 h1 g1))
 
 -- ---- from a place on
 
 -- lists that are settled up to a place by the same numbers are so by those of the n bytes from there on
-pub settled_further : (n i : ℕ) (xs ys : List ℕ) (a b : ℕ) → i + n ≤ length xs → i + n ≤ length ys → Bytes xs → Bytes ys
-    → IsSettled xs ys i a b → a ≡ b → IsSettled xs ys (i + n) (spelt n i xs) (spelt n i ys)
-settled_further n i xs ys a b p q h g is level =
+pub determined_further : (n i : ℕ) (xs ys : List ℕ) (a b : ℕ) → i + n ≤ length xs → i + n ≤ length ys → Bytes xs → Bytes ys
+    → IsDetermined xs ys i a b → a ≡ b → IsDetermined xs ys (i + n) (number_at n i xs) (number_at n i ys)
+determined_further n i xs ys a b p q h g is level =
     let p1 : n ≤ length (drop i xs) = omega (arith, p, length-drop i xs) in
     let q1 : n ≤ length (drop i ys) = omega (arith, q, length-drop i ys) in
     is ∙ ap (λ o. ordering_then o (slice_cmp nat_cmp (drop i xs) (drop i ys))) (ap (λ z. nat_cmp a z) (sym level) ∙ tied_itself nat_cmp_total a)
-    ∙ spelt_in_order n (drop i xs) (drop i ys) 0 p1 q1 (bytes_past i xs h) (bytes_past i ys g)
-    ∙ ap (λ l. ordering_then (nat_cmp (spelt n i xs) (spelt n i ys)) (slice_cmp nat_cmp l (drop n (drop i ys)))) (drop-drop n i xs)
-    ∙ ap (λ l. ordering_then (nat_cmp (spelt n i xs) (spelt n i ys)) (slice_cmp nat_cmp (drop (i + n) xs) l)) (drop-drop n i ys)
+    ∙ numbers_in_order n (drop i xs) (drop i ys) 0 p1 q1 (bytes_past i xs h) (bytes_past i ys g)
+    ∙ ap (λ l. ordering_then (nat_cmp (number_at n i xs) (number_at n i ys)) (slice_cmp nat_cmp l (drop n (drop i ys)))) (drop-drop n i xs)
+    ∙ ap (λ l. ordering_then (nat_cmp (number_at n i xs) (number_at n i ys)) (slice_cmp nat_cmp (drop (i + n) xs) l)) (drop-drop n i ys)
 
 then_equal : (o : Ordering) → ordering_then o Equal ≡ o
 then_equal Less = refl
@@ -80,7 +80,7 @@ then_equal Equal = refl
 then_equal Greater = refl
 
 -- where nothing is past the place, the numbers tell the order
-pub settled_whole : (n : ℕ) (xs ys : List ℕ) (a b : ℕ) → length xs ≡ n → length ys ≡ n → IsSettled xs ys n a b → nat_cmp a b ≡ slice_cmp nat_cmp xs ys
-settled_whole n xs ys a b p q is =
+pub determined_whole : (n : ℕ) (xs ys : List ℕ) (a b : ℕ) → length xs ≡ n → length ys ≡ n → IsDetermined xs ys n a b → nat_cmp a b ≡ slice_cmp nat_cmp xs ys
+determined_whole n xs ys a b p q is =
     sym (is ∙ ap (λ l. ordering_then (nat_cmp a b) (slice_cmp nat_cmp l (drop n ys))) (drop_all n xs (omega (arith, p)))
     ∙ ap (λ l. ordering_then (nat_cmp a b) (slice_cmp nat_cmp [] l)) (drop_all n ys (omega (arith, q))) ∙ then_equal (nat_cmp a b))

@@ -1,6 +1,6 @@
 pub mod BigEndian
 pub mod Chunks
-pub mod CommitteeFronts
+pub mod CommitteePrefixes
 pub mod Counts
 pub mod Ends
 pub mod Numbers

@@ -5,10 +5,10 @@ use Rattle.std.specs.Ordering.{nat_cmp, ordering_then}
 use Rattle.std.specs.Slice.Scan.{big_endian}
 
 -- the number that the n bytes from place i on spell
-abbrev pub spelt : ℕ → ℕ → List ℕ → ℕ
-spelt n i bytes = big_endian 0 (take n (drop i bytes))
+abbrev pub number_at : ℕ → ℕ → List ℕ → ℕ
+number_at n i bytes = big_endian 0 (take n (drop i bytes))
 
 -- the lists compare as a and b do, and where these are the same, as what is past place i does
-abbrev pub IsSettled : List ℕ → List ℕ → ℕ → ℕ → ℕ → Type 0
-IsSettled xs ys i a b =
+abbrev pub IsDetermined : List ℕ → List ℕ → ℕ → ℕ → ℕ → Type 0
+IsDetermined xs ys i a b =
     slice_cmp nat_cmp xs ys ≡ ordering_then (nat_cmp a b) (slice_cmp nat_cmp (drop i xs) (drop i ys))

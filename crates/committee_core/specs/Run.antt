@@ -43,8 +43,8 @@ abbrev pub IsCommitteeMemoryFree : List ℕ → Type 0
 IsCommitteeMemoryFree = IsListMemoryFree member_fault (λ _. Unit {0}) members_range
 
 -- so many first bytes settle what is said of a text as a committee: a length of five bytes, and 256 members
-abbrev pub front_size : ℕ
-front_size = 8197
+abbrev pub prefix_size : ℕ
+prefix_size = 8197
 
 -- a reader that had old left and has new left gave bytes that can't be read as a committee without memory, or more
 -- bytes than a `usize` counts

@@ -8,7 +8,7 @@ ghost use Rattle.committee_core.specs.Run.{IsDone, IsRefused};
 
 use crate::command::Command;
 use crate::error::RunError;
-use crate::session::{refuse, session};
+use crate::sessions::{refuse, session};
 use program_io::{Watched, after_first, take_arguments};
 use std::alloc::Allocator;
 use std::env::Args;

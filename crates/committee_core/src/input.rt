@@ -4,7 +4,7 @@
 ghost use Rattle.std.specs.Prelude.{◌≡◌, ◌≢◌, ◌+◌, ◌^◌, ◌<◌, ◌≤◌, ℕ, List, length, take, true};
 ghost use Rattle.std.specs.Prelude.{Err, IfErr, IfOk, OnOk};
 ghost use Rattle.std.specs.Io.KnownBytes.{Consumes, IsAtEnd};
-ghost use Rattle.commonware_base.specs.Fronts.{IsFront};
+ghost use Rattle.commonware_base.specs.Prefixes.{IsLongPrefix};
 ghost use Rattle.program_io.specs.Streams.{Gave};
 
 use crate::error::RunError;
@@ -28,14 +28,14 @@ pub(crate) struct Counted {
 ///
 /// The error is `ReadFailed` at the first read that fails, or `Memory` where there are more bytes
 /// than a `usize` counts.
-pub(crate) fn read_front<R: Read>(
+pub(crate) fn read_prefix<R: Read>(
     input: &mut Watched<R>,
     room: &mut [u8],
 ) -> Result<Counted, RunError>
     ensures within { IfOk result (λ counted. counted.kept ≤ length room.new) }
     ensures bytes { IfOk result (λ counted. (s : List ℕ)
         × Gave (R.remaining input.old.inner) (R.remaining input.new.inner) s
-        × IsFront (length room.new) s (take counted.kept room.new)
+        × IsLongPrefix (length room.new) s (take counted.kept room.new)
         × (length s ≡ counted.total)) }
     ensures ended { OnOk result (input.new.ended ≡ true) }
     ensures sound { OnOk result (input.new.failed ≡ input.old.failed) }

@@ -14,8 +14,8 @@ mod member;
 mod ranges;
 pub mod refutation;
 mod report;
-mod run;
-mod session;
+mod runs;
+mod sessions;
 
 pub use command::{Command, parse_args};
 pub use error::RunError;
@@ -23,5 +23,5 @@ pub use host::{on_host, start};
 pub use member::Member;
 pub use program_io::Watched;
 pub use ranges::Refutation;
-pub use run::run;
-pub use session::session;
+pub use runs::run;
+pub use sessions::session;

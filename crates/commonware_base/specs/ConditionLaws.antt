@@ -36,7 +36,7 @@ module _ {V : Type 0} {enc : V → List ℕ} {Writable Keeps Allowed : V → Typ
   one s f g (inr v) (inr w) = v.0 ∙ sym w.0
 
   module _ (prefix_free : IsPrefixFree enc Writable) where
-    -- a value at the front that keeps the condition is no fault
+    -- a value at the prefix that keeps the condition is no fault
     no_fault : (s : List ℕ) (v : V) (r : List ℕ) (f : Fault) → Accepts enc Keeps Allowed s v r
         → HasFault s f ⊎ ((f ≡ fault) × Breaks s) → ⊥
     no_fault s v r f a (inl w) =

@@ -5,8 +5,8 @@ pub mod Calls
 pub mod CloneLaws
 pub mod ConditionLaws
 pub mod Fault
-pub mod FrontLaws
-pub mod Fronts
+pub mod PrefixLaws
+pub mod Prefixes
 pub mod Given
 pub mod ItemsLaws
 pub mod ListLaws

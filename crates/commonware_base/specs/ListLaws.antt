@@ -13,8 +13,9 @@ use Rattle.commonware_base.specs.Range.{Bounds, Within}
 use Rattle.commonware_base.specs.RangeLaws.{within_or_not}
 use Rattle.commonware_base.specs.TextLaws.{bytes_append, bytes_right}
 use Rattle.commonware_base.specs.Varint.{varint}
-use Rattle.commonware_base.specs.Lists.{list_enc, IsWritableList, IsAllowedList, ListFault, bad_spelling, bad_length}
-use Rattle.commonware_base.specs.Lists.{bad_item, list_cut, at_spelling, at_length, at_item, IsListMemoryFree, spelling}
+use Rattle.commonware_base.specs.Lists.{list_enc, IsWritableList, IsAllowedList, ListFault, bad_varint, bad_length}
+use Rattle.commonware_base.specs.Lists.{bad_item, list_case, at_varint, at_length, at_item}
+use Rattle.commonware_base.specs.Lists.{IsListMemoryFree, faulty_varint}
 use Rattle.commonware_base.specs.Lists.{outside, empty, first}
 use Rattle.commonware_base.specs.VarintLaws.{varint_split, varint_no_fault, varint_one_fault, varint_or_fault}
 use Rattle.commonware_base.specs.VarintLaws.{varint_bytes}
@@ -89,7 +90,7 @@ module _ {T : Type 0} (enc : T → List ℕ) (Writable : T → Type 0)
         (one_fault : (s : List ℕ) (f g : Fault) → item_fault s f → item_fault s g → f ≡ g)
         (accepted_no_fault : (s : List ℕ) (v : T) (r : List ℕ) (f : Fault) → Accepts enc Writable Allowed s v r
         → item_fault s f → ⊥) where
-      -- an item at the front is no fault
+      -- an item at the prefix is no fault
       no_fault_before : (a : T) (xs : List T) (s t : List ℕ) (f : Fault) → Writable a → Allowed a
           → t ≡ flat_map enc (a ∷ xs) ++ s → item_fault t f → ⊥
       no_fault_before a xs s t f p h e w =
@@ -116,11 +117,11 @@ module _ {T : Type 0} (enc : T → List ℕ) (Writable : T → Type 0)
           no_fault_among xs ys s t g (omega arith) p.1 q.1 h.1 (split_first a b xs ys s t p.0 q.0 e).1 w
 
       module _ (range : Bounds ℕ) where
-        -- a list at the front is no fault
+        -- a list at the prefix is no fault
         pub list_accepted_no_fault : (s : List ℕ) (xs : List T) (r : List ℕ) (f : Fault) → IsWritableList Writable xs
             → IsAllowedList range Allowed xs → s ≡ list_enc enc xs ++ r
             → ListFault enc Writable Allowed item_fault range s f → ⊥
-        list_accepted_no_fault s xs r f p h e (bad_spelling w) =
+        list_accepted_no_fault s xs r f p h e (bad_varint w) =
             varint_no_fault s (length xs) (flat_map enc xs ++ r) f p.short
             (e ∙ append_assoc (varint (length xs)) (flat_map enc xs) r) w
         list_accepted_no_fault s xs r f p h e (bad_length n q w) =
@@ -134,46 +135,46 @@ module _ {T : Type 0} (enc : T → List ℕ) (Writable : T → Type 0)
             (sym c.1) w.faulty
 
         -- two faults of a text are at one cut
-        pub list_one_cut :
+        pub list_one_case :
             (s : List ℕ) (f g : Fault) (v : ListFault enc Writable Allowed item_fault range s f)
-            (w : ListFault enc Writable Allowed item_fault range s g) → list_cut v ≡ list_cut w
-        list_one_cut s f g (bad_spelling v) (bad_spelling w) = refl
-        list_one_cut s f g (bad_spelling v) (bad_length m q w) =
+            (w : ListFault enc Writable Allowed item_fault range s g) → list_case v ≡ list_case w
+        list_one_case s f g (bad_varint v) (bad_varint w) = refl
+        list_one_case s f g (bad_varint v) (bad_length m q w) =
             absurd (varint_no_fault s m w.rest f w.short w.begins v)
-        list_one_cut s f g (bad_spelling v) (bad_item w) = absurd (varint_no_fault s w.count _ f w.short w.begins v)
-        list_one_cut s f g (bad_length n p v) (bad_spelling w) =
+        list_one_case s f g (bad_varint v) (bad_item w) = absurd (varint_no_fault s w.count _ f w.short w.begins v)
+        list_one_case s f g (bad_length n p v) (bad_varint w) =
             absurd (varint_no_fault s n v.rest g v.short v.begins w)
-        list_one_cut s f g (bad_length n p v) (bad_length m q w) = refl
-        list_one_cut s f g (bad_length n p v) (bad_item w) =
+        list_one_case s f g (bad_length n p v) (bad_length m q w) = refl
+        list_one_case s f g (bad_length n p v) (bad_item w) =
             absurd (v.outside
             (subst (Within range) (varint_split w.count n _ _ w.short v.short (sym w.begins ∙ v.begins)).0 w.in_range))
-        list_one_cut s f g (bad_item v) (bad_spelling w) = absurd (varint_no_fault s v.count _ g v.short v.begins w)
-        list_one_cut s f g (bad_item v) (bad_length m q w) =
+        list_one_case s f g (bad_item v) (bad_varint w) = absurd (varint_no_fault s v.count _ g v.short v.begins w)
+        list_one_case s f g (bad_item v) (bad_length m q w) =
             absurd (w.outside
             (subst (Within range) (varint_split v.count m _ _ v.short w.short (sym v.begins ∙ w.begins)).0 v.in_range))
-        list_one_cut s f g (bad_item v) (bad_item w) = refl
+        list_one_case s f g (bad_item v) (bad_item w) = refl
 
         -- a text has at most one fault
         pub list_one_fault : (s : List ℕ) (f g : Fault) → ListFault enc Writable Allowed item_fault range s f
             → ListFault enc Writable Allowed item_fault range s g → f ≡ g
-        list_one_fault s f g (bad_spelling v) (bad_spelling w) = varint_one_fault s f g v w
+        list_one_fault s f g (bad_varint v) (bad_varint w) = varint_one_fault s f g v w
         list_one_fault s f g (bad_length n p v) (bad_length m q w) =
             p ∙ ap InvalidLength (varint_split n m _ _ v.short w.short (sym v.begins ∙ w.begins)).0 ∙ sym q
         list_one_fault s f g (bad_item v) (bad_item w) =
             first_fault v.items w.items v.rest w.rest f g v.writable w.writable v.allowed w.allowed
             (varint_split v.count w.count _ _ v.short w.short (sym v.begins ∙ w.begins)).1 v.faulty w.faulty
-        list_one_fault s f g (bad_spelling v) (bad_length m q w) = let cut : at_spelling ≡ at_length =
-            list_one_cut s f g (bad_spelling v) (bad_length m q w) in absurd (cc)
-        list_one_fault s f g (bad_spelling v) (bad_item w) = let cut : at_spelling ≡ at_item =
-            list_one_cut s f g (bad_spelling v) (bad_item w) in absurd (cc)
-        list_one_fault s f g (bad_length n p v) (bad_spelling w) = let cut : at_length ≡ at_spelling =
-            list_one_cut s f g (bad_length n p v) (bad_spelling w) in absurd (cc)
+        list_one_fault s f g (bad_varint v) (bad_length m q w) = let cut : at_varint ≡ at_length =
+            list_one_case s f g (bad_varint v) (bad_length m q w) in absurd (cc)
+        list_one_fault s f g (bad_varint v) (bad_item w) = let cut : at_varint ≡ at_item =
+            list_one_case s f g (bad_varint v) (bad_item w) in absurd (cc)
+        list_one_fault s f g (bad_length n p v) (bad_varint w) = let cut : at_length ≡ at_varint =
+            list_one_case s f g (bad_length n p v) (bad_varint w) in absurd (cc)
         list_one_fault s f g (bad_length n p v) (bad_item w) = let cut : at_length ≡ at_item =
-            list_one_cut s f g (bad_length n p v) (bad_item w) in absurd (cc)
-        list_one_fault s f g (bad_item v) (bad_spelling w) = let cut : at_item ≡ at_spelling =
-            list_one_cut s f g (bad_item v) (bad_spelling w) in absurd (cc)
+            list_one_case s f g (bad_length n p v) (bad_item w) in absurd (cc)
+        list_one_fault s f g (bad_item v) (bad_varint w) = let cut : at_item ≡ at_varint =
+            list_one_case s f g (bad_item v) (bad_varint w) in absurd (cc)
         list_one_fault s f g (bad_item v) (bad_length m q w) = let cut : at_item ≡ at_length =
-            list_one_cut s f g (bad_item v) (bad_length m q w) in absurd (cc)
+            list_one_case s f g (bad_item v) (bad_length m q w) in absurd (cc)
 
         -- Some items, and then a fault, or all of them.
         record Items (n : ℕ) (s : List ℕ) : Type 0 where
@@ -196,7 +197,7 @@ module _ {T : Type 0} (enc : T → List ℕ) (Writable : T → Type 0)
 
         module _ (accepted_or_faulty : (s : List ℕ) → AreBytes s
             → AcceptedOrFaulty enc Writable Allowed (item_fault s) s) where
-          -- a text has n items at the front, or some and then a fault
+          -- a text has n items at the prefix, or some and then a fault
           items_or_fault : (n : ℕ) (s : List ℕ) → AreBytes s → Items n s ⊎ FaultyItems n s
           items_or_fault zero s h =
               inl (record { items = []; rest = s; count = refl; begins = refl; writable = tt; allowed = tt })
@@ -241,7 +242,7 @@ module _ {T : Type 0} (enc : T → List ℕ) (Writable : T → Type 0)
               → AcceptedOrFaulty (list_enc enc) (IsWritableList Writable) (IsAllowedList range Allowed)
               (ListFault enc Writable Allowed item_fault range s) s
           list_accepted_or_faulty s h = elim (varint_or_fault s h) [
-            | inr w ↦ inr (w.0, bad_spelling w.1)
+            | inr w ↦ inr (w.0, bad_varint w.1)
             | inl w ↦ elim (within_or_not range w.0) [
               | inr o ↦ inr (
                 InvalidLength w.0,
@@ -287,7 +288,7 @@ pub list_wants_memory :
 list_wants_memory item_fault ItemMemoryFree range s n r h p i e none m = go m
   where
     go : IsListMemoryFree item_fault ItemMemoryFree range s → ⊥
-    go (spelling f w) = varint_no_fault s n r f h e w
+    go (faulty_varint f w) = varint_no_fault s n r f h e w
     go (outside k w) = w.outside (subst (Within range) (varint_split n k _ _ h w.short (sym e ∙ w.begins)).0 i)
     go (empty t w) = let z : n ≡ 0 = (varint_split n 0 _ _ h (omega arith) (sym e ∙ w)).0 in omega arith
     go (first k t f q w free fault) =
@@ -373,12 +374,12 @@ module _ {T : Type 0} (enc : T → List ℕ) (Writable : T → Type 0) (prefix_f
   }
 
   -- the cuts of a list exclude one another
-  pub list_cuts_exclude : (Allowed : T → Type 0) (item_fault : List ℕ → Fault → Type 0) (range : Bounds ℕ)
+  pub list_cases_exclude : (Allowed : T → Type 0) (item_fault : List ℕ → Fault → Type 0) (range : Bounds ℕ)
       → ReadLaws enc Writable Allowed item_fault → (s : List ℕ) (f g : Fault)
       (v : ListFault enc Writable Allowed item_fault range s f)
-      (w : ListFault enc Writable Allowed item_fault range s g) → list_cut v ≡ list_cut w
-  list_cuts_exclude Allowed item_fault range h =
-      list_one_cut enc Writable prefix_free Allowed h.allowed_by_bytes item_fault h.one_fault h.accepted_no_fault range
+      (w : ListFault enc Writable Allowed item_fault range s g) → list_case v ≡ list_case w
+  list_cases_exclude Allowed item_fault range h =
+      list_one_case enc Writable prefix_free Allowed h.allowed_by_bytes item_fault h.one_fault h.accepted_no_fault range
 
   -- lists are canonical where their items are
   pub list_canonical : (eq : T → T → Bool) → CanonicalLaws enc Writable eq

@@ -44,31 +44,31 @@ pub record BeginsWithFaultyItem {T : Type 0} (enc : T → List ℕ) (Writable Al
 -- What is wrong with a text that should begin with a list: its length's spelling, its length, or an item.
 pub data ListFault {T : Type 0} (enc : T → List ℕ) (Writable Allowed : T → Type 0)
     (item_fault : List ℕ → Fault → Type 0) (range : Bounds ℕ) (text : List ℕ) (fault : Fault) : Type 0 where
-  bad_spelling : varint_fault text fault → ListFault enc Writable Allowed item_fault range text fault
+  bad_varint : varint_fault text fault → ListFault enc Writable Allowed item_fault range text fault
   bad_length : (count : ℕ) → fault ≡ InvalidLength count → BeginsOutOfRange range text count
       → ListFault enc Writable Allowed item_fault range text fault
   bad_item : BeginsWithFaultyItem enc Writable Allowed item_fault range text fault
       → ListFault enc Writable Allowed item_fault range text fault
 
 -- The cuts at which a text that should begin with a list can be faulty.
-pub data ListCut : Type 0 where
-  at_spelling : ListCut
-  at_length : ListCut
-  at_item : ListCut
+pub data ListCase : Type 0 where
+  at_varint : ListCase
+  at_length : ListCase
+  at_item : ListCase
 
 -- the cut of a fault
-abbrev pub list_cut :
+abbrev pub list_case :
     {T : Type 0} {enc : T → List ℕ} {Writable Allowed : T → Type 0} {item_fault : List ℕ → Fault → Type 0}
     {range : Bounds ℕ} {text : List ℕ} {fault : Fault} → ListFault enc Writable Allowed item_fault range text fault
-    → ListCut
-list_cut (bad_spelling w) = at_spelling
-list_cut (bad_length count same w) = at_length
-list_cut (bad_item w) = at_item
+    → ListCase
+list_case (bad_varint w) = at_varint
+list_case (bad_length count same w) = at_length
+list_case (bad_item w) = at_item
 
 -- A list is read or refused with no memory where its length is wrong or 0, or where its first item is refused so.
 pub data IsListMemoryFree (item_fault : List ℕ → Fault → Type 0) (ItemMemoryFree : List ℕ → Type 0) (range : Bounds ℕ)
     (text : List ℕ) : Type 0 where
-  spelling : (fault : Fault) → varint_fault text fault → IsListMemoryFree item_fault ItemMemoryFree range text
+  faulty_varint : (fault : Fault) → varint_fault text fault → IsListMemoryFree item_fault ItemMemoryFree range text
   outside : (count : ℕ) → BeginsOutOfRange range text count → IsListMemoryFree item_fault ItemMemoryFree range text
   empty : (rest : List ℕ) → text ≡ varint 0 ++ rest → IsListMemoryFree item_fault ItemMemoryFree range text
   first : (count : ℕ) (rest : List ℕ) (fault : Fault) → count < 2 ^ 32 → text ≡ varint count ++ rest

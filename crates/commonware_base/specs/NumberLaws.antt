@@ -9,7 +9,7 @@ use Rattle.commonware_base.specs.RangeLaws.{within_or_not}
 use Rattle.commonware_base.specs.Varint.{varint, varint_fault}
 use Rattle.commonware_base.specs.VarintLaws.{varint_split, varint_no_fault, varint_one_fault, varint_or_fault}
 use Rattle.commonware_base.specs.Words.{IsWord}
-use Rattle.commonware_base.specs.Numbers.{NumberFault, misspelled, out_of_range}
+use Rattle.commonware_base.specs.Numbers.{NumberFault, invalid_varint, out_of_range}
 
 -- two numbers that begin one text are the same
 pub number_prefix_free : IsPrefixFree varint IsWord
@@ -28,19 +28,19 @@ varint_accepted_or_faulty s h = elim (varint_or_fault s h) [
   | inl w ↦ inl (w.0, w.1, record { writable = w.2; allowed = tt; begins = w.3 })
 ]
 
--- a number in the range at the front is no fault
+-- a number in the range at the prefix is no fault
 number_no_fault : (range : Bounds ℕ) (s : List ℕ) (n : ℕ) (r : List ℕ) (f : Fault) → IsWord n → Within range n
     → s ≡ varint n ++ r → NumberFault range s f → ⊥
-number_no_fault range s n r f p h e (misspelled w) = varint_no_fault s n r f p e w
+number_no_fault range s n r f p h e (invalid_varint w) = varint_no_fault s n r f p e w
 number_no_fault range s n r f p h e (out_of_range m q w) =
     w.outside (subst (Within range) (varint_split n m _ _ p w.short (sym e ∙ w.begins)).0 h)
 
 -- a text has at most one fault
 number_one_fault : (range : Bounds ℕ) (s : List ℕ) (f g : Fault) → NumberFault range s f → NumberFault range s g → f ≡ g
-number_one_fault range s f g (misspelled v) (misspelled w) = varint_one_fault s f g v w
-number_one_fault range s f g (misspelled v) (out_of_range m q w) =
+number_one_fault range s f g (invalid_varint v) (invalid_varint w) = varint_one_fault s f g v w
+number_one_fault range s f g (invalid_varint v) (out_of_range m q w) =
     absurd (varint_no_fault s m w.rest f w.short w.begins v)
-number_one_fault range s f g (out_of_range n p v) (misspelled w) =
+number_one_fault range s f g (out_of_range n p v) (invalid_varint w) =
     absurd (varint_no_fault s n v.rest g v.short v.begins w)
 number_one_fault range s f g (out_of_range n p v) (out_of_range m q w) =
     p ∙ ap InvalidLength (varint_split n m _ _ v.short w.short (sym v.begins ∙ w.begins)).0 ∙ sym q
@@ -49,7 +49,7 @@ number_one_fault range s f g (out_of_range n p v) (out_of_range m q w) =
 number_accepted_or_faulty : (range : Bounds ℕ) (s : List ℕ) → AreBytes s
     → AcceptedOrFaulty varint IsWord (Within range) (NumberFault range s) s
 number_accepted_or_faulty range s h = elim (varint_or_fault s h) [
-  | inr w ↦ inr (w.0, misspelled w.1)
+  | inr w ↦ inr (w.0, invalid_varint w.1)
   | inl w ↦ elim (within_or_not range w.0) [
     | inl i ↦ inl (w.0, w.1, record { writable = w.2; allowed = i; begins = w.3 })
     | inr o ↦ inr

@@ -27,14 +27,14 @@ pub data SequenceFault {X : Type 0} (first_enc : X → List ℕ) (FirstWritable 
       fault
 
 -- The cuts at which a text that should begin with two values can be faulty.
-pub data SequenceCut : Type 0 where
-  at_first : SequenceCut
-  at_second : SequenceCut
+pub data SequenceCase : Type 0 where
+  at_first : SequenceCase
+  at_second : SequenceCase
 
 -- the cut of a fault
-abbrev pub sequence_cut :
+abbrev pub sequence_case :
     {X : Type 0} {first_enc : X → List ℕ} {FirstWritable FirstAllowed : X → Type 0}
     {first_fault : List ℕ → Fault → Type 0} {second_fault : X → List ℕ → Fault → Type 0} {text : List ℕ} {fault : Fault}
-    → SequenceFault first_enc FirstWritable FirstAllowed first_fault second_fault text fault → SequenceCut
-sequence_cut (bad_first w) = at_first
-sequence_cut (bad_second x rest a w) = at_second
+    → SequenceFault first_enc FirstWritable FirstAllowed first_fault second_fault text fault → SequenceCase
+sequence_case (bad_first w) = at_first
+sequence_case (bad_second x rest a w) = at_second

@@ -7,7 +7,7 @@ use Rattle.commonware_base.specs.Fault.{Fault}
 use Rattle.commonware_base.specs.Text.{AreBytes, Accepts, IsPrefixFree, ReadLaws, CanonicalLaws}
 use Rattle.commonware_base.specs.TextLaws.{bytes_append, bytes_right}
 use Rattle.commonware_base.specs.Sequence.{sequence_enc, IsWritableSequence, IsAllowedSequence, SequenceFault}
-use Rattle.commonware_base.specs.Sequence.{sequence_cut, bad_first, bad_second}
+use Rattle.commonware_base.specs.Sequence.{sequence_case, bad_first, bad_second}
 
 module _ {X Y : Type 0} (ex : X → List ℕ) (WX : X → Type 0) (first_prefix_free : IsPrefixFree ex WX) (ey : Y → List ℕ)
     (WY : Y → Type 0) where
@@ -84,7 +84,7 @@ module _ {X Y : Type 0} (ex : X → List ℕ) (WX : X → Type 0) (first_prefix_
             begins = a.begins ∙ append_assoc (ex p.0) (ey p.1) r;
           }
 
-      -- two values at the front are no fault
+      -- two values at the prefix are no fault
       no_fault : (s : List ℕ) (p : X × Y) (r : List ℕ) (f : Fault)
           → Accepts (sequence_enc ex ey) (IsWritableSequence WX WY) (IsAllowedSequence AX AY) s p r
           → SequenceFault ex WX AX fx fy s f → ⊥
@@ -96,13 +96,13 @@ module _ {X Y : Type 0} (ex : X → List ℕ) (WX : X → Type 0) (first_prefix_
           (fault_same x p.0 t f b.writable a.writable.0 e.0 w)
 
       -- two faults of a text are at one cut
-      pub sequence_one_cut :
+      pub sequence_one_case :
           (s : List ℕ) (f g : Fault) (v : SequenceFault ex WX AX fx fy s f) (w : SequenceFault ex WX AX fx fy s g)
-          → sequence_cut v ≡ sequence_cut w
-      sequence_one_cut s f g (bad_first v) (bad_first w) = refl
-      sequence_one_cut s f g (bad_first v) (bad_second x t b w) = absurd (first_laws.accepted_no_fault s x t f b v)
-      sequence_one_cut s f g (bad_second x t b v) (bad_first w) = absurd (first_laws.accepted_no_fault s x t g b w)
-      sequence_one_cut s f g (bad_second x t b v) (bad_second z u c w) = refl
+          → sequence_case v ≡ sequence_case w
+      sequence_one_case s f g (bad_first v) (bad_first w) = refl
+      sequence_one_case s f g (bad_first v) (bad_second x t b w) = absurd (first_laws.accepted_no_fault s x t f b v)
+      sequence_one_case s f g (bad_second x t b v) (bad_first w) = absurd (first_laws.accepted_no_fault s x t g b w)
+      sequence_one_case s f g (bad_second x t b v) (bad_second z u c w) = refl
 
       -- a text has at most one fault
       one : (s : List ℕ) (f g : Fault) → SequenceFault ex WX AX fx fy s f → SequenceFault ex WX AX fx fy s g → f ≡ g

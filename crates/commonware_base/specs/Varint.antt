@@ -20,13 +20,13 @@ groups_sum (b ∷ bytes) = b % 128 + 128 * groups_sum bytes
 -- The bytes spell the number: each byte but the last is at least 128, the last is below 128 and is 0
 -- only where it is alone, and there are at most five.
 pub record IsVarint (number : ℕ) (bytes : List ℕ) : Type 0 where
-  pub front : List ℕ
+  pub prefix : List ℕ
   pub last : ℕ
-  pub bytes_are : bytes ≡ front ++ last ∷ []
-  pub high : AreContinued front
+  pub bytes_are : bytes ≡ prefix ++ last ∷ []
+  pub high : AreContinued prefix
   pub low : last < 128
-  pub shortest : last ≡ 0 → front ≡ []
-  pub short : length front ≤ 4
+  pub shortest : last ≡ 0 → prefix ≡ []
+  pub short : length prefix ≤ 4
   pub sum : groups_sum bytes ≡ number
   pub fits : number < 2 ^ 32
 
@@ -50,16 +50,16 @@ pub record IsTruncated (text : List ℕ) : Type 0 where
 
 -- The text begins with 2 to 5 bytes of which all but the last are at least 128 and the last is 0, or with
 -- four bytes of at least 128 and then one above 15.
-pub record IsMisspelled (text : List ℕ) : Type 0 where
-  pub front : List ℕ
+pub record IsOverlongOrTooGreat (text : List ℕ) : Type 0 where
+  pub prefix : List ℕ
   pub last : ℕ
   pub rest : List ℕ
-  pub begins : text ≡ front ++ last ∷ rest
-  pub high : AreContinued front
-  pub wrong : ((last ≡ 0) × (0 < length front) × (length front ≤ 4)) ⊎ ((length front ≡ 4) × (15 < last))
+  pub begins : text ≡ prefix ++ last ∷ rest
+  pub high : AreContinued prefix
+  pub wrong : ((last ≡ 0) × (0 < length prefix) × (length prefix ≤ 4)) ⊎ ((length prefix ≡ 4) × (15 < last))
 
 -- what is wrong with a text that should begin with a number
 abbrev pub varint_fault : List ℕ → Fault → Type 0
 varint_fault text EndOfBuffer = IsTruncated text
-varint_fault text InvalidVarint = IsMisspelled text
+varint_fault text InvalidVarint = IsOverlongOrTooGreat text
 varint_fault text _ = ⊥

@@ -11,9 +11,9 @@ use Rattle.commonware_base.specs.Fault.{Fault, EndOfBuffer, InvalidVarint, Inval
 use Rattle.commonware_base.specs.Text.{AreBytes}
 use Rattle.commonware_base.specs.TextLaws.{bytes_append}
 use Rattle.commonware_base.specs.Varint.{AreContinued, groups_sum, IsVarint, groups, varint, varint_size}
-use Rattle.commonware_base.specs.Varint.{IsTruncated, IsMisspelled, varint_fault}
+use Rattle.commonware_base.specs.Varint.{IsTruncated, IsOverlongOrTooGreat, varint_fault}
 
--- Two texts that agree: their high bytes in front, and the byte after them, are the same.
+-- Two texts that agree: their high bytes in prefix, and the byte after them, are the same.
 pub same_front : (f g : List ℕ) (l m : ℕ) (x y : List ℕ) → AreContinued f → AreContinued g → l < 128 → m < 128
     → f ++ l ∷ x ≡ g ++ m ∷ y → (f ≡ g) × (l ≡ m) × (x ≡ y)
 same_front [] [] l m x y hf hg hl hm e = (refl, cc, cc)
@@ -54,13 +54,13 @@ same_sum (b ∷ f) (c ∷ g) l m hf hg hl hm sf sg e =
 
 -- A spelling in groups, of any length.
 record Spells (number more : ℕ) (bytes : List ℕ) : Type 0 where
-  front : List ℕ
+  prefix : List ℕ
   last : ℕ
-  bytes_are : bytes ≡ front ++ last ∷ []
-  high : AreContinued front
+  bytes_are : bytes ≡ prefix ++ last ∷ []
+  high : AreContinued prefix
   low : last < 128
-  shortest : last ≡ 0 → front ≡ []
-  short : length front ≤ more
+  shortest : last ≡ 0 → prefix ≡ []
+  short : length prefix ≤ more
   sum : groups_sum bytes ≡ number
   positive : 0 < number → 0 < last
 
@@ -68,7 +68,7 @@ record Spells (number more : ℕ) (bytes : List ℕ) : Type 0 where
 spells : (more n : ℕ) → n < 128 ^ suc more → Spells n more (groups more n)
 spells zero n h =
     record {
-      front = [];
+      prefix = [];
       last = n;
       bytes_are = refl;
       high = tt;
@@ -81,7 +81,7 @@ spells zero n h =
 spells (suc more) n h = elim (cases_lt n 128) [
   | inl p ↦ rw (lt-ltb n 128 p)
       (record {
-        front = [];
+        prefix = [];
         last = n;
         bytes_are = refl;
         high = tt;
@@ -96,7 +96,7 @@ spells (suc more) n h = elim (cases_lt n 128) [
       let rest = spells more (n / 128) below in
       let pos : 0 < rest.last = rest.positive (omega arith) in
       record {
-        front = (n % 128 + 128) ∷ rest.front;
+        prefix = (n % 128 + 128) ∷ rest.prefix;
         last = rest.last;
         bytes_are = ap (λ s. (n % 128 + 128) ∷ s) rest.bytes_are;
         high = ((omega arith, omega arith), rest.high);
@@ -114,7 +114,7 @@ unfolding varint
 varint_is n h =
     let s = spells 4 n (omega arith) in
     record {
-      front = s.front;
+      prefix = s.prefix;
       last = s.last;
       bytes_are = s.bytes_are;
       high = s.high;
@@ -134,7 +134,7 @@ high_bytes (b ∷ f) h = (omega (arith, h.0.1), high_bytes f h.1)
 pub varint_bytes : (n : ℕ) → n < 2 ^ 32 → AreBytes (varint n)
 varint_bytes n h = let v = varint_is n h in
     subst AreBytes (sym v.bytes_are)
-    (bytes_append v.front (v.last ∷ []) (high_bytes v.front v.high) (omega (arith, v.low), tt))
+    (bytes_append v.prefix (v.last ∷ []) (high_bytes v.prefix v.high) (omega (arith, v.low), tt))
 
 -- No other bytes spell it.
 pub varint_only : (n : ℕ) (s : List ℕ) → IsVarint n s → s ≡ varint n
@@ -142,7 +142,7 @@ varint_only n s v =
     let w = varint_is n v.fits in
     let sv = v.bytes_are in
     let sw = w.bytes_are in
-    sv ∙ same_sum v.front w.front v.last w.last v.high w.high v.low w.low v.shortest w.shortest
+    sv ∙ same_sum v.prefix w.prefix v.last w.last v.high w.high v.low w.low v.shortest w.shortest
     (ap groups_sum (sym sv) ∙ (v.sum ∙ sym w.sum) ∙ ap groups_sum sw) ∙ sym sw
 
 -- Where a text begins with two numbers, they are the same, and so is what follows.
@@ -151,20 +151,20 @@ pub varint_split : (m n : ℕ) (x y : List ℕ) → m < 2 ^ 32 → n < 2 ^ 32 �
 varint_split m n x y hm hn e =
     let v = varint_is m hm in
     let w = varint_is n hn in
-    let p : (v.front ++ v.last ∷ []) ++ x ≡ (w.front ++ w.last ∷ []) ++ y =
+    let p : (v.prefix ++ v.last ∷ []) ++ x ≡ (w.prefix ++ w.last ∷ []) ++ y =
     ap (λ s. s ++ x) (sym v.bytes_are) ∙ e ∙ ap (λ s. s ++ y) w.bytes_are in
-    let q : v.front ++ v.last ∷ x ≡ w.front ++ w.last ∷ y =
-    sym (append_assoc v.front (v.last ∷ []) x) ∙ p ∙ append_assoc w.front (w.last ∷ []) y in
-    let s = same_front v.front w.front v.last w.last x y v.high w.high v.low w.low q in
-    let f : v.front ≡ w.front = s.0 in
+    let q : v.prefix ++ v.last ∷ x ≡ w.prefix ++ w.last ∷ y =
+    sym (append_assoc v.prefix (v.last ∷ []) x) ∙ p ∙ append_assoc w.prefix (w.last ∷ []) y in
+    let s = same_front v.prefix w.prefix v.last w.last x y v.high w.high v.low w.low q in
+    let f : v.prefix ≡ w.prefix = s.0 in
     let l : v.last ≡ w.last = s.1 in
     let t : varint m ≡ varint n =
-    v.bytes_are ∙ ap (λ g. g ++ v.last ∷ []) f ∙ ap (λ b. w.front ++ b ∷ []) l ∙ sym w.bytes_are in
+    v.bytes_are ∙ ap (λ g. g ++ v.last ∷ []) f ∙ ap (λ b. w.prefix ++ b ∷ []) l ∙ sym w.bytes_are in
     (sym v.sum ∙ ap groups_sum t ∙ w.sum, s.2)
 
 -- the text that a number begins, with its parts
-parts : (s : List ℕ) (n : ℕ) (r : List ℕ) (v : IsVarint n (varint n)) → s ≡ varint n ++ r → s ≡ v.front ++ v.last ∷ r
-parts s n r v e = e ∙ ap (λ t. t ++ r) v.bytes_are ∙ append_assoc v.front (v.last ∷ []) r
+parts : (s : List ℕ) (n : ℕ) (r : List ℕ) (v : IsVarint n (varint n)) → s ≡ varint n ++ r → s ≡ v.prefix ++ v.last ∷ r
+parts s n r v e = e ∙ ap (λ t. t ++ r) v.bytes_are ∙ append_assoc v.prefix (v.last ∷ []) r
 
 -- high bytes alone have no last byte
 not_all_high : (f : List ℕ) (l : ℕ) (x : List ℕ) → l < 128 → AreContinued (f ++ l ∷ x) → ⊥
@@ -197,23 +197,24 @@ pub varint_no_fault : (s : List ℕ) (n : ℕ) (r : List ℕ) (f : Fault) → n 
     → ⊥
 varint_no_fault s n r EndOfBuffer h e w =
     let v = varint_is n h in
-    not_all_high v.front v.last r v.low (subst AreContinued (parts s n r v e) w.high)
+    not_all_high v.prefix v.last r v.low (subst AreContinued (parts s n r v e) w.high)
 varint_no_fault s n r InvalidVarint h e w =
     let v = varint_is n h in
-    let p : v.front ++ v.last ∷ r ≡ w.front ++ w.last ∷ w.rest = sym (parts s n r v e) ∙ w.begins in
-    let sum : groups_sum (v.front ++ v.last ∷ []) < 2 ^ 32 =
+    let p : v.prefix ++ v.last ∷ r ≡ w.prefix ++ w.last ∷ w.rest = sym (parts s n r v e) ∙ w.begins in
+    let sum : groups_sum (v.prefix ++ v.last ∷ []) < 2 ^ 32 =
     subst (λ m. m < 2 ^ 32) (sym (ap groups_sum (sym v.bytes_are) ∙ v.sum)) h in
     elim w.wrong [
       | inl z ↦ (let low : w.last < 128 = omega (arith, z.0) in
-          let q = same_front v.front w.front v.last w.last r w.rest v.high w.high v.low low p in
-          let nil : v.front ≡ [] = v.shortest (q.1 ∙ z.0) in
-          let nil' : length w.front ≡ 0 = ap length (sym q.0 ∙ nil) in
+          let q = same_front v.prefix w.prefix v.last w.last r w.rest v.high w.high v.low low p in
+          let nil : v.prefix ≡ [] = v.shortest (q.1 ∙ z.0) in
+          let nil' : length w.prefix ≡ 0 = ap length (sym q.0 ∙ nil) in
           omega (arith, z.1, nil'))
       | inr z ↦
-          (let q = same_wrong v.front w.front v.last w.last r w.rest v.high w.high v.low p (omega (arith, v.short, z.0))
+          (let q =
+          same_wrong v.prefix w.prefix v.last w.last r w.rest v.high w.high v.low p (omega (arith, v.short, z.0))
           in
-          let four : length v.front ≡ 4 = ap length q.0 ∙ z.0 in
-          let small = last_of_five v.front v.last four v.low sum in
+          let four : length v.prefix ≡ 4 = ap length q.0 ∙ z.0 in
+          let small = last_of_five v.prefix v.last four v.low sum in
           let same : v.last ≡ w.last = q.1 in
           omega (arith, z.1, small))
     ]
@@ -221,13 +222,13 @@ varint_no_fault s n r (InvalidLength k) h e w = w
 varint_no_fault s n r (Invalid what why) h e w = w
 
 -- A cut text has no byte that ends a number, and no fifth.
-truncated_not_misspelled : (s : List ℕ) → IsTruncated s → IsMisspelled s → ⊥
+truncated_not_misspelled : (s : List ℕ) → IsTruncated s → IsOverlongOrTooGreat s → ⊥
 truncated_not_misspelled s c w =
-    let a : AreContinued (w.front ++ w.last ∷ w.rest) = subst AreContinued w.begins c.high in
-    let n : length s ≡ length (w.front ++ w.last ∷ w.rest) = ap length w.begins in
+    let a : AreContinued (w.prefix ++ w.last ∷ w.rest) = subst AreContinued w.begins c.high in
+    let n : length s ≡ length (w.prefix ++ w.last ∷ w.rest) = ap length w.begins in
     elim w.wrong [
-      | inl z ↦ not_all_high w.front w.last w.rest (omega (arith, z.0)) a
-      | inr z ↦ omega (arith, c.short, n, z.0, length-append w.front (w.last ∷ w.rest))
+      | inl z ↦ not_all_high w.prefix w.last w.rest (omega (arith, z.0)) a
+      | inr z ↦ omega (arith, c.short, n, z.0, length-append w.prefix (w.last ∷ w.rest))
     ]
 
 -- A text has one fault.
@@ -245,26 +246,26 @@ varint_one_fault s InvalidVarint (Invalid a b) p q = absurd q
 
 -- The first byte below 128, where it is among the first more + 1.
 pub record Stops (more : ℕ) (s : List ℕ) : Type 0 where
-  pub front : List ℕ
+  pub prefix : List ℕ
   pub last : ℕ
   pub rest : List ℕ
-  pub begins : s ≡ front ++ last ∷ rest
-  pub high : AreContinued front
-  pub short : length front ≤ more
-  pub stops : (last < 128) ⊎ (length front ≡ more)
+  pub begins : s ≡ prefix ++ last ∷ rest
+  pub high : AreContinued prefix
+  pub short : length prefix ≤ more
+  pub stops : (last < 128) ⊎ (length prefix ≡ more)
 
 -- a text of bytes is high and short, or it stops
 pub stop_of : (more : ℕ) (s : List ℕ) → AreBytes s → (AreContinued s × (length s ≤ more)) ⊎ Stops more s
 stop_of more [] h = inl (tt, omega arith)
 stop_of zero (b ∷ s) h =
-    inr (record { front = []; last = b; rest = s; begins = refl; high = tt; short = omega arith; stops = inr refl })
+    inr (record { prefix = []; last = b; rest = s; begins = refl; high = tt; short = omega arith; stops = inr refl })
 stop_of (suc more) (b ∷ s) h = elim (cases_lt b 128) [
   | inl p ↦ inr
-      (record { front = []; last = b; rest = s; begins = refl; high = tt; short = omega arith; stops = inl p })
+      (record { prefix = []; last = b; rest = s; begins = refl; high = tt; short = omega arith; stops = inl p })
   | inr p ↦ elim (stop_of more s h.1) [
     | inl a ↦ inl (((p, h.0), a.0), omega (arith, a.1))
     | inr w ↦ inr (record {
-      front = b ∷ w.front;
+      prefix = b ∷ w.prefix;
       last = w.last;
       rest = w.rest;
       begins = ap (λ t. b ∷ t) w.begins;
@@ -285,21 +286,22 @@ sum_fits (a ∷ b ∷ c ∷ d ∷ []) l e h s = let p : l ≤ 15 = s refl in ome
 sum_fits (a ∷ b ∷ c ∷ d ∷ k ∷ f) l e h s = absurd (omega arith)
 
 -- A text that stops is a number or has the fault.
-pub number_of : (s : List ℕ) (front : List ℕ) (last : ℕ) (rest : List ℕ) → s ≡ front ++ last ∷ rest → AreContinued front
-    → length front ≤ 4 → (last < 128) ⊎ (length front ≡ 4) →
-    ((n : ℕ) × (n ≡ groups_sum (front ++ last ∷ [])) × IsVarint n (front ++ last ∷ [])) ⊎ IsMisspelled s
-number_of s front last rest begins high short stops = elim (cases_lt 0 last) [
-  | inr z ↦ (let zero' : last ≡ 0 = omega arith in elim (cases_lt 0 (length front)) [
-    | inl p ↦ inr (misspelled (inl (zero', p, short)))
-    | inr p ↦ inl (good (omega arith) (λ _. nil_of front (omega arith)) (λ four. omega arith))
+pub number_of : (s : List ℕ) (prefix : List ℕ) (last : ℕ) (rest : List ℕ)
+    → s ≡ prefix ++ last ∷ rest → AreContinued prefix
+    → length prefix ≤ 4 → (last < 128) ⊎ (length prefix ≡ 4) →
+    ((n : ℕ) × (n ≡ groups_sum (prefix ++ last ∷ [])) × IsVarint n (prefix ++ last ∷ [])) ⊎ IsOverlongOrTooGreat s
+number_of s prefix last rest begins high short stops = elim (cases_lt 0 last) [
+  | inr z ↦ (let zero' : last ≡ 0 = omega arith in elim (cases_lt 0 (length prefix)) [
+    | inl p ↦ inr (invalid_varint (inl (zero', p, short)))
+    | inr p ↦ inl (good (omega arith) (λ _. nil_of prefix (omega arith)) (λ four. omega arith))
   ])
   | inl p ↦ elim (cases_lt 15 last) [
     | inr q ↦ inl (good (omega arith) (λ z. absurd (omega arith)) (λ _. q))
-    | inl q ↦ elim (cases_lt (length front) 4) [
+    | inl q ↦ elim (cases_lt (length prefix) 4) [
       | inl t ↦ inl
           (good (elim stops [ inl a ↦ a | inr a ↦ absurd (omega arith) ]) (λ z. absurd (omega arith))
           (λ four. absurd (omega arith)))
-      | inr t ↦ inr (misspelled (inr (omega arith, q)))
+      | inr t ↦ inr (invalid_varint (inr (omega arith, q)))
     ]
   ]
 ]
@@ -308,18 +310,18 @@ number_of s front last rest begins high short stops = elim (cases_lt 0 last) [
     nil_of [] e = refl
     nil_of (b ∷ f) e = absurd (omega arith)
 
-    misspelled : ((last ≡ 0) × (0 < length front) × (length front ≤ 4)) ⊎ ((length front ≡ 4) × (15 < last))
-        → IsMisspelled s
-    misspelled wrong =
-        record { front = front; last = last; rest = rest; begins = begins; high = high; wrong = wrong }
+    invalid_varint : ((last ≡ 0) × (0 < length prefix) × (length prefix ≤ 4)) ⊎ ((length prefix ≡ 4) × (15 < last))
+        → IsOverlongOrTooGreat s
+    invalid_varint wrong =
+        record { prefix = prefix; last = last; rest = rest; begins = begins; high = high; wrong = wrong }
 
-    good : last < 128 → (last ≡ 0 → front ≡ []) → (length front ≡ 4 → last ≤ 15)
-        → (n : ℕ) × (n ≡ groups_sum (front ++ last ∷ [])) × IsVarint n (front ++ last ∷ [])
+    good : last < 128 → (last ≡ 0 → prefix ≡ []) → (length prefix ≡ 4 → last ≤ 15)
+        → (n : ℕ) × (n ≡ groups_sum (prefix ++ last ∷ [])) × IsVarint n (prefix ++ last ∷ [])
     good low shortest five = (
-      groups_sum (front ++ last ∷ []),
+      groups_sum (prefix ++ last ∷ []),
       refl,
       record {
-        front = front;
+        prefix = prefix;
         last = last;
         bytes_are = refl;
         high = high;
@@ -327,7 +329,7 @@ number_of s front last rest begins high short stops = elim (cases_lt 0 last) [
         shortest = shortest;
         short = short;
         sum = refl;
-        fits = sum_fits front last short low five;
+        fits = sum_fits prefix last short low five;
       },
     )
 
@@ -336,12 +338,12 @@ pub varint_or_fault : (s : List ℕ) → AreBytes s
     → ((n : ℕ) × (r : List ℕ) × (n < 2 ^ 32) × (s ≡ varint n ++ r)) ⊎ ((f : Fault) × varint_fault s f)
 varint_or_fault s h = elim (stop_of 4 s h) [
   | inl a ↦ inr (EndOfBuffer, record { high = a.0; short = a.1 })
-  | inr w ↦ elim (number_of s w.front w.last w.rest w.begins w.high w.short w.stops) [
+  | inr w ↦ elim (number_of s w.prefix w.last w.rest w.begins w.high w.short w.stops) [
     | inl v ↦ inl (
       v.0,
       w.rest,
       v.2.fits,
-      w.begins ∙ sym (append_assoc w.front (w.last ∷ []) w.rest)
+      w.begins ∙ sym (append_assoc w.prefix (w.last ∷ []) w.rest)
           ∙ ap (λ t. t ++ w.rest) (varint_only v.0 _ v.2),
     )
     | inr b ↦ inr (InvalidVarint, b)
@@ -393,7 +395,7 @@ groups_not_empty (suc more) left = elim (cases_lt left 128) [
 -- a varint has at most five bytes
 pub varint-length : (n : ℕ) → n < 2 ^ 32 → length (varint n) ≤ 5
 varint-length n h = let v = varint_is n h in
-    omega (arith, ap length v.bytes_are, length-append v.front (v.last ∷ []), v.short)
+    omega (arith, ap length v.bytes_are, length-append v.prefix (v.last ∷ []), v.short)
 
 -- the size of a varint is its length
 pub varint_size_is : (n : ℕ) → length (varint n) ≡ varint_size n
@@ -417,10 +419,10 @@ module _ (s : List ℕ) (i : ℕ) (within : i < length s) (high : AreContinued (
   front_length = length-take-le i s (omega arith)
 
   -- a last byte of 0 is a misspelling
-  pub bad_zero : 0 < i → get_or s i 0 ≡ 0 → IsMisspelled s
+  pub bad_zero : 0 < i → get_or s i 0 ≡ 0 → IsOverlongOrTooGreat s
   bad_zero p z = let n =
       front_length in record {
-        front = take i s;
+        prefix = take i s;
         last = get_or s i 0;
         rest = drop (i + 1) s;
         begins = cut_at;
@@ -429,10 +431,10 @@ module _ (s : List ℕ) (i : ℕ) (within : i < length s) (high : AreContinued (
       }
 
   -- a fifth byte above 15 is one
-  pub bad_fifth : i ≡ 4 → 15 < get_or s i 0 → IsMisspelled s
+  pub bad_fifth : i ≡ 4 → 15 < get_or s i 0 → IsOverlongOrTooGreat s
   bad_fifth p z = let n =
       front_length in record {
-        front = take i s;
+        prefix = take i s;
         last = get_or s i 0;
         rest = drop (i + 1) s;
         begins = cut_at;
@@ -447,7 +449,7 @@ module _ (s : List ℕ) (i : ℕ) (within : i < length s) (high : AreContinued (
       let n = front_length in
       let e : take (i + 1) s ≡ take i s ++ get_or s i 0 ∷ [] = take_more s i 0 within in
       record {
-        front = take i s;
+        prefix = take i s;
         last = get_or s i 0;
         bytes_are = e;
         high = high;

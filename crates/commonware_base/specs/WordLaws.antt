@@ -12,7 +12,7 @@ use Rattle.commonware_base.specs.Words.{word_bytes, IsWord, word_fault}
 pub word_prefix_free : IsPrefixFree word_bytes IsWord
 word_prefix_free a b x y p q e = cc
 
--- four bytes at the front are no fault
+-- four bytes at the prefix are no fault
 word_no_fault : (s : List ℕ) (v : ℕ) (r : List ℕ) (f : Fault) → s ≡ word_bytes v ++ r → word_fault s f → ⊥
 word_no_fault s v r f e w = omega (arith, w.0, ap length e)
 

@@ -18,7 +18,7 @@ use Rattle.commonware_map.specs.Pairs.{are_equal_pairs}
 use Rattle.commonware_map.specs.PairLaws.{equal_by_parts}
 use Rattle.commonware_ordered.specs.Whole.{HasEqualItems}
 use Rattle.commonware_bimap.specs.BiMaps.{IsWritableBiMap, BeginsRepeated, repeated_fault, BiMapFault, bad_map}
-use Rattle.commonware_bimap.specs.BiMaps.{bad_values, bimap_cut}
+use Rattle.commonware_bimap.specs.BiMaps.{bad_values, bimap_case}
 
 module _ {K V : Type 0} (key_eq : K → K → Bool) (value_eq : V → V → Bool) (value_equiv : IsEquivalence value_eq) where
   -- of two equal maps both have equal values, or neither
@@ -105,13 +105,13 @@ module _ {K V : Type 0} (ek : K → List ℕ) (WK : K → Type 0) (cmp : K → K
       }
 
       -- two faults of a text are at one cut
-      pub bimap_one_cut :
+      pub bimap_one_case :
           (s : List ℕ) (f g : Fault) (v : BiMapFault ek WK cmp AK fk ev WV AV fv value_eq range s f)
-          (w : BiMapFault ek WK cmp AK fk ev WV AV fv value_eq range s g) → bimap_cut v ≡ bimap_cut w
-      bimap_one_cut s f g (bad_map v) (bad_map w) = refl
-      bimap_one_cut s f g (bad_map v) (bad_values e w) = absurd (broken_no_fault as_map distinctness s f w v)
-      bimap_one_cut s f g (bad_values d v) (bad_map w) = absurd (broken_no_fault as_map distinctness s g v w)
-      bimap_one_cut s f g (bad_values d v) (bad_values e w) = refl
+          (w : BiMapFault ek WK cmp AK fk ev WV AV fv value_eq range s g) → bimap_case v ≡ bimap_case w
+      bimap_one_case s f g (bad_map v) (bad_map w) = refl
+      bimap_one_case s f g (bad_map v) (bad_values e w) = absurd (broken_no_fault as_map distinctness s f w v)
+      bimap_one_case s f g (bad_values d v) (bad_map w) = absurd (broken_no_fault as_map distinctness s g v w)
+      bimap_one_case s f g (bad_values d v) (bad_values e w) = refl
 
       -- what is promised of the texts of bimaps
       pub bimap_laws :

@@ -47,17 +47,17 @@ pub data BiMapFault {K V : Type 0} (key_enc : K → List ℕ) (KeyWritable : K �
       value_eq range text fault
 
 -- The cuts at which a text that should begin with a bimap can be faulty.
-pub data BiMapCut : Type 0 where
-  at_map : BiMapCut
-  at_values : BiMapCut
+pub data BiMapCase : Type 0 where
+  at_map : BiMapCase
+  at_values : BiMapCase
 
 -- the cut of a fault
-abbrev pub bimap_cut :
+abbrev pub bimap_case :
     {K V : Type 0} {key_enc : K → List ℕ} {KeyWritable : K → Type 0} {cmp : K → K → Ordering} {KeyAllowed : K → Type 0}
     {key_fault : List ℕ → Fault → Type 0}
     {value_enc : V → List ℕ} {ValueWritable ValueAllowed : V → Type 0} {value_fault : List ℕ → Fault → Type 0}
     {value_eq : V → V → Bool} {range : Bounds ℕ} {text : List ℕ} {fault : Fault}
     → BiMapFault key_enc KeyWritable cmp KeyAllowed key_fault value_enc ValueWritable ValueAllowed value_fault value_eq
-    range text fault → BiMapCut
-bimap_cut (bad_map w) = at_map
-bimap_cut (bad_values same w) = at_values
+    range text fault → BiMapCase
+bimap_case (bad_map w) = at_map
+bimap_case (bad_values same w) = at_values

@@ -5,5 +5,5 @@ pub mod Keys
 pub mod Made
 pub mod NoGap
 pub mod Offsets
-pub mod Spelt
+pub mod EncodingLemmas
 pub mod Spliced

@@ -3,7 +3,7 @@ ghost use Rattle.std.specs.Prelude.{◌≡◌, ◌↔◌, ◌*◌, ◌<◌, ℕ,
 ghost use Rattle.commonware_base.specs.Refusal.{Refuses};
 ghost use Rattle.commonware_base.specs.Source.{rest_of};
 ghost use Rattle.commonware_ordered.specs.Strict.{IsStrict};
-ghost use Rattle.committee_core.specs.BigEndian.{spelt};
+ghost use Rattle.committee_core.specs.BigEndian.{number_at};
 ghost use Rattle.committee_core.specs.Members.{member_cmp};
 ghost use Rattle.commonware_c.specs.Committees.{AreKeys, IsCommitteeOf, committee_fault};
 
@@ -82,7 +82,7 @@ pub(crate) fn order(x: &[u8; 32], y: &[u8; 32]) -> Ordering
 /// The first eight bytes of a key as one number, the first of them the greatest.
 #[inline(always)]
 fn first_word(key: &[u8; 32]) -> u64
-    ensures { result ≡ spelt 8 0 key.now }
+    ensures { result ≡ number_at 8 0 key.now }
 {
     u64::from_be_bytes([
         key[0], key[1], key[2], key[3], key[4], key[5], key[6], key[7],

@@ -5,7 +5,7 @@ use Rattle.std.specs.declared.cmp.Ordering.{Ordering}
 use Rattle.std.proofs.lemmas.List.{take-append-drop}
 use Rattle.std.proofs.lemmas.Map.Made.{keys_of-zip}
 use Rattle.commonware_base.specs.Fault.{Fault}
-use Rattle.commonware_base.specs.Lists.{list_enc, IsWritableList, IsAllowedList, IsListMemoryFree, ListFault, bad_spelling, bad_length, bad_item, spelling, outside, empty}
+use Rattle.commonware_base.specs.Lists.{list_enc, IsWritableList, IsAllowedList, IsListMemoryFree, ListFault, bad_varint, bad_length, bad_item, faulty_varint, outside, empty}
 use Rattle.commonware_base.specs.ListLaws.{list_laws, list_wants_memory}
 use Rattle.commonware_base.specs.Range.{Bounds, exactly}
 use Rattle.commonware_base.specs.Sequence.{sequence_enc, IsWritableSequence, IsAllowedSequence}
@@ -60,7 +60,7 @@ free_of_none {V} ev WV AV fv mv t value_prefix_free value_laws bytes = elim ((li
     accepted (v ∷ vs) r n e = absurd (omega arith)
 
     faulty : (f : Fault) → ListFault ev WV AV fv (exactly zero) t f → IsListMemoryFree fv mv (exactly zero) t
-    faulty f (bad_spelling w) = spelling f w
+    faulty f (bad_varint w) = faulty_varint f w
     faulty f (bad_length count same w) = outside count w
     faulty f (bad_item w) = absurd (omega (arith, w.in_range.below, w.fewer))
 

@@ -11,9 +11,9 @@ use Rattle.commonware_base.specs.Text.{AreBytes, IsPrefixFree, ReadLaws, Canonic
 use Rattle.commonware_base.specs.TextLaws.{prefix_free_on, canonical_on, laws_on}
 use Rattle.commonware_base.specs.Lists.{list_enc, IsWritableList, IsAllowedList, ListFault}
 use Rattle.commonware_base.specs.ListLaws.{list_prefix_free, list_laws, list_canonical, list_bytes, split_count}
-use Rattle.commonware_base.specs.Sequence.{sequence_enc, IsWritableSequence, IsAllowedSequence, sequence_cut}
+use Rattle.commonware_base.specs.Sequence.{sequence_enc, IsWritableSequence, IsAllowedSequence, sequence_case}
 use Rattle.commonware_base.specs.SequenceLaws.{sequence_bytes, sequence_prefix_free, sequence_canonical, sequence_laws}
-use Rattle.commonware_base.specs.SequenceLaws.{sequence_one_cut}
+use Rattle.commonware_base.specs.SequenceLaws.{sequence_one_case}
 use Rattle.commonware_map.specs.Maps.{columns, map_enc, IsWritableMap, AreAllowedValues, IsAllowedMap, MapFault}
 use Rattle.commonware_map.specs.Pairs.{are_equal_pairs}
 use Rattle.commonware_map.specs.PairLaws.{equal_by_parts}
@@ -108,11 +108,11 @@ module _ {K V : Type 0} (ek : K → List ℕ) (WK : K → Type 0) (cmp : K → K
             same_fault)
 
         -- two faults of a text are at one cut
-        pub map_one_cut :
+        pub map_one_case :
             (s : List ℕ) (f g : Fault) (v : MapFault ek WK cmp AK fk ev WV AV fv range s f)
-            (w : MapFault ek WK cmp AK fk ev WV AV fv range s g) → sequence_cut v ≡ sequence_cut w
-        map_one_cut =
-            sequence_one_cut (list_enc ek) (IsWritableSet WK cmp) (set_prefix_free ek WK cmp key_prefix_free)
+            (w : MapFault ek WK cmp AK fk ev WV AV fv range s g) → sequence_case v ≡ sequence_case w
+        map_one_case =
+            sequence_one_case (list_enc ek) (IsWritableSet WK cmp) (set_prefix_free ek WK cmp key_prefix_free)
             (list_enc ev) (IsWritableList WV) (list_prefix_free ev WV value_prefix_free)
             (IsAllowedList range AK) (SetFault ek WK cmp AK fk range)
             (set_laws ek WK cmp key_prefix_free eq total matches_eq key_canonical AK fk range key_laws)

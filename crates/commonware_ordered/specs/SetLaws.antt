@@ -12,7 +12,7 @@ use Rattle.commonware_base.specs.ConditionLaws.{Condition, broken_no_fault, cond
 use Rattle.commonware_base.specs.Lists.{list_enc, IsWritableList, IsAllowedList, ListFault}
 use Rattle.commonware_base.specs.ListLaws.{list_prefix_free, list_laws, list_canonical}
 use Rattle.commonware_ordered.specs.Sets.{IsWritableSet, BeginsUnsorted, unsorted_fault, SetFault, bad_list, bad_order}
-use Rattle.commonware_ordered.specs.Sets.{set_cut}
+use Rattle.commonware_ordered.specs.Sets.{set_case}
 use Rattle.commonware_ordered.specs.StrictLaws.{strict_or_not, strict_same}
 
 module _ {T : Type 0} (enc : T → List ℕ) (Writable : T → Type 0) (cmp : T → T → Ordering)
@@ -72,13 +72,13 @@ module _ {T : Type 0} (enc : T → List ℕ) (Writable : T → Type 0) (cmp : T 
       }
 
       -- two faults of a text are at one cut
-      pub set_one_cut :
+      pub set_one_case :
           (s : List ℕ) (f g : Fault) (v : SetFault enc Writable cmp Allowed item_fault range s f)
-          (w : SetFault enc Writable cmp Allowed item_fault range s g) → set_cut v ≡ set_cut w
-      set_one_cut s f g (bad_list v) (bad_list w) = refl
-      set_one_cut s f g (bad_list v) (bad_order e w) = absurd (broken_no_fault as_list strictness s f w v)
-      set_one_cut s f g (bad_order d v) (bad_list w) = absurd (broken_no_fault as_list strictness s g v w)
-      set_one_cut s f g (bad_order d v) (bad_order e w) = refl
+          (w : SetFault enc Writable cmp Allowed item_fault range s g) → set_case v ≡ set_case w
+      set_one_case s f g (bad_list v) (bad_list w) = refl
+      set_one_case s f g (bad_list v) (bad_order e w) = absurd (broken_no_fault as_list strictness s f w v)
+      set_one_case s f g (bad_order d v) (bad_list w) = absurd (broken_no_fault as_list strictness s g v w)
+      set_one_case s f g (bad_order d v) (bad_order e w) = refl
 
       -- what is promised of the texts of sets
       pub set_laws :

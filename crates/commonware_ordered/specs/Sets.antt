@@ -36,14 +36,14 @@ pub data SetFault {T : Type 0} (enc : T → List ℕ) (Writable : T → Type 0) 
       → SetFault enc Writable cmp Allowed item_fault range text fault
 
 -- The cuts at which a text that should begin with a set can be faulty.
-pub data SetCut : Type 0 where
-  at_list : SetCut
-  at_order : SetCut
+pub data SetCase : Type 0 where
+  at_list : SetCase
+  at_order : SetCase
 
 -- the cut of a fault
-abbrev pub set_cut :
+abbrev pub set_case :
     {T : Type 0} {enc : T → List ℕ} {Writable : T → Type 0} {cmp : T → T → Ordering} {Allowed : T → Type 0}
     {item_fault : List ℕ → Fault → Type 0} {range : Bounds ℕ} {text : List ℕ} {fault : Fault}
-    → SetFault enc Writable cmp Allowed item_fault range text fault → SetCut
-set_cut (bad_list w) = at_list
-set_cut (bad_order same w) = at_order
+    → SetFault enc Writable cmp Allowed item_fault range text fault → SetCase
+set_case (bad_list w) = at_list
+set_case (bad_order same w) = at_order

@@ -1,7 +1,7 @@
 -- The words of `ordered`: strict order, places, what the builders answer, faults and their cuts, loans and value maps.
 pub use Rattle.commonware_bimap.specs.BiMaps.{BeginsRepeated, IsWritableBiMap, repeated_fault}
 pub use Rattle.commonware_bimap.specs.BiMaps.{BiMapFault, bad_map, bad_values}
-pub use Rattle.commonware_bimap.specs.BiMaps.{BiMapCut, at_map, at_values, bimap_cut}
+pub use Rattle.commonware_bimap.specs.BiMaps.{BiMapCase, at_map, at_values, bimap_case}
 pub use Rattle.commonware_bimap.specs.Swapped.{swapped}
 pub use Rattle.commonware_bimap.specs.WholeBiMaps.{HasEqualKeys, HasEqualValues, IsBiMapOfAll}
 pub use Rattle.commonware_bimap.specs.WholeBiMaps.{IsBiMapOfClones, IsRefusedBiMap, IsWholeBiMap}
@@ -18,10 +18,10 @@ pub use Rattle.commonware_map.specs.PairLaws.{pairs_respect_eq}
 pub use Rattle.commonware_map.specs.PairsMut.{CanStep, LendsInOrder, LendsInReverse}
 pub use Rattle.commonware_map.specs.PairsMut.{pairs_mut_left, pairs_mut_name, pairs_mut_steps}
 pub use Rattle.commonware_map.specs.PairsMut.{pairs_mut_steps_back}
-pub use Rattle.commonware_ordered.specs.SetFrontLaws.{set_fault_settled}
+pub use Rattle.commonware_ordered.specs.SetPrefixLaws.{set_fault_determined}
 pub use Rattle.commonware_ordered.specs.Sets.{BeginsUnsorted, IsWritableSet, unsorted_fault}
 pub use Rattle.commonware_ordered.specs.Sets.{SetFault, bad_list, bad_order}
-pub use Rattle.commonware_ordered.specs.Sets.{SetCut, at_list, at_order, set_cut}
+pub use Rattle.commonware_ordered.specs.Sets.{SetCase, at_list, at_order, set_case}
 pub use Rattle.commonware_ordered.specs.Strict.{HasEqualAt, IsPlaceOf, IsStrict}
 pub use Rattle.commonware_map.specs.ValueMaps.{CalledAtPair, CalledAtRefs, IfClosure, IsFirstError}
 pub use Rattle.commonware_map.specs.ValueMaps.{Succeeds, TakesPair, TakesRefs}

@@ -5,7 +5,7 @@ pub use Rattle.commonware_vec.specs.Lends.{LendsItemAt, LendsItems, LendsItemsTo
 pub use Rattle.commonware_vec.specs.Mutate.{LeavesSome, ReturnsAtItems, TakesItems}
 pub use Rattle.commonware_vec.specs.NonEmpty.{BeginsEmpty, IsWritableNonEmpty, empty_fault}
 pub use Rattle.commonware_vec.specs.NonEmpty.{NonEmptyFault, bad_list, no_items}
-pub use Rattle.commonware_vec.specs.NonEmpty.{NonEmptyCut, at_end, at_list, non_empty_cut}
+pub use Rattle.commonware_vec.specs.NonEmpty.{NonEmptyCase, at_end, at_list, non_empty_case}
 pub use Rattle.commonware_vec.specs.Refusals.{EmptyOrMemory, IsAll, IsRefusedForDrawn}
 pub use Rattle.commonware_vec.specs.Refusals.{IsWholeOfClones}
 pub use Rattle.commonware_vec.specs.Queues.{Queue}

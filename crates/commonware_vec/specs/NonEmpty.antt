@@ -29,14 +29,14 @@ pub data NonEmptyFault {T : Type 0} (enc : T → List ℕ) (Writable Allowed : T
       → NonEmptyFault enc Writable Allowed item_fault range text fault
 
 -- The cuts at which a text that should begin with a list that isn't empty can be faulty.
-pub data NonEmptyCut : Type 0 where
-  at_list : NonEmptyCut
-  at_end : NonEmptyCut
+pub data NonEmptyCase : Type 0 where
+  at_list : NonEmptyCase
+  at_end : NonEmptyCase
 
 -- the cut of a fault
-abbrev pub non_empty_cut :
+abbrev pub non_empty_case :
     {T : Type 0} {enc : T → List ℕ} {Writable Allowed : T → Type 0} {item_fault : List ℕ → Fault → Type 0}
     {range : Bounds ℕ} {text : List ℕ} {fault : Fault} → NonEmptyFault enc Writable Allowed item_fault range text fault
-    → NonEmptyCut
-non_empty_cut (bad_list w) = at_list
-non_empty_cut (no_items same w) = at_end
+    → NonEmptyCase
+non_empty_case (bad_list w) = at_list
+non_empty_case (no_items same w) = at_end

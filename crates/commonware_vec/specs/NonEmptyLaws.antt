@@ -10,7 +10,7 @@ use Rattle.commonware_base.specs.Lists.{list_enc, IsWritableList, IsAllowedList,
 use Rattle.commonware_base.specs.ListLaws.{list_prefix_free, list_laws, list_canonical, pointwise_length, split_count}
 use Rattle.commonware_base.specs.Varint.{varint}
 use Rattle.commonware_vec.specs.NonEmpty.{IsWritableNonEmpty, BeginsEmpty, empty_fault, NonEmptyFault, bad_list}
-use Rattle.commonware_vec.specs.NonEmpty.{no_items, non_empty_cut}
+use Rattle.commonware_vec.specs.NonEmpty.{no_items, non_empty_case}
 
 -- a list has an item, or it has none
 some_or_none : {T : Type 0} (l : List T) → (1 ≤ length l) ⊎ (l ≡ [])
@@ -96,13 +96,13 @@ module _ {T : Type 0} (enc : T → List ℕ) (Writable : T → Type 0) (prefix_f
     }
 
     -- two faults of a text are at one cut
-    pub non_empty_one_cut :
+    pub non_empty_one_case :
         (s : List ℕ) (f g : Fault) (v : NonEmptyFault enc Writable Allowed item_fault range s f)
-        (w : NonEmptyFault enc Writable Allowed item_fault range s g) → non_empty_cut v ≡ non_empty_cut w
-    non_empty_one_cut s f g (bad_list v) (bad_list w) = refl
-    non_empty_one_cut s f g (bad_list v) (no_items e w) = absurd (broken_no_fault as_list non_emptiness s f w v)
-    non_empty_one_cut s f g (no_items d v) (bad_list w) = absurd (broken_no_fault as_list non_emptiness s g v w)
-    non_empty_one_cut s f g (no_items d v) (no_items e w) = refl
+        (w : NonEmptyFault enc Writable Allowed item_fault range s g) → non_empty_case v ≡ non_empty_case w
+    non_empty_one_case s f g (bad_list v) (bad_list w) = refl
+    non_empty_one_case s f g (bad_list v) (no_items e w) = absurd (broken_no_fault as_list non_emptiness s f w v)
+    non_empty_one_case s f g (no_items d v) (bad_list w) = absurd (broken_no_fault as_list non_emptiness s g v w)
+    non_empty_one_case s f g (no_items d v) (no_items e w) = refl
 
     -- what is promised of the texts of lists that are never empty
     pub non_empty_laws :

@@ -9,7 +9,7 @@ ghost use Rattle.judge_core.specs.declared.command.Command.{Command};
 
 use crate::command::Command;
 use crate::error::Failure;
-use crate::session::{fail, session};
+use crate::sessions::{fail, session};
 use program_io::{Watched, after_first, take_arguments};
 use std::alloc::Allocator;
 use std::env::Args;

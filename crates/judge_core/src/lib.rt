@@ -14,7 +14,7 @@ mod host;
 mod input;
 mod lines;
 mod report;
-mod session;
+mod sessions;
 mod stream;
 
 pub use answer::{Answer, answer_to, write_answer};
@@ -31,5 +31,5 @@ pub use judge_verdicts::{
     conflict_of, fault_numbers, judge, judge_as, position, refute,
 };
 pub use report::tell;
-pub use session::{run, session};
+pub use sessions::{run, session};
 pub use stream::{answer_all, say_types};

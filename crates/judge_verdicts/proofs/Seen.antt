@@ -5,7 +5,7 @@ use Rattle.std.specs.Prelude.{Vec, vec_len}
 use Rattle.std.proofs.lemmas.List.{length-map}
 use Rattle.std.specs.Prelude.{Result, Ok, Err}
 use Rattle.commonware_utils.specs.Codec.{BeginsWithFaultyItem, Bounds, Fault, IsAllowedList, IsListMemoryFree, IsWritableList, ListFault, Within, list_enc, varint, vec_of}
-use Rattle.commonware_utils.specs.Codec.{bad_item, bad_length, bad_spelling, empty, first, outside, spelling, refuses_from}
+use Rattle.commonware_utils.specs.Codec.{bad_item, bad_length, bad_varint, empty, first, outside, faulty_varint, refuses_from}
 use Rattle.judge_verdicts.specs.Readings.{IsJudged, Reading, list_of}
 use Rattle.judge_verdicts.specs.declared.verdict.Verdict.{Verdict}
 use Rattle.judge_verdicts.specs.declared.verdict.Verdict.TheVariants.{Accepted, Refused}
@@ -141,17 +141,17 @@ module _ (r s : Reading) (h : Sees r s) where
       }
 
   list_fault : (range : Bounds ℕ) (text : List ℕ) (f : Fault) → ListFault r.enc r.Writable r.Allowed r.HasFault range text f → ListFault s.enc s.Writable s.Allowed s.HasFault range text f
-  list_fault range text f (bad_spelling w) = bad_spelling w
+  list_fault range text f (bad_varint w) = bad_varint w
   list_fault range text f (bad_length count is w) = bad_length count is w
   list_fault range text f (bad_item w) = bad_item (item_fault range text f w)
 
   list_fault_back : (range : Bounds ℕ) (text : List ℕ) (f : Fault) → ListFault s.enc s.Writable s.Allowed s.HasFault range text f → ListFault r.enc r.Writable r.Allowed r.HasFault range text f
-  list_fault_back range text f (bad_spelling w) = bad_spelling w
+  list_fault_back range text f (bad_varint w) = bad_varint w
   list_fault_back range text f (bad_length count is w) = bad_length count is w
   list_fault_back range text f (bad_item w) = bad_item (item_fault_back range text f w)
 
   list_free_back : (range : Bounds ℕ) (text : List ℕ) → IsListMemoryFree s.HasFault s.MemoryFree range text → IsListMemoryFree r.HasFault r.MemoryFree range text
-  list_free_back range text (spelling fault w) = spelling fault w
+  list_free_back range text (faulty_varint fault w) = faulty_varint fault w
   list_free_back range text (outside count w) = outside count w
   list_free_back range text (empty rest w) = empty rest w
   list_free_back range text (first count rest fault short begins free faulty) = first count rest fault short begins (h.free_back rest free) (h.fault_back rest fault faulty)

@@ -1,4 +1,4 @@
 pub mod ArgumentLemmas
 pub mod Errors
-pub mod Fronts
+pub mod Prefixes
 pub mod OneWord

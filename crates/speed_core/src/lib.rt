@@ -12,7 +12,7 @@ pub mod logarithm;
 mod numbers;
 mod plot;
 mod sample;
-mod session;
+mod sessions;
 mod timer;
 
 pub use axis::Axis;
@@ -21,5 +21,5 @@ pub use command::Command;
 pub use failure::Failure;
 pub use numbers::{random, rising, wide_bytes};
 pub use sample::{Sample, parse_line};
-pub use session::{failed_read, on_host, session};
+pub use sessions::{failed_read, on_host, session};
 pub use timer::Timer;

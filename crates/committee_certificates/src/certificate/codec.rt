@@ -1,7 +1,7 @@
 //! The byte form of a certificate: its value as a list of bytes, and then its signers as a set.
 ghost use Rattle.std.specs.Prelude.{◌≡◌, ℕ, List};
 ghost use Rattle.commonware_base.specs.Fault.{Fault};
-ghost use Rattle.commonware_base.specs.Sequence.{sequence_cut};
+ghost use Rattle.commonware_base.specs.Sequence.{sequence_case};
 ghost use Rattle.commonware_base.specs.TextLaws.{canonical_on, laws_on, prefix_free_on};
 ghost use Rattle.committee_certificates.specs.Certificates.{are_equal_parts, certificate_enc, parts};
 ghost use Rattle.committee_certificates.specs.Certificates.{CertificateFault, IsAllowedCertificate};
@@ -92,7 +92,7 @@ impl<A: Allocator> Canonical for Certificate<A> {
 pub fn certificate_fault_law(value: RangeCfg<usize>, signers: RangeCfg<usize>)
     ensures { (s : List ℕ) (f g : Fault)
         (v : CertificateFault value signers s f) (w : CertificateFault value signers s g)
-        → sequence_cut v ≡ sequence_cut w }
+        → sequence_case v ≡ sequence_case w }
 {
     // The contract alone speaks of them.
     let _ = (value, signers);

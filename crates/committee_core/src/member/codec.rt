@@ -100,7 +100,7 @@ impl<A: Allocator> Read<A> for Member {
     }
 }
 
-/// Takes the member at the front, whose bytes are there.
+/// Takes the member at the prefix, whose bytes are there.
 #[inline(always)]
 fn take_member(src: &mut Source<'_>) -> Member
     requires { 32 ≤ length (rest_of src.old) }

@@ -5,7 +5,7 @@ ghost use Rattle.std.specs.Cmp.Lexicographic.{lists_agrees, lists_po, slice_cmp,
 ghost use Rattle.std.specs.Ordering.{as_partial_cmp, nat_cmp};
 ghost use Rattle.std.proofs.lemmas.Cmp.{nat_list_cmp_total};
 ghost use Rattle.std.proofs.Common.{refl};
-ghost use Rattle.committee_core.specs.BigEndian.{IsSettled, spelt};
+ghost use Rattle.committee_core.specs.BigEndian.{IsDetermined, number_at};
 
 use super::Member;
 use std::cmp::Ordering;
@@ -14,7 +14,7 @@ use std::cmp::Ordering;
 #[inline(always)]
 fn word(bytes: &[u8; 32], at: usize) -> u64
     requires { at + 8 ≤ 32 }
-    ensures { result ≡ spelt 8 at bytes.now }
+    ensures { result ≡ number_at 8 at bytes.now }
 {
     u64::from_be_bytes([
         bytes[at],
@@ -32,8 +32,8 @@ fn word(bytes: &[u8; 32], at: usize) -> u64
 #[inline(always)]
 fn words(mine: &[u8; 32], others: &[u8; 32], at: usize) -> (u64, u64)
     requires inside { at + 8 ≤ 32 }
-    requires settled { IsSettled mine.now others.now at 0 0 }
-    ensures { IsSettled mine.now others.now (at + 8) result.0 result.1 }
+    requires settled { IsDetermined mine.now others.now at 0 0 }
+    ensures { IsDetermined mine.now others.now (at + 8) result.0 result.1 }
 {
     (word(mine, at), word(others, at))
 }
@@ -42,8 +42,8 @@ fn words(mine: &[u8; 32], others: &[u8; 32], at: usize) -> (u64, u64)
 /// out of line, since members mostly differ in their first bytes.
 #[inline(never)]
 fn apart_past(mine: &[u8; 32], others: &[u8; 32]) -> (u64, u64)
-    requires { IsSettled mine.now others.now 8 0 0 }
-    ensures { IsSettled mine.now others.now 32 result.0 result.1 }
+    requires { IsDetermined mine.now others.now 8 0 0 }
+    ensures { IsDetermined mine.now others.now 32 result.0 result.1 }
 {
     let (a, b) = words(mine, others, 8);
     if a != b {
@@ -59,7 +59,7 @@ fn apart_past(mine: &[u8; 32], others: &[u8; 32]) -> (u64, u64)
 /// The first words that differ, else the last ones.
 #[inline(always)]
 fn apart(mine: &[u8; 32], others: &[u8; 32]) -> (u64, u64)
-    ensures { IsSettled mine.now others.now 32 result.0 result.1 }
+    ensures { IsDetermined mine.now others.now 32 result.0 result.1 }
 {
     let (a, b) = words(mine, others, 0);
     if a != b {

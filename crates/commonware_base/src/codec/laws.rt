@@ -1,7 +1,7 @@
 //! Laws of the byte forms, each the contract of a call that a proof can cite.
 ghost use Rattle.std.specs.Prelude.{◌≡◌, ℕ, ◌<◌, ◌^◌, List, length, true, IfOk, IfErr};
 ghost use Rattle.commonware_base.specs.Fault.{Fault};
-ghost use Rattle.commonware_base.specs.Lists.{ListFault, list_cut};
+ghost use Rattle.commonware_base.specs.Lists.{ListFault, list_case};
 ghost use Rattle.commonware_base.specs.Varint.{IsVarint, varint};
 
 use crate::codec::config::RangeCfg;
@@ -22,7 +22,7 @@ pub fn list_fault_law<T: Read<A>, A: Allocator>(alloc: A, range: RangeCfg<usize>
     ensures { (s : List ℕ) (f g : Fault)
         (v : ListFault T.enc T.writable (T.allowed item.now) (T.fault item.now) range s f)
         (w : ListFault T.enc T.writable (T.allowed item.now) (T.fault item.now) range s g)
-        → list_cut v ≡ list_cut w }
+        → list_case v ≡ list_case w }
 {
     // The contract alone speaks of them.
     let _ = (alloc, range);

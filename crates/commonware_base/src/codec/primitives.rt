@@ -207,7 +207,7 @@ impl<A: Allocator> Read<A> for u32 {
     }
 }
 
-/// Takes the word at the front, whose bytes are there.
+/// Takes the word at the prefix, whose bytes are there.
 ///
 /// It is inlined and tests nothing, so that a loop of it works on several words at a time.
 #[inline(always)]

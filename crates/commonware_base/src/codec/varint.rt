@@ -132,7 +132,7 @@ pub(crate) fn read_varint(src: &mut Source<'_>) -> Result<u32, Error>
     }
 }
 
-/// How many bytes the number at the front takes.
+/// How many bytes the number at the prefix takes.
 fn varint_len(bytes: &[u8]) -> Result<usize, Error>
     ensures within { IfOk result (λ count. count ≤ length bytes.now) }
     ensures found { IfOk result (λ count.

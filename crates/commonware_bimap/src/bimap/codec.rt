@@ -5,7 +5,7 @@ ghost use Rattle.commonware_base.specs.Lists.{IsListMemoryFree};
 ghost use Rattle.commonware_map.specs.MapLaws.{map_bytes};
 ghost use Rattle.commonware_map.specs.Maps.{map_enc, IsAllowedMap};
 ghost use Rattle.commonware_bimap.specs.BiMapLaws.{bimap_canonical, bimap_laws, bimap_prefix_free};
-ghost use Rattle.commonware_bimap.specs.BiMaps.{BiMapFault, IsWritableBiMap, bimap_cut};
+ghost use Rattle.commonware_bimap.specs.BiMaps.{BiMapFault, IsWritableBiMap, bimap_case};
 
 use super::BiMap;
 use commonware_base::codec::{Canonical, EncodeSize, Error, RangeCfg, Read, Source, Write};
@@ -101,7 +101,7 @@ pub fn bimap_fault_law<K: Ord + Canonical + Read<A>, V: Canonical + Read<A>, A: 
         V.enc V.writable (V.allowed value.now) (V.fault value.now) V.eq range s f)
         (w : BiMapFault K.enc K.writable K.cmp (K.allowed key.now) (K.fault key.now)
         V.enc V.writable (V.allowed value.now) (V.fault value.now) V.eq range s g)
-        → bimap_cut v ≡ bimap_cut w }
+        → bimap_case v ≡ bimap_case w }
 {
     // The contract alone speaks of them.
     let _ = (alloc, range);

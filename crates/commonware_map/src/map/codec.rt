@@ -5,7 +5,7 @@ ghost use Rattle.std.specs.List.{AllByRecursion};
 ghost use Rattle.std.specs.Map.{keys_of, values_of};
 ghost use Rattle.commonware_base.specs.Fault.{Fault};
 ghost use Rattle.commonware_base.specs.Lists.{IsListMemoryFree};
-ghost use Rattle.commonware_base.specs.Sequence.{sequence_cut};
+ghost use Rattle.commonware_base.specs.Sequence.{sequence_case};
 ghost use Rattle.commonware_map.specs.MapLaws.{map_bytes, map_canonical, map_laws, map_prefix_free};
 ghost use Rattle.commonware_map.specs.Maps.{map_enc, map_size_bound, IsAllowedMap, IsWritableMap, MapFault};
 ghost use Rattle.commonware_ordered.specs.Sets.{IsWritableSet};
@@ -120,7 +120,7 @@ pub fn map_fault_law<K: Ord + Canonical + Read<A>, V: Read<A>, A: Allocator>(
         V.enc V.writable (V.allowed value.now) (V.fault value.now) range s f)
         (w : MapFault K.enc K.writable K.cmp (K.allowed key.now) (K.fault key.now)
         V.enc V.writable (V.allowed value.now) (V.fault value.now) range s g)
-        → sequence_cut v ≡ sequence_cut w }
+        → sequence_case v ≡ sequence_case w }
 {
     // The contract alone speaks of them.
     let _ = (alloc, range);

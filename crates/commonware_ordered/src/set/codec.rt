@@ -6,7 +6,7 @@ ghost use Rattle.commonware_base.specs.ListLaws.{list_bytes};
 ghost use Rattle.commonware_base.specs.Refusal.{Refuses};
 ghost use Rattle.commonware_base.specs.Source.{rest_of, Consumes};
 ghost use Rattle.commonware_base.specs.Varint.{varint_size};
-ghost use Rattle.commonware_ordered.specs.Sets.{IsWritableSet, SetFault, set_cut};
+ghost use Rattle.commonware_ordered.specs.Sets.{IsWritableSet, SetFault, set_case};
 ghost use Rattle.commonware_ordered.specs.SetLaws.{set_prefix_free, set_laws, set_canonical};
 
 use super::{Set, is_strict};
@@ -87,7 +87,7 @@ pub fn set_fault_law<T: Ord + Canonical + Read<A>, A: Allocator>(
     ensures { (s : List ℕ) (f g : Fault)
         (v : SetFault T.enc T.writable T.cmp (T.allowed item.now) (T.fault item.now) range s f)
         (w : SetFault T.enc T.writable T.cmp (T.allowed item.now) (T.fault item.now) range s g)
-        → set_cut v ≡ set_cut w }
+        → set_case v ≡ set_case w }
 {
     // The contract alone speaks of them.
     let _ = (alloc, range);

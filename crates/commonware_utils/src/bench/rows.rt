@@ -1,6 +1,5 @@
 //! The worked rows and vectors, a file a subject, a table a kind.
 
-pub(super) mod beginnings;
 pub(super) mod bimap_values;
 pub(super) mod clones;
 pub(super) mod example;
@@ -13,6 +12,7 @@ pub(super) mod map_values;
 pub(super) mod messages;
 pub(super) mod non_empty_lists;
 pub(super) mod numbers;
+pub(super) mod prefixes;
 pub(super) mod quorums;
 pub(super) mod ranges;
 pub(super) mod resilience;

@@ -4,7 +4,7 @@ ghost use Rattle.commonware_base.specs.Fault.{Fault};
 ghost use Rattle.commonware_base.specs.ListLaws.{list_bytes};
 ghost use Rattle.commonware_base.specs.Lists.{list_enc, IsAllowedList, IsListMemoryFree};
 ghost use Rattle.commonware_base.specs.Range.{as_numbers};
-ghost use Rattle.commonware_vec.specs.NonEmpty.{IsWritableNonEmpty, NonEmptyFault, non_empty_cut};
+ghost use Rattle.commonware_vec.specs.NonEmpty.{IsWritableNonEmpty, NonEmptyFault, non_empty_case};
 ghost use Rattle.commonware_vec.specs.NonEmptyLaws.{non_empty_canonical, non_empty_laws, non_empty_prefix_free};
 
 use super::NonEmptyVec;
@@ -87,7 +87,7 @@ pub fn non_empty_fault_law<T: Read<A>, A: Allocator>(
     ensures { let numbers = as_numbers range in (s : List ℕ) (f g : Fault)
         (v : NonEmptyFault T.enc T.writable (T.allowed item.now) (T.fault item.now) numbers s f)
         (w : NonEmptyFault T.enc T.writable (T.allowed item.now) (T.fault item.now) numbers s g)
-        → non_empty_cut v ≡ non_empty_cut w }
+        → non_empty_case v ≡ non_empty_case w }
 {
     // The contract alone speaks of them.
     let _ = (alloc, range);

@@ -3,9 +3,9 @@ use Rattle.std.specs.Ordering.{nat_cmp, ordering_then}
 use Rattle.std.proofs.lemmas.Map.Lookups.{exact_unsigned}
 use Rattle.std.specs.declared.cmp.Ordering.{Ordering}
 use Rattle.std.specs.declared.cmp.Ordering.TheVariants.{Less, Equal, Greater}
-use Rattle.committee_core.specs.BigEndian.{IsSettled, spelt}
+use Rattle.committee_core.specs.BigEndian.{IsDetermined, number_at}
 use Rattle.committee_core.specs.Members.{member_cmp}
-use Rattle.committee_core.proofs.BigEndian.{settled_further}
+use Rattle.committee_core.proofs.BigEndian.{determined_further}
 use Rattle.commonware_c.proofs.checked.order.Goals as goal
 
 -- what settles an order is the order
@@ -18,8 +18,8 @@ pub returns-then-a-b : goal.returns-then-a-b
 returns-then-a-b c =
     let x = c.args.x.now in
     let y = c.args.y.now in
-    let settled : IsSettled x y (0 + 8) (spelt 8 0 x) (spelt 8 0 y) =
-    settled_further 8 0 x y 0 0 (omega (arith, c.told-x)) (omega (arith, c.told-y)) c.fits-x c.fits-y refl refl in
+    let settled : IsDetermined x y (0 + 8) (number_at 8 0 x) (number_at 8 0 y) =
+    determined_further 8 0 x y 0 0 (omega (arith, c.told-x)) (omega (arith, c.told-y)) c.fits-x c.fits-y refl refl in
     let rest = member_cmp (drop (0 + 8) x) (drop (0 + 8) y) in
     let a = c.first_word-a in
     let b = c.first_word-b in

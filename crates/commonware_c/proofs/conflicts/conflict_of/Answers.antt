@@ -9,7 +9,7 @@ use Rattle.commonware_ordered.specs.Strict.{IsStrict}
 use Rattle.commonware_ordered.specs.StrictLaws.{sorted_from_strict}
 use Rattle.committee_certificates.specs.Signers.{AreMembers}
 use Rattle.commonware_c.proofs.Fewer.{not_longer}
-use Rattle.commonware_c.proofs.Spelt.{signers_fewer}
+use Rattle.commonware_c.proofs.EncodingLemmas.{signers_fewer}
 use Rattle.std.proofs.Math.Nat.{mul-le-mul_right}
 use Rattle.committee_certificates.specs.Certificates.{parts}
 use Rattle.commonware_c.specs.Certificates.{memory, too_few}

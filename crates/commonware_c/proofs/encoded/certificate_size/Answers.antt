@@ -1,6 +1,6 @@
 use Rattle.std.proofs.Common.{◌∙◌, arith, length, sym}
 use Rattle.commonware_base.specs.VarintLaws.{varint-length}
-use Rattle.commonware_c.proofs.Spelt.{spelt_length}
+use Rattle.commonware_c.proofs.EncodingLemmas.{encoded_length}
 use Rattle.commonware_c.proofs.encoded.certificate_size.Goals as goal
 
 pub encode_size-requires-clause-fits : goal.encode_size-requires-clause-fits
@@ -50,4 +50,4 @@ returns-clause-at_most c =
 
 pub returns-clause-size : goal.returns-clause-size
 returns-clause-size c =
-    omega (arith, c.encode_size.ensures, c.encode_size-count_size.ensures, c.signers_size.ensures.size) ∙ sym (spelt_length c.args.value.now c.args.signers.now)
+    omega (arith, c.encode_size.ensures, c.encode_size-count_size.ensures, c.signers_size.ensures.size) ∙ sym (encoded_length c.args.value.now c.args.signers.now)

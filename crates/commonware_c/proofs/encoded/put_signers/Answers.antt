@@ -3,7 +3,7 @@ use Rattle.std.specs.List.{flat_map}
 use Rattle.std.proofs.lemmas.List.Folds.{length-flat_map-take}
 use Rattle.commonware_base.specs.Varint.{varint}
 use Rattle.commonware_c.specs.Splices.{spliced}
-use Rattle.commonware_c.proofs.Spelt.{indices_more}
+use Rattle.commonware_c.proofs.EncodingLemmas.{indices_more}
 use Rattle.commonware_c.proofs.Spliced.{length_on, spliced_on}
 use Rattle.commonware_c.proofs.encoded.put_signers.Goals as goal
 

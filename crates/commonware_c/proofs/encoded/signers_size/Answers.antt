@@ -2,7 +2,7 @@ use Rattle.std.proofs.Common.{rules, ◌∙◌, ◌<◌, ◌^◌, length, take, 
 use Rattle.std.specs.List.{flat_map}
 use Rattle.commonware_base.specs.Varint.{varint}
 use Rattle.commonware_base.specs.VarintLaws.{varint-length}
-use Rattle.commonware_c.proofs.Spelt.{indices_more}
+use Rattle.commonware_c.proofs.EncodingLemmas.{indices_more}
 use Rattle.commonware_c.proofs.encoded.signers_size.Goals as goal
 
 pub encode_size-size-requires-clause-fits : goal.encode_size-size-requires-clause-fits

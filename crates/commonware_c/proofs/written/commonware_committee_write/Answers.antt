@@ -22,15 +22,15 @@ overflow_add-view c =
 is_set : (keys set : List (List ℕ)) (count size : ℕ) → IsDedup (pointwise nat_eq) member_cmp keys set
     → AllByRecursion (λ m. length m ≡ 32) set → count < 2 ^ 32 → count ≡ length set
     → size ≡ length (varint count) → IsSetOf keys set count (size + 32 * count)
-is_set keys set count size dedup each short same spelt =
+is_set keys set count size dedup each short same number_at =
     let long = set_length set each in
     let most = varint-length count short in
     record {
       dedup = dedup;
       count_is = same;
       count_most = omega (arith, same, set_not_longer keys set dedup);
-      size_is = omega (arith, spelt, ap (λ n. length (varint n)) same, same, long);
-      size_most = omega (arith, spelt, most);
+      size_is = omega (arith, number_at, ap (λ n. length (varint n)) same, same, long);
+      size_most = omega (arith, number_at, most);
     }
 
 pub returns-then-out-view-clause-room : goal.returns-then-out-view-clause-room

@@ -11,13 +11,14 @@ use crate::vec::NonEmptyVec;
 /// stated length after the first good item.
 const NO_LISTS: [(&[u8], Error); 1] = [(b"\xff\xff\xff\xff\x0f\x00", Error::EndOfBuffer)];
 
-/// Texts that are no list of lists of lists: an innermost list is cut, or its length misspelled.
+/// Texts that are no list of lists of lists: an innermost list is cut, or its length is an
+/// overlong varint.
 const NO_DEEP_LISTS: [(&[u8], Error); 2] = [
     (b"\x01\x01\x02\x07", Error::EndOfBuffer),
     (b"\x01\x01\x82\x00", Error::InvalidVarint),
 ];
 
-/// Texts that are no set of participants: the indices 128 and 127, and one that is misspelled.
+/// Texts that are no set of participants: the indices 128 and 127, and one that is overlong.
 const NO_SETS_OF_PARTICIPANTS: [(&[u8], Error); 2] = [
     (b"\x02\x80\x01\x7f", UNSORTED),
     (b"\x02\x01\x81\x00", Error::InvalidVarint),

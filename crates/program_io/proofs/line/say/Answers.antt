@@ -1,5 +1,5 @@
 use Rattle.std.proofs.Common.{arith}
-use Rattle.program_io.proofs.Fronts.{front_short}
+use Rattle.program_io.proofs.Prefixes.{front_short}
 use Rattle.program_io.proofs.line.say.Goals as goal
 
 pub returns : goal.returns

@@ -5,8 +5,8 @@ use Rattle.std.specs.List.{flat_map}
 use Rattle.std.specs.Prelude.{◌↔◌}
 use Rattle.std.specs.declared.cmp.Ordering.{Ordering}
 use Rattle.commonware_base.specs.Fault.{Fault}
-use Rattle.commonware_base.specs.FrontLaws.{cut, grow, items_short, list_fault_settled}
-use Rattle.commonware_base.specs.Fronts.{IsSettledBy}
+use Rattle.commonware_base.specs.PrefixLaws.{cut, grow, items_short, list_fault_determined}
+use Rattle.commonware_base.specs.Prefixes.{IsDeterminedBy}
 use Rattle.commonware_base.specs.Lists.{ListFault, list_enc}
 use Rattle.commonware_base.specs.Range.{Bounds, Within}
 use Rattle.commonware_base.specs.Varint.{varint}
@@ -17,7 +17,7 @@ module _ {T : Type 0} (enc : T → List ℕ) (Writable Allowed : T → Type 0) (
     (item_fault : List ℕ → Fault → Type 0) (ItemMemoryFree : List ℕ → Type 0) (range : Bounds ℕ) (size most : ℕ)
     (item_short : (v : T) → Writable v → length (enc v) ≤ size)
     (few : (n : ℕ) → Within range n → n ≤ most)
-    (item_settled : (f : Fault) → IsSettledBy size (λ s. item_fault s f)) where
+    (item_determined : (f : Fault) → IsDeterminedBy size (λ s. item_fault s f)) where
   module _ (s more : List ℕ) (h : 5 + most * size ≤ length s) where
     -- a list that isn't strict
     order_on : BeginsUnsorted enc Writable cmp Allowed range s
@@ -65,14 +65,15 @@ module _ {T : Type 0} (enc : T → List ℕ) (Writable Allowed : T → Type 0) (
       set_back f (bad_order same w) = bad_order same (order_back w)
 
   -- the fault of a set
-  pub set_fault_settled :
-      (f : Fault) → IsSettledBy (5 + most * size) (λ s. SetFault enc Writable cmp Allowed item_fault range s f)
-  set_fault_settled f s more h =
+  pub set_fault_determined :
+      (f : Fault) → IsDeterminedBy (5 + most * size) (λ s. SetFault enc Writable cmp Allowed item_fault range s f)
+  set_fault_determined f s more h =
       (set_on s more h same_list f, set_back s more h same_list f)
     where
       same_list :
           (g : Fault) → ListFault enc Writable Allowed item_fault range s g
           ↔ ListFault enc Writable Allowed item_fault range (s ++ more) g
       same_list g =
-          list_fault_settled enc Writable Allowed item_fault ItemMemoryFree range size most item_short few item_settled
+          list_fault_determined enc Writable Allowed item_fault ItemMemoryFree range size most item_short few
+          item_determined
           g s more h

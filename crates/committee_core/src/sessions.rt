@@ -7,7 +7,7 @@ ghost use Rattle.committee_core.specs.Run.{IsDone, IsRefused, status_of};
 
 use crate::command::{Command, parse_args};
 use crate::error::RunError;
-use crate::run::run;
+use crate::runs::run;
 use program_io::{Watched, say};
 use std::alloc::Allocator;
 use std::io::{Read, Write};

@@ -1,4 +1,4 @@
--- What the front of a text settles: the first fault of a list, and whether reading it takes memory.
+-- What the prefix of a text settles: the first fault of a list, and whether reading it takes memory.
 use Rattle.std.proofs.Common.{◌≡◌, ℕ, suc, ◌+◌, ◌*◌, ◌^◌, ◌<◌, ◌≤◌, List, [], ◌∷◌, ◌++◌, length, refl, ap, sym, ◌∙◌}
 use Rattle.std.proofs.Common.{arith, inl, inr, subst}
 use Rattle.std.proofs.Common.{append_assoc, append-nil, length-append}
@@ -6,27 +6,28 @@ use Rattle.std.proofs.lemmas.Nat.{mul-le}
 use Rattle.std.specs.List.{AllByRecursion, flat_map}
 use Rattle.std.specs.Prelude.{◌↔◌}
 use Rattle.commonware_base.specs.Fault.{Fault, EndOfBuffer, InvalidVarint, InvalidLength, Invalid}
-use Rattle.commonware_base.specs.Fronts.{IsSettledBy, IsFront}
-use Rattle.commonware_base.specs.Lists.{BeginsOutOfRange, BeginsWithFaultyItem, ListFault, bad_spelling, bad_length}
+use Rattle.commonware_base.specs.Prefixes.{IsDeterminedBy, IsLongPrefix}
+use Rattle.commonware_base.specs.Lists.{BeginsOutOfRange, BeginsWithFaultyItem, ListFault, bad_varint, bad_length}
 use Rattle.commonware_base.specs.Lists.{bad_item}
-use Rattle.commonware_base.specs.Lists.{IsListMemoryFree, spelling, outside, empty, first}
+use Rattle.commonware_base.specs.Lists.{IsListMemoryFree, faulty_varint, outside, empty, first}
 use Rattle.commonware_base.specs.Range.{Bounds, Within}
-use Rattle.commonware_base.specs.Varint.{IsMisspelled, varint, varint_fault}
+use Rattle.commonware_base.specs.Varint.{IsOverlongOrTooGreat, varint, varint_fault}
 use Rattle.commonware_base.specs.VarintLaws.{varint-length}
 
--- what is settled holds of the whole exactly where it holds of the front
-pub settled_front : (bound : ℕ) (P : List ℕ → Type 0) (s front : List ℕ) → IsSettledBy bound P → IsFront bound s front
-    → P front ↔ P s
-settled_front bound P s front settled f = elim f.enough [
+-- what is settled holds of the whole exactly where it holds of the prefix
+pub determined_prefix : (bound : ℕ) (P : List ℕ → Type 0) (s prefix : List ℕ)
+    → IsDeterminedBy bound P → IsLongPrefix bound s prefix
+    → P prefix ↔ P s
+determined_prefix bound P s prefix settled f = elim f.enough [
   | inl none ↦
-      (let same : s ≡ front = f.whole ∙ ap (λ r. front ++ r) none ∙ append-nil front in
+      (let same : s ≡ prefix = f.whole ∙ ap (λ r. prefix ++ r) none ∙ append-nil prefix in
       (subst P (sym same), subst P same))
   | inr long ↦
-      (let both = settled front f.rest long in
+      (let both = settled prefix f.rest long in
       ((λ p. subst P (sym f.whole) (both.0 p)), (λ p. both.1 (subst P f.whole p))))
 ]
 
--- a text that begins with x, of which the front is as long as x or longer: the front begins with x
+-- a text that begins with x, of which the prefix is as long as x or longer: the prefix begins with x
 pub cut : (x s more r : List ℕ) → s ++ more ≡ x ++ r → length x ≤ length s
     → (c : List ℕ) × (s ≡ x ++ c) × (r ≡ c ++ more)
 cut [] s more r e h = (s, refl, sym e)
@@ -44,39 +45,39 @@ pub grow : (x s more r : List ℕ) → s ≡ x ++ r → s ++ more ≡ x ++ (r ++
 grow x s more r e = ap (λ t. t ++ more) e ∙ append_assoc x r more
 
 -- five bytes settle the fault of a varint
-pub varint_fault_settled : (f : Fault) → IsSettledBy 5 (λ s. varint_fault s f)
-varint_fault_settled EndOfBuffer s more h = (
+pub varint_fault_determined : (f : Fault) → IsDeterminedBy 5 (λ s. varint_fault s f)
+varint_fault_determined EndOfBuffer s more h = (
   (λ w. absurd (omega (arith, w.short))),
   (λ w. absurd (omega (arith, w.short, length-append s more))),
 )
-varint_fault_settled InvalidVarint s more h = (on, back)
+varint_fault_determined InvalidVarint s more h = (on, back)
   where
-    on : IsMisspelled s → IsMisspelled (s ++ more)
+    on : IsOverlongOrTooGreat s → IsOverlongOrTooGreat (s ++ more)
     on w = record {
-      front = w.front;
+      prefix = w.prefix;
       last = w.last;
       rest = w.rest ++ more;
-      begins = grow w.front s more (w.last ∷ w.rest) w.begins;
+      begins = grow w.prefix s more (w.last ∷ w.rest) w.begins;
       high = w.high;
       wrong = w.wrong;
     }
 
-    back : IsMisspelled (s ++ more) → IsMisspelled s
+    back : IsOverlongOrTooGreat (s ++ more) → IsOverlongOrTooGreat s
     back w =
-        let spelled = w.front ++ w.last ∷ [] in
-        let short : length w.front ≤ 4 = elim w.wrong [ inl z ↦ z.2 | inr z ↦ omega (arith, z.0) ] in
-        let e : s ++ more ≡ spelled ++ w.rest = w.begins ∙ sym (append_assoc w.front (w.last ∷ []) w.rest) in
-        let c = cut spelled s more w.rest e (omega (arith, length-append w.front (w.last ∷ []))) in
+        let spelled = w.prefix ++ w.last ∷ [] in
+        let short : length w.prefix ≤ 4 = elim w.wrong [ inl z ↦ z.2 | inr z ↦ omega (arith, z.0) ] in
+        let e : s ++ more ≡ spelled ++ w.rest = w.begins ∙ sym (append_assoc w.prefix (w.last ∷ []) w.rest) in
+        let c = cut spelled s more w.rest e (omega (arith, length-append w.prefix (w.last ∷ []))) in
         record {
-          front = w.front;
+          prefix = w.prefix;
           last = w.last;
           rest = c.0;
-          begins = c.1 ∙ append_assoc w.front (w.last ∷ []) c.0;
+          begins = c.1 ∙ append_assoc w.prefix (w.last ∷ []) c.0;
           high = w.high;
           wrong = w.wrong;
         }
-varint_fault_settled (InvalidLength n) s more h = ((λ w. w), (λ w. w))
-varint_fault_settled (Invalid what why) s more h = ((λ w. w), (λ w. w))
+varint_fault_determined (InvalidLength n) s more h = ((λ w. w), (λ w. w))
+varint_fault_determined (Invalid what why) s more h = ((λ w. w), (λ w. w))
 
 -- Items take at most size bytes each, and the range allows at most so many: then as many bytes as that comes to settle
 -- the
@@ -118,7 +119,7 @@ module _ {T : Type 0} (enc : T → List ℕ) (Writable Allowed : T → Type 0) (
         record { rest = c.0; short = w.short; begins = c.1; outside = w.outside }
 
     -- the fault of an item
-    module _ (item_settled : (f : Fault) → IsSettledBy size (λ s. item_fault s f)) where
+    module _ (item_determined : (f : Fault) → IsDeterminedBy size (λ s. item_fault s f)) where
       item_on : (f : Fault) → BeginsWithFaultyItem enc Writable Allowed item_fault range s f
           → BeginsWithFaultyItem enc Writable Allowed item_fault range (s ++ more) f
       item_on f w =
@@ -139,7 +140,7 @@ module _ {T : Type 0} (enc : T → List ℕ) (Writable Allowed : T → Type 0) (
             fewer = w.fewer;
             writable = w.writable;
             allowed = w.allowed;
-            faulty = (item_settled f w.rest more room).0 w.faulty;
+            faulty = (item_determined f w.rest more room).0 w.faulty;
           }
 
       item_back : (f : Fault) → BeginsWithFaultyItem enc Writable Allowed item_fault range (s ++ more) f
@@ -166,23 +167,23 @@ module _ {T : Type 0} (enc : T → List ℕ) (Writable Allowed : T → Type 0) (
             fewer = w.fewer;
             writable = w.writable;
             allowed = w.allowed;
-            faulty = (item_settled f d.0 more room).1 (subst (λ t. item_fault t f) d.2 w.faulty);
+            faulty = (item_determined f d.0 more room).1 (subst (λ t. item_fault t f) d.2 w.faulty);
           }
 
       list_on : (f : Fault) → ListFault enc Writable Allowed item_fault range s f
           → ListFault enc Writable Allowed item_fault range (s ++ more) f
-      list_on f (bad_spelling w) = bad_spelling ((varint_fault_settled f s more (omega arith)).0 w)
+      list_on f (bad_varint w) = bad_varint ((varint_fault_determined f s more (omega arith)).0 w)
       list_on f (bad_length n same w) = bad_length n same (out_on n w)
       list_on f (bad_item w) = bad_item (item_on f w)
 
       list_back : (f : Fault) → ListFault enc Writable Allowed item_fault range (s ++ more) f
           → ListFault enc Writable Allowed item_fault range s f
-      list_back f (bad_spelling w) = bad_spelling ((varint_fault_settled f s more (omega arith)).1 w)
+      list_back f (bad_varint w) = bad_varint ((varint_fault_determined f s more (omega arith)).1 w)
       list_back f (bad_length n same w) = bad_length n same (out_back n w)
       list_back f (bad_item w) = bad_item (item_back f w)
 
       -- whether it is read with no memory
-      module _ (some : 1 ≤ most) (free_settled : IsSettledBy size ItemMemoryFree) where
+      module _ (some : 1 ≤ most) (free_determined : IsDeterminedBy size ItemMemoryFree) where
         first_room : (c : List ℕ) (n : ℕ) → n < 2 ^ 32 → s ≡ varint n ++ c → size ≤ length c
         first_room c n small e =
             let one : 1 * size ≤ most * size = mul-le 1 size most size some (omega arith) in
@@ -190,33 +191,33 @@ module _ {T : Type 0} (enc : T → List ℕ) (Writable Allowed : T → Type 0) (
 
         free_on : IsListMemoryFree item_fault ItemMemoryFree range s
             → IsListMemoryFree item_fault ItemMemoryFree range (s ++ more)
-        free_on (spelling f w) = spelling f ((varint_fault_settled f s more (omega arith)).0 w)
+        free_on (faulty_varint f w) = faulty_varint f ((varint_fault_determined f s more (omega arith)).0 w)
         free_on (outside n w) = outside n (out_on n w)
         free_on (empty r w) = empty (r ++ more) (grow (varint 0) s more r w)
         free_on (first n r f small w free fault) =
             let room = first_room r n small w in
-            let faulty = (item_settled f r more room).0 fault in
-            first n (r ++ more) f small (grow (varint n) s more r w) ((free_settled r more room).0 free) faulty
+            let faulty = (item_determined f r more room).0 fault in
+            first n (r ++ more) f small (grow (varint n) s more r w) ((free_determined r more room).0 free) faulty
 
         free_back : IsListMemoryFree item_fault ItemMemoryFree range (s ++ more)
             → IsListMemoryFree item_fault ItemMemoryFree range s
-        free_back (spelling f w) = spelling f ((varint_fault_settled f s more (omega arith)).1 w)
+        free_back (faulty_varint f w) = faulty_varint f ((varint_fault_determined f s more (omega arith)).1 w)
         free_back (outside n w) = outside n (out_back n w)
         free_back (empty r w) = let c = after_number 0 r (omega arith) w in empty c.0 c.1
         free_back (first n r f small w free fault) =
             let c = after_number n r small w in
             let room = first_room c.0 n small c.1 in
-            let faulty = (item_settled f c.0 more room).1 (subst (λ t. item_fault t f) c.2 fault) in
-            first n c.0 f small c.1 ((free_settled c.0 more room).1 (subst ItemMemoryFree c.2 free)) faulty
+            let faulty = (item_determined f c.0 more room).1 (subst (λ t. item_fault t f) c.2 fault) in
+            first n c.0 f small c.1 ((free_determined c.0 more room).1 (subst ItemMemoryFree c.2 free)) faulty
 
-  module _ (item_settled : (f : Fault) → IsSettledBy size (λ s. item_fault s f)) where
+  module _ (item_determined : (f : Fault) → IsDeterminedBy size (λ s. item_fault s f)) where
     -- the fault of a list
-    pub list_fault_settled :
-        (f : Fault) → IsSettledBy (5 + most * size) (λ s. ListFault enc Writable Allowed item_fault range s f)
-    list_fault_settled f s more h = (list_on s more h item_settled f, list_back s more h item_settled f)
+    pub list_fault_determined :
+        (f : Fault) → IsDeterminedBy (5 + most * size) (λ s. ListFault enc Writable Allowed item_fault range s f)
+    list_fault_determined f s more h = (list_on s more h item_determined f, list_back s more h item_determined f)
 
     -- whether a list is read or refused with no memory
-    pub list_memory_free_settled : 1 ≤ most → IsSettledBy size ItemMemoryFree
-        → IsSettledBy (5 + most * size) (IsListMemoryFree item_fault ItemMemoryFree range)
-    list_memory_free_settled some free s more h =
-        (free_on s more h item_settled some free, free_back s more h item_settled some free)
+    pub list_memory_free_determined : 1 ≤ most → IsDeterminedBy size ItemMemoryFree
+        → IsDeterminedBy (5 + most * size) (IsListMemoryFree item_fault ItemMemoryFree range)
+    list_memory_free_determined some free s more h =
+        (free_on s more h item_determined some free, free_back s more h item_determined some free)

@@ -2,15 +2,15 @@
 ghost use Rattle.std.specs.Prelude.{◌≡◌, ◌≢◌, ◌↔◌, ◌^◌, ◌<◌, ◌≤◌, ◌⊎◌, ℕ, List, [], length, true, false};
 ghost use Rattle.std.specs.Prelude.{Err, IfErr, IfOk, OnErr, OnOk, string_bytes};
 ghost use Rattle.std.specs.Io.KnownBytes.{Appends};
-ghost use Rattle.commonware_base.specs.Fronts.{IsFront};
+ghost use Rattle.commonware_base.specs.Prefixes.{IsLongPrefix};
 ghost use Rattle.program_io.specs.Streams.{Gave};
 ghost use Rattle.committee_core.specs.Run.{IsCommittee, IsCommitteeMemoryFree, IsRefusal, IsReport, WantsMemory};
-ghost use Rattle.committee_core.specs.Run.{front_size};
+ghost use Rattle.committee_core.specs.Run.{prefix_size};
 
 use crate::bounds_report::bounds_report;
 use crate::command::Command;
 use crate::error::RunError;
-use crate::input::read_front;
+use crate::input::read_prefix;
 use crate::member::Member;
 use crate::report::committee_report;
 use commonware_base::codec;
@@ -103,7 +103,7 @@ fn read_report<A: Allocator + Copy, R: Read>(
         → input.new.ended ≡ true }
 {
     let mut room = [0u8; FRONT];
-    let counted = read_front(input, &mut room)?;
+    let counted = read_prefix(input, &mut room)?;
     let members = read_members(alloc, &room[..counted.kept], counted.total)?;
     match committee_report(alloc, members.as_slice()) {
         Ok(text) => Ok(text),
@@ -111,25 +111,25 @@ fn read_report<A: Allocator + Copy, R: Read>(
     }
 }
 
-/// The committee that bytes are, with nothing after it. Of these bytes the front is given, and
+/// The committee that bytes are, with nothing after it. Of these bytes the prefix is given, and
 /// how many they are.
 fn read_members<A: Allocator + Copy>(
     alloc: A,
-    front: &[u8],
+    prefix: &[u8],
     total: usize,
 ) -> Result<Set<Member, A>, RunError>
-    requires { length front.now ≤ total }
-    ensures accepted { (s : List ℕ) → IsFront front_size s front.now → length s ≡ total
+    requires { length prefix.now ≤ total }
+    ensures accepted { (s : List ℕ) → IsLongPrefix prefix_size s prefix.now → length s ≡ total
         → IfOk result (λ members. IsCommittee s members []) }
     ensures some { IfOk result (λ members. 1 ≤ length members) }
     ensures few { IfOk result (λ members. length members < 2 ^ 32) }
-    ensures refused { (s : List ℕ) → IsFront front_size s front.now → length s ≡ total
+    ensures refused { (s : List ℕ) → IsLongPrefix prefix_size s prefix.now → length s ≡ total
         → IfErr result (IsRefusal (λ t. t ≡ s)) }
-    ensures memory { (s : List ℕ) → IsFront front_size s front.now
+    ensures memory { (s : List ℕ) → IsLongPrefix prefix_size s prefix.now
         → result ≡ Err RunError.Memory → ¬ IsCommitteeMemoryFree s }
     ensures device { (result ≢ Err RunError.ReadFailed) × (result ≢ Err RunError.WriteFailed) }
 {
-    let mut src = Source::new(front);
+    let mut src = Source::new(prefix);
     let limits = (RangeCfg::from(1..=MOST), ());
     let members: Set<Member, A> = codec::Read::read_cfg(alloc, &mut src, &limits)?;
     let left = total - src.position();

@@ -3,7 +3,7 @@ use Rattle.program_io.specs.Streams.{Gave}
 use Rattle.committee_core.specs.Run.{status_of}
 use Rattle.committee_core.specs.declared.error.RunError.TheVariants.{WriteFailed}
 use Rattle.committee_core.proofs.Refusals.{not_written_at_one, refused_at_one}
-use Rattle.committee_core.proofs.session.session.Goals as goal
+use Rattle.committee_core.proofs.sessions.session.Goals as goal
 
 pub returns-in-Err-clause-refused : goal.returns-in-Err-clause-refused
 returns-in-Err-clause-refused g c = λ one.

@@ -1,6 +1,6 @@
 use Rattle.std.proofs.Common.{sym, ◌∙◌}
 use Rattle.speed_core.proofs.Statuses.{never_two}
-use Rattle.speed_core.proofs.session.session.Goals as goal
+use Rattle.speed_core.proofs.sessions.session.Goals as goal
 
 pub returns-in-Err-clause-usage : goal.returns-in-Err-clause-usage
 returns-in-Err-clause-usage g c =

@@ -19,19 +19,19 @@ module _ (value signers : List ℕ) where
   before_signers = (varint (length value) ++ value) ++ varint (length signers)
 
   -- the value's length, the value, the number of signers, and the signers
-  pub spelt_as : certificate_enc (value, signers) ≡ before_signers ++ flat_map varint signers
-  spelt_as =
+  pub encoded_as : certificate_enc (value, signers) ≡ before_signers ++ flat_map varint signers
+  encoded_as =
       ap (λ b. (varint (length value) ++ b) ++ (varint (length signers) ++ flat_map varint signers)) (bytes_join value)
       ∙ sym (append_assoc (varint (length value) ++ value) (varint (length signers)) (flat_map varint signers))
 
   -- how many bytes that is
-  pub spelt_length : length (certificate_enc (value, signers))
+  pub encoded_length : length (certificate_enc (value, signers))
       ≡ length (varint (length value)) + length value + length (varint (length signers)) + length (flat_map varint signers)
-  spelt_length =
+  encoded_length =
       let all = length-append before_signers (flat_map varint signers) in
       let counted = length-append (varint (length value) ++ value) (varint (length signers)) in
       let valued = length-append (varint (length value)) value in
-      ap length spelt_as ∙ omega (arith, all, counted, valued)
+      ap length encoded_as ∙ omega (arith, all, counted, valued)
 
 -- a varint has a byte
 varint_some : (n : ℕ) → 0 < length (varint n)
@@ -49,4 +49,4 @@ indices_fewer (x ∷ xs) =
 pub signers_fewer : (value signers s rest : List ℕ) → s ≡ certificate_enc (value, signers) ++ rest → length signers ≤ length s
 signers_fewer value signers s rest begins =
     let n = length-append (certificate_enc (value, signers)) rest in
-    omega (arith, n, ap length begins, spelt_length value signers, indices_fewer signers)
+    omega (arith, n, ap length begins, encoded_length value signers, indices_fewer signers)
