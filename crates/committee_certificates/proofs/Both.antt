@@ -11,7 +11,7 @@ use Rattle.std.proofs.lemmas.Map.Keys.{IsStrictlyIncreasing-from_sorted, Less-fr
 use Rattle.std.proofs.lemmas.Map.Keys.{sorted_from_strictly_increasing}
 use Rattle.std.specs.Ordering.{nat_cmp}
 use Rattle.commonware_ordered.specs.Strict.{IsStrict}
-use Rattle.commonware_ordered.specs.StrictLaws.{sorted_from_strict}
+use Rattle.commonware_ordered.specs.laws.StrictLaws.{sorted_from_strict}
 use Rattle.committee_certificates.proofs.Members.{has_tells, tells_both}
 use Rattle.committee_certificates.proofs.Rising.{has, has_after, has_first, has_not_below}
 use Rattle.committee_certificates.proofs.Rising.{RisesFrom, rises_from_strict, rises_lower}

@@ -11,9 +11,9 @@ use Rattle.std.proofs.lemmas.List.FromFn.{get_or-map-range_with_len}
 use Rattle.std.proofs.lemmas.Map.Views.{Contains-from_any, list_any-from_Contains}
 use Rattle.std.proofs.lemmas.Option.{slice_get-get_or, slice_get_within}
 use Rattle.commonware_faults.specs.Subsets.{size, shared, passing, IsIn, IsOutside, Overlap, Greatest3, Greatest5}
-use Rattle.commonware_faults.specs.SubsetLaws.{Overlap-at_ends, beyond}
-use Rattle.commonware_faults.specs.ToleranceLaws.{quorums_share, Greatest-fit, Greatest-three}
-use Rattle.commonware_faults.specs.SubsetSizeLaws.{shared-map, size-agree, length-passing}
+use Rattle.commonware_faults.specs.laws.SubsetLaws.{Overlap-at_ends, beyond}
+use Rattle.commonware_faults.specs.laws.ToleranceLaws.{quorums_share, Greatest-fit, Greatest-three}
+use Rattle.commonware_faults.specs.laws.SubsetSizeLaws.{shared-map, size-agree, length-passing}
 use Rattle.commonware_ordered.specs.Strict.{IsStrict}
 use Rattle.committee_certificates.specs.Signers.{AreInBoth, AreMembers, LeavesOneOutside}
 use Rattle.committee_certificates.proofs.Rising.{has, truths, size-truths}

@@ -11,9 +11,9 @@ use Rattle.std.proofs.lemmas.Cmp.{nat_cmp_total}
 use Rattle.std.proofs.lemmas.List.Elements.{All-head, All-tail}
 use Rattle.std.proofs.lemmas.Map.Keys.{IsStrictlyIncreasing-from_sorted}
 use Rattle.commonware_faults.specs.Subsets.{size, passing}
-use Rattle.commonware_faults.specs.SubsetSizeLaws.{size-cons}
+use Rattle.commonware_faults.specs.laws.SubsetSizeLaws.{size-cons}
 use Rattle.commonware_ordered.specs.Strict.{IsStrict}
-use Rattle.commonware_ordered.specs.StrictLaws.{sorted_from_strict}
+use Rattle.commonware_ordered.specs.laws.StrictLaws.{sorted_from_strict}
 use Rattle.committee_certificates.specs.Signers.{AreMembers}
 
 -- whether a position is among the signers

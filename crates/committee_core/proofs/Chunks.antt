@@ -5,8 +5,8 @@ use Rattle.std.specs.Array.{IsFirstChunk}
 use Rattle.commonware_base.specs.declared.codec.source.Source.{Source}
 use Rattle.commonware_base.specs.Source.{rest_of}
 use Rattle.commonware_base.specs.Text.{AreBytes}
-use Rattle.commonware_base.specs.SourceLaws.{rest_bytes}
-use Rattle.committee_core.specs.MemberLaws.{bytes_left}
+use Rattle.commonware_base.specs.laws.SourceLaws.{rest_bytes}
+use Rattle.committee_core.specs.laws.MemberLaws.{bytes_left}
 use Rattle.committee_core.specs.Members.{IsMember}
 
 -- the first 32 of them are a member

@@ -2,18 +2,18 @@
 use Rattle.std.proofs.Common.{◌≡◌, ◌≤◌, ℕ, List, [], ◌∷◌, ◌++◌, length, arith, subst, append_assoc, length-append, ◌∙◌}
 use Rattle.std.specs.List.{flat_map}
 use Rattle.commonware_base.specs.Fault.{Fault}
-use Rattle.commonware_base.specs.PrefixLaws.{list_memory_free_determined, determined_prefix}
+use Rattle.commonware_base.specs.laws.PrefixLaws.{list_memory_free_determined, determined_prefix}
 use Rattle.commonware_base.specs.Prefixes.{IsLongPrefix, IsDeterminedBy}
-use Rattle.commonware_base.specs.ListLaws.{list_wants_memory}
+use Rattle.commonware_base.specs.laws.ListLaws.{list_wants_memory}
 use Rattle.commonware_base.specs.Lists.{IsListMemoryFree}
 use Rattle.commonware_base.specs.Range.{Bounds}
 use Rattle.commonware_base.specs.Refusal.{Refuses}
-use Rattle.commonware_base.specs.RefusalLaws.{refuses_from}
+use Rattle.commonware_base.specs.laws.RefusalLaws.{refuses_from}
 use Rattle.commonware_base.specs.Varint.{varint}
 use Rattle.commonware_base.specs.declared.codec.error.Error.{Error}
-use Rattle.commonware_ordered.specs.SetPrefixLaws.{set_fault_determined}
+use Rattle.commonware_ordered.specs.laws.SetPrefixLaws.{set_fault_determined}
 use Rattle.commonware_ordered.specs.Sets.{SetFault}
-use Rattle.committee_core.specs.MemberLaws.{member_length}
+use Rattle.committee_core.specs.laws.MemberLaws.{member_length}
 use Rattle.committee_core.specs.Members.{IsMember, member_bytes, member_cmp, member_fault}
 use Rattle.committee_core.specs.Run.{members_range, prefix_size, IsCommittee, IsCommitteeMemoryFree, committee_fault}
 

@@ -1,7 +1,7 @@
 //! The member of a committee.
 ghost use Rattle.std.specs.Prelude.{◌≡◌};
 ghost use Rattle.std.proofs.lemmas.Cmp.{nat_list_eq_equiv};
-ghost use Rattle.commonware_base.specs.CloneLaws.{equal_from_same};
+ghost use Rattle.commonware_base.specs.laws.CloneLaws.{equal_from_same};
 
 mod codec;
 mod display;

@@ -11,7 +11,7 @@ use Rattle.commonware_base.specs.Range.{Within}
 use Rattle.commonware_base.specs.Source.{Consumes, rest_of}
 use Rattle.commonware_base.specs.Varint.{varint}
 use Rattle.commonware_base.specs.Lists.{list_enc, IsWritableList, IsAllowedList, ListFault, bad_length, bad_item, IsListMemoryFree, ItemsFault, IsItemsMemoryFree}
-use Rattle.commonware_base.specs.ListLaws.{list_wants_memory}
+use Rattle.commonware_base.specs.laws.ListLaws.{list_wants_memory}
 use Rattle.commonware_base.proofs.SourceLemmas.{consumes_both}
 
 -- what holds of all items, and of one more, holds of all with it

@@ -4,7 +4,7 @@ use Rattle.std.proofs.lemmas.List.{append_assoc}
 use Rattle.std.proofs.Math.Seq.{drop-append_seam, take-append_seam}
 use Rattle.commonware_base.specs.Unions.{union_text}
 use Rattle.commonware_base.specs.Varint.{varint}
-use Rattle.commonware_base.specs.VarintLaws.{varint_split}
+use Rattle.commonware_base.specs.laws.VarintLaws.{varint_split}
 
 -- The lengths agree, and so do the parts.
 pub union_only : (a b x y : List ℕ) → length a < 2 ^ 32 → length b < 2 ^ 32 → union_text a x ≡ union_text b y → (a ≡ b) × (x ≡ y)

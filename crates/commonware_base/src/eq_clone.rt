@@ -3,7 +3,7 @@ ghost use Rattle.std.specs.Prelude.{◌≡◌, true};
 ghost use Rattle.std.specs.String.{string_bytes};
 ghost use Rattle.std.proofs.Common.{ap};
 ghost use Rattle.std.proofs.lemmas.Cmp.{int_eq_equiv, nat_eq_equiv, nat_list_eq_equiv};
-ghost use Rattle.commonware_base.specs.CloneLaws.{equal_from_all_zip, equal_from_same};
+ghost use Rattle.commonware_base.specs.laws.CloneLaws.{equal_from_all_zip, equal_from_same};
 
 use crate::codec::UInt;
 use std::alloc::Allocator;

@@ -2,10 +2,10 @@
 ghost use Rattle.std.specs.Prelude.{◌≡◌, ◌<◌, ◌^◌, ◌==◌, ◌≤◌, Some, refl, true, length};
 ghost use Rattle.std.proofs.lemmas.Cmp.{nat_eq_equiv};
 ghost use Rattle.std.specs.Fmt.{decimal};
-ghost use Rattle.commonware_base.specs.CloneLaws.{equal_from_same};
-ghost use Rattle.commonware_base.specs.NumberLaws.{number_canonical, number_prefix_free, varint_laws};
+ghost use Rattle.commonware_base.specs.laws.CloneLaws.{equal_from_same};
+ghost use Rattle.commonware_base.specs.laws.NumberLaws.{number_canonical, number_prefix_free, varint_laws};
 ghost use Rattle.commonware_base.specs.Varint.{varint, varint_fault};
-ghost use Rattle.commonware_base.specs.VarintLaws.{varint_bytes, varint-length};
+ghost use Rattle.commonware_base.specs.laws.VarintLaws.{varint_bytes, varint-length};
 ghost use Rattle.commonware_base.specs.Words.{IsWord};
 
 use crate::codec::{Canonical, EncodeSize, Error, MaxEncodeSize, Read, Source, UInt, Write};

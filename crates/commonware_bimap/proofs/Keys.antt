@@ -8,7 +8,7 @@ use Rattle.std.specs.declared.cmp.Ordering.{Ordering}
 use Rattle.std.proofs.lemmas.Map.Entries.{length-keys_of, length-values_of}
 use Rattle.std.proofs.lemmas.Option.{same_Some, slice_get-get_or}
 use Rattle.commonware_ordered.specs.Strict.{IsPlaceOf, IsStrict}
-use Rattle.commonware_ordered.specs.EqualItemLaws.{none_equal_from_strict}
+use Rattle.commonware_ordered.specs.laws.EqualItemLaws.{none_equal_from_strict}
 use Rattle.commonware_ordered.specs.Whole.{HasEqualItems}
 use Rattle.commonware_bimap.specs.Swapped.{swapped}
 

@@ -6,14 +6,14 @@ use Rattle.std.specs.List.Sorted.{IsPermutation}
 use Rattle.std.specs.Map.{values_of}
 use Rattle.std.specs.declared.cmp.Ordering.{Ordering}
 use Rattle.std.proofs.lemmas.List.Sorted.{IsPermutation-map, IsPermutation-sym}
-use Rattle.commonware_base.specs.CloneLaws.{equal_from_all_zip}
+use Rattle.commonware_base.specs.laws.CloneLaws.{equal_from_all_zip}
 use Rattle.commonware_base.specs.Taken.{TakesAll, TakesSome}
-use Rattle.commonware_ordered.specs.EqualItemLaws.{equal_items_or_none, none_equal_moved}
+use Rattle.commonware_ordered.specs.laws.EqualItemLaws.{equal_items_or_none, none_equal_moved}
 use Rattle.commonware_map.specs.Pairs.{is_equal_pair}
 use Rattle.commonware_ordered.specs.Whole.{IsSetOfAll, IsSetOfClones, MatchError}
 use Rattle.commonware_ordered.specs.declared.error.Error.{Error}
 use Rattle.commonware_ordered.specs.declared.error.Error.TheVariants.{DuplicateKey, DuplicateValue, Memory}
-use Rattle.commonware_bimap.specs.BiMapLaws.{repeated_back, repeated_together}
+use Rattle.commonware_bimap.specs.laws.BiMapLaws.{repeated_back, repeated_together}
 use Rattle.commonware_bimap.specs.WholeBiMaps.{HasEqualValues, IsBiMapOfAll, IsRefusedBiMap, IsWholeBiMapOfClones}
 
 module _ {K V : Type 0} (key_eq : K → K → Bool) (key_cmp : K → K → Ordering) (value_eq : V → V → Bool) (value_laws : IsEquivalence value_eq) where

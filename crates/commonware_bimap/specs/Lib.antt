@@ -1,4 +1,4 @@
-pub mod BiMapLaws
 pub mod BiMaps
 pub mod Swapped
 pub mod WholeBiMaps
+pub mod laws

@@ -4,7 +4,7 @@ use Rattle.std.proofs.lemmas.List.{length-drop, length-take-le, take-append-drop
 use Rattle.std.specs.List.{AllByRecursion, flat_map}
 use Rattle.std.specs.Simd.{first_chunks}
 use Rattle.commonware_base.specs.Text.{AreBytes}
-use Rattle.committee_core.specs.MemberLaws.{bytes_left}
+use Rattle.committee_core.specs.laws.MemberLaws.{bytes_left}
 use Rattle.committee_core.specs.Members.{IsMember, member_bytes}
 
 -- what is left of bytes after some are bytes

@@ -4,7 +4,7 @@ use Rattle.std.specs.List.{flat_map}
 use Rattle.std.proofs.lemmas.List.{append_assoc, flat_map_more, take_more}
 use Rattle.commonware_base.proofs.ByteSteps.{bytes_join}
 use Rattle.commonware_base.specs.Varint.{varint}
-use Rattle.commonware_base.specs.VarintLaws.{groups_not_empty}
+use Rattle.commonware_base.specs.laws.VarintLaws.{groups_not_empty}
 use Rattle.committee_certificates.specs.Certificates.{certificate_enc}
 
 -- the bytes of one more index

@@ -3,7 +3,7 @@ use Rattle.std.proofs.Common.{◌≡◌, ◌∙◌, ℕ, ◌*◌, ◌<◌, ◌^�
 use Rattle.std.specs.List.{flat_map}
 use Rattle.std.proofs.lemmas.List.{append_assoc, take-append-drop}
 use Rattle.commonware_base.specs.declared.codec.source.Source.{Source}
-use Rattle.commonware_base.specs.ItemsLaws.{each_allowed}
+use Rattle.commonware_base.specs.laws.ItemsLaws.{each_allowed}
 use Rattle.commonware_base.specs.Lists.{IsAllowedList, IsWritableList, list_enc}
 use Rattle.commonware_base.specs.Range.{Bounds, Within}
 use Rattle.commonware_base.specs.Source.{Consumes, rest_of}

@@ -1,6 +1,4 @@
 pub mod Counts
-pub mod SubsetLaws
-pub mod SubsetSizeLaws
 pub mod Subsets
-pub mod ToleranceLaws
 pub mod Tolerance
+pub mod laws

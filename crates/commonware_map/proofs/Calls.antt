@@ -11,7 +11,7 @@ use Rattle.std.proofs.lemmas.Option.{same_Some}
 use Rattle.std.proofs.lemmas.Map.Entries.{length-keys_of}
 use Rattle.std.proofs.lemmas.Map.Made.{keys_of-zip}
 use Rattle.commonware_base.specs.Calls.{CallableAlong, CallsGiveAll}
-use Rattle.commonware_base.specs.CallLaws.{CallsSoFar, length_answers, takes_next}
+use Rattle.commonware_base.specs.laws.CallLaws.{CallsSoFar, length_answers, takes_next}
 use Rattle.commonware_map.proofs.Columns.{values_of-zip}
 use Rattle.commonware_map.specs.ValueMaps.{IsFirstError, TakesRefs}
 

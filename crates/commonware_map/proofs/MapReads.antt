@@ -6,12 +6,12 @@ use Rattle.std.proofs.lemmas.List.{take-append-drop}
 use Rattle.std.proofs.lemmas.Map.Made.{keys_of-zip}
 use Rattle.commonware_base.specs.Fault.{Fault}
 use Rattle.commonware_base.specs.Lists.{list_enc, IsWritableList, IsAllowedList, IsListMemoryFree, ListFault, bad_varint, bad_length, bad_item, faulty_varint, outside, empty}
-use Rattle.commonware_base.specs.ListLaws.{list_laws, list_wants_memory}
+use Rattle.commonware_base.specs.laws.ListLaws.{list_laws, list_wants_memory}
 use Rattle.commonware_base.specs.Range.{Bounds, exactly}
 use Rattle.commonware_base.specs.Sequence.{sequence_enc, IsWritableSequence, IsAllowedSequence}
 use Rattle.commonware_base.specs.Source.{Consumes, rest_of}
 use Rattle.commonware_base.specs.Text.{AreBytes, Accepts, IsPrefixFree, ReadLaws}
-use Rattle.commonware_base.specs.TextLaws.{bytes_right}
+use Rattle.commonware_base.specs.laws.TextLaws.{bytes_right}
 use Rattle.commonware_base.specs.Varint.{varint}
 use Rattle.commonware_base.specs.declared.codec.source.Source.{Source}
 use Rattle.commonware_base.proofs.SourceLemmas.{consumes_both}

@@ -11,7 +11,7 @@ use Rattle.std.specs.declared.iter.Zip.{Zip}
 use Rattle.std.specs.declared.slice.Iter.{Iter}
 use Rattle.std.specs.declared.vec.IntoIter.{IntoIter}
 use Rattle.commonware_base.specs.Calls.{CallsGiveAll}
-use Rattle.commonware_base.specs.CallLaws.{CallsSoFar, so_far_all}
+use Rattle.commonware_base.specs.laws.CallLaws.{CallsSoFar, so_far_all}
 use Rattle.commonware_map.proofs.Columns.{zip-parts}
 use Rattle.commonware_map.proofs.Zipped.{empty_from_len, zip_nothing}
 

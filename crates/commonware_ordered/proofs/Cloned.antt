@@ -3,8 +3,8 @@ use Rattle.std.specs.Prelude.{◌≡◌, Bool, Err, List, Ok, Result, true}
 use Rattle.std.specs.List.{AllZip}
 use Rattle.std.specs.Cmp.{IsEquivalence}
 use Rattle.std.specs.declared.cmp.Ordering.{Ordering}
-use Rattle.commonware_base.specs.CloneLaws.{equal_from_all_zip}
-use Rattle.commonware_ordered.specs.EqualItemLaws.{equal_items_back, equal_items_same}
+use Rattle.commonware_base.specs.laws.CloneLaws.{equal_from_all_zip}
+use Rattle.commonware_ordered.specs.laws.EqualItemLaws.{equal_items_back, equal_items_same}
 use Rattle.commonware_ordered.specs.Whole.{IsWholeSet, IsWholeSetOfClones}
 use Rattle.commonware_ordered.specs.declared.error.Error.{Error}
 use Rattle.commonware_ordered.specs.declared.error.Error.TheVariants.{DuplicateKey, DuplicateValue, Memory}

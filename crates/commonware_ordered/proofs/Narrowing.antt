@@ -9,7 +9,7 @@ use Rattle.std.specs.declared.cmp.Ordering.{Ordering}
 use Rattle.std.proofs.lemmas.Bool.{cases_lt}
 use Rattle.std.proofs.lemmas.Map.Keys.{Less-from_sorted}
 use Rattle.commonware_ordered.specs.Strict.{IsStrict}
-use Rattle.commonware_ordered.specs.StrictLaws.{level, sorted_from_strict}
+use Rattle.commonware_ordered.specs.laws.StrictLaws.{level, sorted_from_strict}
 
 module _ {X : Type 0} {cmp : X → X → Ordering} (o : IsTotalOrder cmp) {eq : X → X → Bool} (ties : (x y : X) → eq x y ≡ is_eq (cmp x y)) where
   -- what x answers to the item at place i, where the item at place k equals x

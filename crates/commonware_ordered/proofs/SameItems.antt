@@ -15,7 +15,7 @@ use Rattle.std.proofs.lemmas.Map.Steps.{list_any_congr}
 use Rattle.std.proofs.lemmas.Map.Views.{list_any-from_Contains}
 use Rattle.std.proofs.lemmas.Option.{get_or_from_slice_get, slice_get_within}
 use mathlib.Core.Bool.{true≢false}
-use Rattle.commonware_ordered.specs.StrictLaws.{sorted_from_strict}
+use Rattle.commonware_ordered.specs.laws.StrictLaws.{sorted_from_strict}
 use Rattle.commonware_ordered.specs.Dedup.{IsDedup, HaveSameItems, EqualsSameItems}
 use Rattle.commonware_ordered.proofs.First.{find_congr, found_if_passes, found_passes, kept_from_find}
 

@@ -4,7 +4,7 @@ use Rattle.std.specs.List.{AllByRecursion, flat_map}
 use Rattle.std.proofs.lemmas.Bool.{cases_lt, lt-ltb, le-ltb}
 use Rattle.std.proofs.lemmas.Nat.{mul-le}
 use Rattle.commonware_base.specs.Varint.{varint, groups}
-use Rattle.commonware_base.specs.VarintLaws.{groups_not_empty}
+use Rattle.commonware_base.specs.laws.VarintLaws.{groups_not_empty}
 
 -- a greater number has no fewer groups
 groups_grow : (k a b : ℕ) → a ≤ b → length (groups k a) ≤ length (groups k b)

@@ -5,7 +5,7 @@ pub use Rattle.commonware_faults.specs.Counts.{n3f1_faults, n5f1_faults}
 pub use Rattle.commonware_faults.specs.Subsets.{Greatest, Greatest3, Greatest5, GreatestFor, IsIn, IsOutside}
 pub use Rattle.commonware_faults.specs.Subsets.{LeastM, MeetsOutside, Overlap, OverlapAtLeast}
 pub use Rattle.commonware_faults.specs.Subsets.{places, shared, size}
-pub use Rattle.commonware_faults.specs.ToleranceLaws.{Greatest-fit, Greatest-only, LeastM-is, fault_tolerance}
-pub use Rattle.commonware_faults.specs.ToleranceLaws.{fault_tolerance_of, greatest_at}
-pub use Rattle.commonware_faults.specs.ToleranceLaws.{n3f1_greatest, n5f1_greatest, quorums_share}
+pub use Rattle.commonware_faults.specs.laws.ToleranceLaws.{Greatest-fit, Greatest-only, LeastM-is, fault_tolerance}
+pub use Rattle.commonware_faults.specs.laws.ToleranceLaws.{fault_tolerance_of, greatest_at}
+pub use Rattle.commonware_faults.specs.laws.ToleranceLaws.{n3f1_greatest, n5f1_greatest, quorums_share}
 pub use Rattle.commonware_faults.specs.Tolerance.{IsFaultTolerance}

@@ -13,12 +13,12 @@ pub use Rattle.commonware_map.specs.Maps.{AreAllowedValues, IsAllowedMap, IsWrit
 pub use Rattle.commonware_map.specs.Maps.{columns, map_enc, map_size_bound}
 pub use Rattle.commonware_map.specs.Pairs.{GivesPairsOf, ShowsPairsOf, are_equal_pairs, is_equal_pair}
 pub use Rattle.commonware_map.specs.Pairs.{on_both, on_keys, pair_text}
-pub use Rattle.commonware_map.specs.PairLaws.{both_equal}
-pub use Rattle.commonware_map.specs.PairLaws.{pairs_respect_eq}
+pub use Rattle.commonware_map.specs.laws.PairLaws.{both_equal}
+pub use Rattle.commonware_map.specs.laws.PairLaws.{pairs_respect_eq}
 pub use Rattle.commonware_map.specs.PairsMut.{CanStep, LendsInOrder, LendsInReverse}
 pub use Rattle.commonware_map.specs.PairsMut.{pairs_mut_left, pairs_mut_name, pairs_mut_steps}
 pub use Rattle.commonware_map.specs.PairsMut.{pairs_mut_steps_back}
-pub use Rattle.commonware_ordered.specs.SetPrefixLaws.{set_fault_determined}
+pub use Rattle.commonware_ordered.specs.laws.SetPrefixLaws.{set_fault_determined}
 pub use Rattle.commonware_ordered.specs.Sets.{BeginsUnsorted, IsWritableSet, unsorted_fault}
 pub use Rattle.commonware_ordered.specs.Sets.{SetFault, bad_list, bad_order}
 pub use Rattle.commonware_ordered.specs.Sets.{SetCase, at_list, at_order, set_case}

@@ -1,8 +1,8 @@
 -- The words of the root: signed texts, clones that are equal, what a collection's iterator gives, what is drawn from an
 -- iterator, and what closures are asked and answer.
 pub use Rattle.commonware_base.specs.Calls.{CallableAlong, CallsGive, CallsGiveAll}
-pub use Rattle.commonware_base.specs.CallLaws.{answers_are}
-pub use Rattle.commonware_base.specs.CloneLaws.{equal_from_all_zip, equal_from_same}
+pub use Rattle.commonware_base.specs.laws.CallLaws.{answers_are}
+pub use Rattle.commonware_base.specs.laws.CloneLaws.{equal_from_all_zip, equal_from_same}
 pub use Rattle.commonware_base.specs.Given.{HandsOver, LetsWrite, Shows}
 pub use Rattle.commonware_base.specs.Taken.{DrawsSome, IsMadeFrom, IsMadeOf, IsRefusalFrom, IsRefusalOf}
 pub use Rattle.commonware_base.specs.Taken.{TakesAll, TakesSome}

@@ -9,4 +9,4 @@ pub use Rattle.commonware_vec.specs.NonEmpty.{NonEmptyCase, at_end, at_list, non
 pub use Rattle.commonware_vec.specs.Refusals.{EmptyOrMemory, IsAll, IsRefusedForDrawn}
 pub use Rattle.commonware_vec.specs.Refusals.{IsWholeOfClones}
 pub use Rattle.commonware_vec.specs.Queues.{Queue}
-pub use Rattle.commonware_vec.specs.QueueLaws.{capacities_alike}
+pub use Rattle.commonware_vec.specs.laws.QueueLaws.{capacities_alike}

@@ -3,7 +3,7 @@ use Rattle.std.proofs.Common.{◌≡◌, ℕ, List, refl, sym, subst}
 use Rattle.std.specs.Prelude.{Result}
 use Rattle.commonware_utils.specs.Codec.{Bounds}
 use Rattle.commonware_base.specs.declared.codec.varint.UInt.{UInt}
-use Rattle.committee_certificates.specs.CertificateLaws.{certificate_of}
+use Rattle.committee_certificates.specs.laws.CertificateLaws.{certificate_of}
 use Rattle.committee_certificates.specs.Certificates.{parts}
 use Rattle.committee_certificates.specs.declared.certificate.Certificate.{Certificate}
 use Rattle.judge_questions.specs.declared.form.Form.{Form}

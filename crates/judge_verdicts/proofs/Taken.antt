@@ -6,7 +6,7 @@ use Rattle.std.specs.Vec.{vec_len}
 use Rattle.std.specs.Vec.Iter.{into_iter_items, into_iter_len, into_iter_steps}
 use Rattle.std.specs.declared.vec.IntoIter.{IntoIter}
 use Rattle.commonware_base.specs.Taken.{TakesAll}
-use Rattle.commonware_ordered.specs.WholeLaws.{whole_list}
+use Rattle.commonware_ordered.specs.laws.WholeLaws.{whole_list}
 
 -- what is known of the iterator of a list
 abbrev Walks : {X Z : Type 0} → Vec X Z → IntoIter X Z → Type 0

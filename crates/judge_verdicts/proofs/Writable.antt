@@ -15,7 +15,7 @@ use Rattle.std.proofs.lemmas.Map.Keys.{IsDistinct-from_sorted}
 use Rattle.std.proofs.lemmas.Map.Made.{length-le_from_is_member}
 use Rattle.std.proofs.lemmas.Option.{get_or_from_slice_get, slice_get_within}
 use Rattle.commonware_ordered.proofs.First.{contains_head}
-use Rattle.commonware_ordered.specs.StrictLaws.{sorted_from_strict}
+use Rattle.commonware_ordered.specs.laws.StrictLaws.{sorted_from_strict}
 use Rattle.commonware_utils.specs.Codec.{IsWritableList}
 use Rattle.commonware_utils.specs.Ordered.{IsDedup, IsSetOfAll, IsStrict, IsWritableMap, IsWritableSet, on_keys}
 

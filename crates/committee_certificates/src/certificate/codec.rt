@@ -2,13 +2,13 @@
 ghost use Rattle.std.specs.Prelude.{◌≡◌, ℕ, List};
 ghost use Rattle.commonware_base.specs.Fault.{Fault};
 ghost use Rattle.commonware_base.specs.Sequence.{sequence_case};
-ghost use Rattle.commonware_base.specs.TextLaws.{canonical_on, laws_on, prefix_free_on};
+ghost use Rattle.commonware_base.specs.laws.TextLaws.{canonical_on, laws_on, prefix_free_on};
 ghost use Rattle.committee_certificates.specs.Certificates.{are_equal_parts, certificate_enc, parts};
 ghost use Rattle.committee_certificates.specs.Certificates.{CertificateFault, IsAllowedCertificate};
 ghost use Rattle.committee_certificates.specs.Certificates.{IsWritableCertificate};
-ghost use Rattle.committee_certificates.specs.CertificateLaws.{certificate_bytes, certificate_laws};
-ghost use Rattle.committee_certificates.specs.CertificateLaws.{certificate_canonical, certificate_of};
-ghost use Rattle.committee_certificates.specs.CertificateLaws.{certificate_prefix_free};
+ghost use Rattle.committee_certificates.specs.laws.CertificateLaws.{certificate_bytes, certificate_laws};
+ghost use Rattle.committee_certificates.specs.laws.CertificateLaws.{certificate_canonical, certificate_of};
+ghost use Rattle.committee_certificates.specs.laws.CertificateLaws.{certificate_prefix_free};
 
 use super::Certificate;
 use commonware_base::Participant;

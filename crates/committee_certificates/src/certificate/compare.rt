@@ -1,8 +1,8 @@
 //! Equality and clones of certificates: those of both parts.
 ghost use Rattle.std.specs.Prelude.{◌≡◌};
 ghost use Rattle.committee_certificates.specs.Certificates.{are_equal_parts, parts};
-ghost use Rattle.committee_certificates.specs.CertificateLaws.{equal_from_same_parts, parts_equiv};
-ghost use Rattle.committee_certificates.specs.CertificateLaws.{parts_per};
+ghost use Rattle.committee_certificates.specs.laws.CertificateLaws.{equal_from_same_parts, parts_equiv};
+ghost use Rattle.committee_certificates.specs.laws.CertificateLaws.{parts_per};
 
 use super::Certificate;
 use commonware_base::EqClone;

@@ -1,7 +1,7 @@
 //! The byte form of a member, which is its bytes.
 ghost use Rattle.std.specs.Prelude.{◌≤◌, length};
 ghost use Rattle.commonware_base.specs.Source.{rest_of, Consumes};
-ghost use Rattle.committee_core.specs.MemberLaws.{member_canonical, member_laws, member_length, member_prefix_free};
+ghost use Rattle.committee_core.specs.laws.MemberLaws.{member_canonical, member_laws, member_length, member_prefix_free};
 ghost use Rattle.committee_core.specs.Members.{IsMember, member_bytes, member_fault};
 
 use super::Member;

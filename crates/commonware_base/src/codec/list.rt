@@ -4,10 +4,10 @@ ghost use Rattle.std.specs.List.{AllByRecursion, flat_map};
 ghost use Rattle.std.specs.Cmp.Lexicographic.{pointwise};
 ghost use Rattle.commonware_base.specs.Refusal.{Refuses};
 ghost use Rattle.commonware_base.specs.Lists.{list_enc, IsWritableList, IsAllowedList, ListFault, IsListMemoryFree};
-ghost use Rattle.commonware_base.specs.ListLaws.{list_prefix_free, list_laws, list_canonical, list_bytes};
-ghost use Rattle.commonware_base.specs.VecLaws.{vec_of};
+ghost use Rattle.commonware_base.specs.laws.ListLaws.{list_prefix_free, list_laws, list_canonical, list_bytes};
+ghost use Rattle.commonware_base.specs.laws.VecLaws.{vec_of};
 ghost use Rattle.commonware_base.specs.Source.{rest_of, Consumes};
-ghost use Rattle.commonware_base.specs.TextLaws.{prefix_free_on, laws_on, canonical_on};
+ghost use Rattle.commonware_base.specs.laws.TextLaws.{prefix_free_on, laws_on, canonical_on};
 
 use crate::codec::config::RangeCfg;
 use crate::codec::error::Error;

@@ -2,13 +2,13 @@
 ghost use Rattle.std.specs.Prelude.{ℕ, ◌≡◌, ◌+◌, ◌<◌, ◌≤◌, ◌^◌, ◌++◌, length, vec_capacity, vec_len};
 ghost use Rattle.commonware_base.specs.Text.{IsByte};
 ghost use Rattle.commonware_base.specs.Bytes.{byte, byte_fault};
-ghost use Rattle.commonware_base.specs.ByteLaws.{byte_prefix_free, byte_laws, byte_canonical, byte_length};
+ghost use Rattle.commonware_base.specs.laws.ByteLaws.{byte_prefix_free, byte_laws, byte_canonical, byte_length};
 ghost use Rattle.commonware_base.specs.Varint.{varint};
-ghost use Rattle.commonware_base.specs.VarintLaws.{varint_bytes};
+ghost use Rattle.commonware_base.specs.laws.VarintLaws.{varint_bytes};
 ghost use Rattle.commonware_base.specs.Words.{IsWord, word_bytes, word_fault};
-ghost use Rattle.commonware_base.specs.WordLaws.{word_prefix_free, word_laws, word_canonical, word_text, word_length};
+ghost use Rattle.commonware_base.specs.laws.WordLaws.{word_prefix_free, word_laws, word_canonical, word_text, word_length};
 ghost use Rattle.commonware_base.specs.Numbers.{NumberFault};
-ghost use Rattle.commonware_base.specs.NumberLaws.{number_prefix_free, number_laws, number_canonical};
+ghost use Rattle.commonware_base.specs.laws.NumberLaws.{number_prefix_free, number_laws, number_canonical};
 ghost use Rattle.commonware_base.specs.Range.{Within};
 ghost use Rattle.commonware_base.specs.Source.{rest_of, Consumes};
 

@@ -3,11 +3,11 @@
 ghost use Rattle.std.specs.Prelude.{◌≡◌, ℕ, ◌+◌, ◌≤◌, ◌<◌, ◌^◌, ◌==◌, ◌++◌, List, length, take, OnOk, OnErr, IfOk, IfErr, refl};
 ghost use Rattle.commonware_base.specs.Refusal.{Refuses};
 ghost use Rattle.commonware_base.specs.Source.{rest_of, Consumes};
-ghost use Rattle.commonware_base.specs.TextLaws.{prefix_free_on, laws_on, canonical_on};
+ghost use Rattle.commonware_base.specs.laws.TextLaws.{prefix_free_on, laws_on, canonical_on};
 ghost use Rattle.commonware_base.specs.Varint.{varint, IsVarint, varint_fault, groups_sum};
-ghost use Rattle.commonware_base.specs.VarintLaws.{varint_bytes, varint-length};
+ghost use Rattle.commonware_base.specs.laws.VarintLaws.{varint_bytes, varint-length};
 ghost use Rattle.commonware_base.specs.Words.{IsWord};
-ghost use Rattle.commonware_base.specs.NumberLaws.{number_prefix_free, varint_laws, number_canonical};
+ghost use Rattle.commonware_base.specs.laws.NumberLaws.{number_prefix_free, varint_laws, number_canonical};
 
 use crate::codec::error::Error;
 use crate::codec::source::Source;

@@ -2,9 +2,9 @@
 ghost use Rattle.std.specs.Prelude.{◌≡◌, ℕ, List};
 ghost use Rattle.commonware_base.specs.Fault.{Fault};
 ghost use Rattle.commonware_base.specs.Lists.{IsListMemoryFree};
-ghost use Rattle.commonware_map.specs.MapLaws.{map_bytes};
+ghost use Rattle.commonware_map.specs.laws.MapLaws.{map_bytes};
 ghost use Rattle.commonware_map.specs.Maps.{map_enc, IsAllowedMap};
-ghost use Rattle.commonware_bimap.specs.BiMapLaws.{bimap_canonical, bimap_laws, bimap_prefix_free};
+ghost use Rattle.commonware_bimap.specs.laws.BiMapLaws.{bimap_canonical, bimap_laws, bimap_prefix_free};
 ghost use Rattle.commonware_bimap.specs.BiMaps.{BiMapFault, IsWritableBiMap, bimap_case};
 
 use super::BiMap;

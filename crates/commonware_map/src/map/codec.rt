@@ -6,7 +6,7 @@ ghost use Rattle.std.specs.Map.{keys_of, values_of};
 ghost use Rattle.commonware_base.specs.Fault.{Fault};
 ghost use Rattle.commonware_base.specs.Lists.{IsListMemoryFree};
 ghost use Rattle.commonware_base.specs.Sequence.{sequence_case};
-ghost use Rattle.commonware_map.specs.MapLaws.{map_bytes, map_canonical, map_laws, map_prefix_free};
+ghost use Rattle.commonware_map.specs.laws.MapLaws.{map_bytes, map_canonical, map_laws, map_prefix_free};
 ghost use Rattle.commonware_map.specs.Maps.{map_enc, map_size_bound, IsAllowedMap, IsWritableMap, MapFault};
 ghost use Rattle.commonware_ordered.specs.Sets.{IsWritableSet};
 

@@ -5,9 +5,9 @@ ghost use Rattle.std.specs.Cmp.Lexicographic.{lists_equiv, lists_per};
 ghost use Rattle.std.specs.Hash as fed;
 ghost use Rattle.std.specs.List.{AllZip};
 ghost use Rattle.std.specs.Map.{keys_of, values_of};
-ghost use Rattle.commonware_base.specs.CloneLaws.{equal_from_all_zip};
+ghost use Rattle.commonware_base.specs.laws.CloneLaws.{equal_from_all_zip};
 ghost use Rattle.commonware_map.specs.Pairs.{are_equal_pairs, on_both};
-ghost use Rattle.commonware_map.specs.PairLaws.{both_equal, pairs_respect_eq};
+ghost use Rattle.commonware_map.specs.laws.PairLaws.{both_equal, pairs_respect_eq};
 
 use super::Map;
 use commonware_base::EqClone;

@@ -2,12 +2,12 @@
 ghost use Rattle.std.specs.Prelude.{◌≡◌, ◌+◌, ◌*◌, ◌<◌, ◌≤◌, ◌^◌, ℕ, List, OnErr, IfOk, IfErr, length};
 ghost use Rattle.commonware_base.specs.Fault.{Fault};
 ghost use Rattle.commonware_base.specs.Lists.{list_enc, IsAllowedList, IsListMemoryFree};
-ghost use Rattle.commonware_base.specs.ListLaws.{list_bytes};
+ghost use Rattle.commonware_base.specs.laws.ListLaws.{list_bytes};
 ghost use Rattle.commonware_base.specs.Refusal.{Refuses};
 ghost use Rattle.commonware_base.specs.Source.{rest_of, Consumes};
 ghost use Rattle.commonware_base.specs.Varint.{varint_size};
 ghost use Rattle.commonware_ordered.specs.Sets.{IsWritableSet, SetFault, set_case};
-ghost use Rattle.commonware_ordered.specs.SetLaws.{set_prefix_free, set_laws, set_canonical};
+ghost use Rattle.commonware_ordered.specs.laws.SetLaws.{set_prefix_free, set_laws, set_canonical};
 
 use super::{Set, is_strict};
 use commonware_base::codec::{

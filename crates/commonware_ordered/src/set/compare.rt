@@ -3,7 +3,7 @@ ghost use Rattle.std.specs.Cmp.Lexicographic.{lists_agrees, lists_equiv, lists_p
 ghost use Rattle.std.specs.Hash as fed;
 ghost use Rattle.std.specs.Hash.{items_Alike};
 ghost use Rattle.std.specs.List.{AllZip};
-ghost use Rattle.commonware_base.specs.CloneLaws.{equal_from_all_zip};
+ghost use Rattle.commonware_base.specs.laws.CloneLaws.{equal_from_all_zip};
 
 use super::Set;
 use commonware_base::EqClone;

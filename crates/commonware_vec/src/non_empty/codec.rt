@@ -1,11 +1,11 @@
 //! The byte form of a list that is never empty, which is that of the list of its items.
 ghost use Rattle.std.specs.Prelude.{◌≡◌, ℕ, List};
 ghost use Rattle.commonware_base.specs.Fault.{Fault};
-ghost use Rattle.commonware_base.specs.ListLaws.{list_bytes};
+ghost use Rattle.commonware_base.specs.laws.ListLaws.{list_bytes};
 ghost use Rattle.commonware_base.specs.Lists.{list_enc, IsAllowedList, IsListMemoryFree};
 ghost use Rattle.commonware_base.specs.Range.{as_numbers};
 ghost use Rattle.commonware_vec.specs.NonEmpty.{IsWritableNonEmpty, NonEmptyFault, non_empty_case};
-ghost use Rattle.commonware_vec.specs.NonEmptyLaws.{non_empty_canonical, non_empty_laws, non_empty_prefix_free};
+ghost use Rattle.commonware_vec.specs.laws.NonEmptyLaws.{non_empty_canonical, non_empty_laws, non_empty_prefix_free};
 
 use super::NonEmptyVec;
 use commonware_base::codec::{

@@ -1,7 +1,7 @@
 -- The sizes of the two ranges, and how many places they share, are differences.
 use Rattle.std.proofs.Common.{arith}
-use Rattle.commonware_faults.specs.ToleranceLaws.{GreatestFit-by_division, Greatest-refuted}
-use Rattle.commonware_faults.specs.SubsetSizeLaws.{size-places, shared-places}
+use Rattle.commonware_faults.specs.laws.ToleranceLaws.{GreatestFit-by_division, Greatest-refuted}
+use Rattle.commonware_faults.specs.laws.SubsetSizeLaws.{size-places, shared-places}
 use Rattle.committee_core.proofs.refutation.refutation.Goals as goal
 
 pub returns-clause-first_size : goal.returns-clause-first_size

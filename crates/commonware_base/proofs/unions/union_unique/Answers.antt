@@ -1,6 +1,6 @@
 use Rattle.std.proofs.Common.{arith, length}
 use Rattle.commonware_base.proofs.UnionLemmas.{union_only}
-use Rattle.commonware_base.specs.VarintLaws.{varint-length}
+use Rattle.commonware_base.specs.laws.VarintLaws.{varint-length}
 use Rattle.commonware_base.proofs.unions.union_unique.Goals as goal
 
 pub encode_size-requires-clause-fits : goal.encode_size-requires-clause-fits

@@ -2,12 +2,12 @@ use Rattle.std.proofs.Common.{rules, ◌≡◌, ◌∙◌, ◌+◌, ◌*◌, ◌
 use Rattle.std.specs.List.{flat_map}
 use Rattle.commonware_base.proofs.ReadSteps.{list_faulty, read_outside}
 use Rattle.commonware_base.proofs.SourceLemmas.{consumes_front}
-use Rattle.commonware_base.specs.ItemsLaws.{items_lack}
+use Rattle.commonware_base.specs.laws.ItemsLaws.{items_lack}
 use Rattle.commonware_base.specs.Range.{Within}
 use Rattle.commonware_base.specs.Source.{position_of, rest_of}
-use Rattle.commonware_base.specs.SourceLaws.{rest_bytes}
+use Rattle.commonware_base.specs.laws.SourceLaws.{rest_bytes}
 use Rattle.commonware_ordered.specs.Sets.{bad_list, bad_order}
-use Rattle.committee_core.specs.MemberLaws.{member_laws}
+use Rattle.committee_core.specs.laws.MemberLaws.{member_laws}
 use Rattle.committee_core.specs.Members.{IsMember, member_bytes, member_fault}
 use Rattle.commonware_c.specs.Committees.{between}
 use Rattle.commonware_c.proofs.Keys.{begins_with_keys, cut_at_keys, keys_allowed, keys_writable}

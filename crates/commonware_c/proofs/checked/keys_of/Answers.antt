@@ -3,8 +3,8 @@ use Rattle.std.specs.List.{AllByRecursion, flat_map}
 use Rattle.std.specs.Simd.{first_chunks}
 use Rattle.std.proofs.lemmas.List.{length-take-le}
 use Rattle.commonware_base.specs.Source.{rest_of}
-use Rattle.commonware_base.specs.SourceLaws.{rest_bytes}
-use Rattle.committee_core.specs.MemberLaws.{bytes_left}
+use Rattle.commonware_base.specs.laws.SourceLaws.{rest_bytes}
+use Rattle.committee_core.specs.laws.MemberLaws.{bytes_left}
 use Rattle.committee_core.specs.Members.{IsMember, member_bytes}
 use Rattle.commonware_c.proofs.Chunks.{chunks_are_members, chunks_are_text}
 use Rattle.commonware_c.proofs.checked.keys_of.Goals as goal

@@ -6,7 +6,7 @@ use Rattle.std.proofs.lemmas.List.{get_or_default}
 use Rattle.std.proofs.lemmas.Map.Keys.{Less-from_sorted}
 use Rattle.std.proofs.lemmas.Map.Views.{length-le_from_below}
 use Rattle.commonware_ordered.specs.Strict.{IsStrict}
-use Rattle.commonware_ordered.specs.StrictLaws.{sorted_from_strict}
+use Rattle.commonware_ordered.specs.laws.StrictLaws.{sorted_from_strict}
 use Rattle.committee_certificates.specs.Signers.{AreMembers}
 use Rattle.commonware_c.proofs.Fewer.{not_longer}
 use Rattle.commonware_c.proofs.EncodingLemmas.{signers_fewer}

@@ -1,5 +1,5 @@
 use Rattle.std.proofs.Common.{◌∙◌, arith, length, sym}
-use Rattle.commonware_base.specs.VarintLaws.{varint-length}
+use Rattle.commonware_base.specs.laws.VarintLaws.{varint-length}
 use Rattle.commonware_c.proofs.EncodingLemmas.{encoded_length}
 use Rattle.commonware_c.proofs.encoded.certificate_size.Goals as goal
 

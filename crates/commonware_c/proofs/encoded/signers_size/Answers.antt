@@ -1,7 +1,7 @@
 use Rattle.std.proofs.Common.{rules, ◌∙◌, ◌<◌, ◌^◌, length, take, get_or, arith, ap, length-append}
 use Rattle.std.specs.List.{flat_map}
 use Rattle.commonware_base.specs.Varint.{varint}
-use Rattle.commonware_base.specs.VarintLaws.{varint-length}
+use Rattle.commonware_base.specs.laws.VarintLaws.{varint-length}
 use Rattle.commonware_c.proofs.EncodingLemmas.{indices_more}
 use Rattle.commonware_c.proofs.encoded.signers_size.Goals as goal
 

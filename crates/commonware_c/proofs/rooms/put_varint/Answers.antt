@@ -1,6 +1,6 @@
 use Rattle.std.proofs.Common.{◌≡◌, ◌∙◌, ◌+◌, ◌%◌, ◌≤◌, ◌<◌, ◌++◌, ◌∷◌, [], ℕ, List, length, slice_set, arith, ap, sym, length-append}
 use Rattle.commonware_base.specs.Varint.{groups, varint}
-use Rattle.commonware_base.specs.VarintLaws.{Goes, goes_start, goes_step, goes_end, groups_not_empty}
+use Rattle.commonware_base.specs.laws.VarintLaws.{Goes, goes_start, goes_step, goes_end, groups_not_empty}
 use Rattle.commonware_c.specs.Splices.{spliced}
 use Rattle.commonware_c.proofs.Spliced.{length_on, spliced_none, spliced_on, spliced_one}
 use Rattle.commonware_c.proofs.rooms.put_varint.Goals as goal

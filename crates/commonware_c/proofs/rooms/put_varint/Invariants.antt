@@ -1,5 +1,5 @@
 use Rattle.std.proofs.Common.{◌≡◌, ◌+◌, ℕ, List, length}
-use Rattle.commonware_base.specs.VarintLaws.{Goes}
+use Rattle.commonware_base.specs.laws.VarintLaws.{Goes}
 use Rattle.commonware_c.specs.Splices.{spliced}
 use Rattle.commonware_c.proofs.rooms.put_varint.Given as goal
 

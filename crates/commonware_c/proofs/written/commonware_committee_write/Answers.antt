@@ -3,7 +3,7 @@ use Rattle.std.specs.List.{AllByRecursion, flat_map}
 use Rattle.std.specs.Cmp.Lexicographic.{pointwise}
 use Rattle.committee_core.specs.Members.{member_bytes, member_cmp}
 use Rattle.commonware_base.specs.Varint.{varint}
-use Rattle.commonware_base.specs.VarintLaws.{varint-length}
+use Rattle.commonware_base.specs.laws.VarintLaws.{varint-length}
 use Rattle.commonware_ordered.specs.Dedup.{IsDedup}
 use Rattle.commonware_c.specs.Committees.{IsSetOf}
 use Rattle.commonware_c.specs.Splices.{spliced}

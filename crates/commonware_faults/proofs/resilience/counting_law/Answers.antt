@@ -1,6 +1,6 @@
 -- The lemmas of every k.
-use Rattle.commonware_faults.specs.ToleranceLaws.{fault_tolerance, Greatest-by_fit, Greatest-fit, LeastM-is}
-use Rattle.commonware_faults.specs.ToleranceLaws.{Greatest3-by_any, Greatest-three}
+use Rattle.commonware_faults.specs.laws.ToleranceLaws.{fault_tolerance, Greatest-by_fit, Greatest-fit, LeastM-is}
+use Rattle.commonware_faults.specs.laws.ToleranceLaws.{Greatest3-by_any, Greatest-three}
 use Rattle.commonware_faults.proofs.resilience.counting_law.Goals as goal
 
 pub returns-clause-tolerance : goal.returns-clause-tolerance

@@ -1,7 +1,7 @@
 -- The sizes of two subsets, and those at the two ends.
 use Rattle.std.proofs.Common.{◌-◌, arith}
-use Rattle.commonware_faults.specs.SubsetLaws.{Overlap-at_ends, MeetsOutside-by_thirds}
-use Rattle.commonware_faults.specs.ToleranceLaws.{quorums_share}
+use Rattle.commonware_faults.specs.laws.SubsetLaws.{Overlap-at_ends, MeetsOutside-by_thirds}
+use Rattle.commonware_faults.specs.laws.ToleranceLaws.{quorums_share}
 use Rattle.commonware_faults.proofs.resilience.overlap_law.Goals as goal
 
 pub returns-clause-shares : goal.returns-clause-shares

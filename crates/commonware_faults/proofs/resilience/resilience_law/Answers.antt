@@ -1,5 +1,5 @@
 -- The faults are (n - 1) / k.
-use Rattle.commonware_faults.specs.ToleranceLaws.{fault_tolerance_of}
+use Rattle.commonware_faults.specs.laws.ToleranceLaws.{fault_tolerance_of}
 use Rattle.commonware_faults.proofs.resilience.resilience_law.Goals as goal
 
 pub returns : goal.returns

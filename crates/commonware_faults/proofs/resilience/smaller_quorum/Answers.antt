@@ -1,8 +1,8 @@
 -- Twice the faults and one more is the least size, and what is least shares enough.
 use Rattle.std.proofs.Common.{rules}
 use Rattle.commonware_faults.specs.Counts.{amount}
-use Rattle.commonware_faults.specs.SubsetLaws.{LeastM-shares}
-use Rattle.commonware_faults.specs.ToleranceLaws.{fault_tolerance_of}
+use Rattle.commonware_faults.specs.laws.SubsetLaws.{LeastM-shares}
+use Rattle.commonware_faults.specs.laws.ToleranceLaws.{fault_tolerance_of}
 use Rattle.commonware_faults.proofs.resilience.smaller_quorum.Goals as goal
 
 pub returns-clause-least : goal.returns-clause-least

@@ -1,5 +1,5 @@
 -- Division is the fault tolerance of every k.
-use Rattle.commonware_faults.specs.ToleranceLaws.{fault_tolerance}
+use Rattle.commonware_faults.specs.laws.ToleranceLaws.{fault_tolerance}
 use Rattle.commonware_faults.proofs.resilience.tolerated_faults.Goals as goal
 
 pub returns : goal.returns

@@ -1,5 +1,5 @@
 use Rattle.std.proofs.Common.{◌-◌, arith, refl}
-use Rattle.commonware_faults.specs.SubsetSizeLaws.{shared-places}
+use Rattle.commonware_faults.specs.laws.SubsetSizeLaws.{shared-places}
 use Rattle.judge_verdicts.proofs.numbers.refute.Goals as goal
 
 pub returns-clause-refuted : goal.returns-clause-refuted

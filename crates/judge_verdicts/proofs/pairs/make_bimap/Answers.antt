@@ -1,7 +1,7 @@
 use Rattle.std.proofs.lemmas.Cmp.{on_total}
 use Rattle.std.specs.Map.{values_of}
 use Rattle.std.proofs.lemmas.List.Sorted.{IsPermutation-map}
-use Rattle.commonware_ordered.specs.EqualItemLaws.{none_equal_moved}
+use Rattle.commonware_ordered.specs.laws.EqualItemLaws.{none_equal_moved}
 use Rattle.judge_verdicts.proofs.Writable.{all_writable, map_writable}
 use Rattle.commonware_utils.specs.Ordered.{on_keys}
 use Rattle.judge_verdicts.proofs.pairs.make_bimap.Goals as goal

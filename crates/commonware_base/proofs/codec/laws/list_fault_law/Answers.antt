@@ -1,4 +1,4 @@
-use Rattle.commonware_base.specs.ListLaws.{list_cases_exclude}
+use Rattle.commonware_base.specs.laws.ListLaws.{list_cases_exclude}
 use Rattle.commonware_base.proofs.codec.laws.list_fault_law.Goals as goal
 
 pub returns : goal.returns

@@ -1,4 +1,4 @@
-use Rattle.commonware_base.specs.VarintLaws.{varint_is, varint_only}
+use Rattle.commonware_base.specs.laws.VarintLaws.{varint_is, varint_only}
 use Rattle.commonware_base.proofs.codec.laws.varint_law.Goals as goal
 
 pub returns-clause-spelled : goal.returns-clause-spelled

@@ -2,7 +2,7 @@ use Rattle.std.proofs.Common.{arith, [], refl, ◌≡◌, ◌+◌, sym, subst}
 use Rattle.std.specs.Prelude.{IfErr}
 use Rattle.commonware_base.specs.Lists.{ItemsFault, IsItemsMemoryFree}
 use Rattle.commonware_base.specs.Refusal.{Refuses}
-use Rattle.commonware_base.specs.RefusalLaws.{refuses_from}
+use Rattle.commonware_base.specs.laws.RefusalLaws.{refuses_from}
 use Rattle.commonware_base.specs.Source.{rest_of}
 use Rattle.commonware_base.proofs.ReadSteps.{ReadSoFar, read_none, read_more, read_all, read_all_writable, read_all_allowed, read_outside, read_faulty, read_wants, list_faulty, list_wants}
 use Rattle.commonware_base.proofs.codec.list.read_list.Goals as goal

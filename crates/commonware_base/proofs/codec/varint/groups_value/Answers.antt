@@ -1,5 +1,5 @@
 use Rattle.std.proofs.Common.{arith, ◌-◌}
-use Rattle.commonware_base.specs.VarintLaws.{groups_sum-drop, sum_before}
+use Rattle.commonware_base.specs.laws.VarintLaws.{groups_sum-drop, sum_before}
 use Rattle.commonware_base.proofs.codec.varint.groups_value.Goals as goal
 
 pub overflow_mul-number : goal.overflow_mul-number

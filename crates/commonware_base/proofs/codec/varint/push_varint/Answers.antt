@@ -1,6 +1,6 @@
 use Rattle.std.proofs.Common.{◌+◌, ◌%◌, ◌++◌, [], ◌∷◌, sym, ◌∙◌, ap}
 use Rattle.std.proofs.lemmas.List.{append-nil, append_assoc}
-use Rattle.commonware_base.specs.VarintLaws.{goes_start, goes_step, goes_end}
+use Rattle.commonware_base.specs.laws.VarintLaws.{goes_start, goes_step, goes_end}
 use Rattle.commonware_base.proofs.codec.varint.push_varint.Goals as goal
 
 pub loop-left-init : goal.loop-left-init

@@ -1,5 +1,5 @@
 use Rattle.std.proofs.Common.{◌≡◌, ℕ, ◌++◌, List}
-use Rattle.commonware_base.specs.VarintLaws.{Goes}
+use Rattle.commonware_base.specs.laws.VarintLaws.{Goes}
 use Rattle.commonware_base.proofs.codec.varint.push_varint.Given as goal
 
 abbrev pub invariant-loop-left : goal.invariant-loop-left

@@ -2,7 +2,7 @@ use Rattle.std.proofs.Common.{◌≡◌, ◌≤◌, take, length, sym, ◌∙◌
 use Rattle.commonware_base.specs.Source.{rest_of}
 use Rattle.commonware_base.specs.Varint.{varint}
 use Rattle.commonware_base.proofs.SourceLemmas.{consumes_front}
-use Rattle.commonware_base.specs.VarintLaws.{varint_only}
+use Rattle.commonware_base.specs.laws.VarintLaws.{varint_only}
 use Rattle.commonware_base.proofs.codec.varint.read_varint.Goals as goal
 
 pub returns-in-Ok-clause-consumed : goal.returns-in-Ok-clause-consumed

@@ -1,5 +1,5 @@
 use Rattle.std.proofs.Common.{arith, get_or, ◌≤◌, ◌≡◌}
-use Rattle.commonware_base.specs.VarintLaws.{bad_zero, bad_fifth, good_at}
+use Rattle.commonware_base.specs.laws.VarintLaws.{bad_zero, bad_fifth, good_at}
 use Rattle.commonware_base.proofs.codec.varint.varint_len.Goals as goal
 
 pub returns-then-i-gt0-clause-refused : goal.returns-then-i-gt0-clause-refused

@@ -1,6 +1,6 @@
 use Rattle.std.proofs.Common.{arith, ◌+◌, ◌%◌, ◌++◌, [], ◌∷◌, length, refl, length-append, ap}
 use Rattle.commonware_base.specs.Varint.{groups}
-use Rattle.commonware_base.specs.VarintLaws.{goes_start, goes_step, goes_end, groups_not_empty, varint-length}
+use Rattle.commonware_base.specs.laws.VarintLaws.{goes_start, goes_step, goes_end, groups_not_empty, varint-length}
 use Rattle.commonware_base.proofs.codec.varint.varint_size.Goals as goal
 
 pub loop-left-init : goal.loop-left-init

@@ -5,7 +5,7 @@ use Rattle.std.specs.Map.{keys_of, values_of}
 use Rattle.std.specs.Option.{option_copied}
 use Rattle.commonware_ordered.specs.Strict.{IsPlaceOf, IsStrict}
 use Rattle.commonware_ordered.specs.Whole.{HasEqualItems}
-use Rattle.commonware_map.specs.LookupLaws.{lookup_none}
+use Rattle.commonware_map.specs.laws.LookupLaws.{lookup_none}
 use Rattle.commonware_bimap.specs.Swapped.{swapped}
 use Rattle.commonware_bimap.proofs.Keys.{found_both_ways, key_at, keys_of-swapped}
 use Rattle.commonware_bimap.proofs.bimap.BiMap.get_key.Goals as goal

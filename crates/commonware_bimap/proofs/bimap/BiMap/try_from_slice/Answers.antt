@@ -1,4 +1,4 @@
-use Rattle.commonware_map.specs.PairLaws.{both_equal}
+use Rattle.commonware_map.specs.laws.PairLaws.{both_equal}
 use Rattle.commonware_bimap.proofs.Refused.{whole_bimap_of_clones}
 use Rattle.commonware_bimap.proofs.bimap.BiMap.try_from_slice.Goals as goal
 

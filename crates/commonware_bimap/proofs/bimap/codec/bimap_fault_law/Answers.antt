@@ -1,4 +1,4 @@
-use Rattle.commonware_bimap.specs.BiMapLaws.{bimap_one_case}
+use Rattle.commonware_bimap.specs.laws.BiMapLaws.{bimap_one_case}
 use Rattle.commonware_bimap.proofs.bimap.codec.bimap_fault_law.Goals as goal
 
 pub returns : goal.returns

@@ -1,6 +1,6 @@
 -- What (n - 1) / 3 is by counting.
 use Rattle.std.proofs.Common.{rules, arith}
-use Rattle.commonware_faults.specs.ToleranceLaws.{fault_tolerance_of, Greatest3-by_any}
+use Rattle.commonware_faults.specs.laws.ToleranceLaws.{fault_tolerance_of, Greatest3-by_any}
 use Rattle.commonware_faults.proofs.faults.N3f1Faults.max_faults.Goals as goal
 
 pub returns-clause-fits : goal.returns-clause-fits

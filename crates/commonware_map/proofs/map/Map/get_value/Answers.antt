@@ -1,6 +1,6 @@
 use Rattle.std.proofs.Common.{subst, ap, sym, ◌∙◌, ◌≡◌, get_or}
 use Rattle.std.specs.Option.{option_copied}
-use Rattle.commonware_map.specs.LookupLaws.{lookup_none}
+use Rattle.commonware_map.specs.laws.LookupLaws.{lookup_none}
 use Rattle.commonware_map.proofs.Lookups.{lookup_at}
 use Rattle.commonware_map.proofs.map.Map.get_value.Goals as goal
 

@@ -1,6 +1,6 @@
 use Rattle.std.proofs.Common.{sym, refl, inl, arith}
 use Rattle.std.proofs.lemmas.Map.Entries.{length-keys_of}
-use Rattle.commonware_map.specs.LookupLaws.{lookup_none}
+use Rattle.commonware_map.specs.laws.LookupLaws.{lookup_none}
 use Rattle.commonware_map.proofs.Lookups.{lookup_at, set_value_at_place}
 use Rattle.commonware_map.proofs.map.Map.get_value_mut.Goals as goal
 

@@ -1,6 +1,6 @@
 use Rattle.std.proofs.Common.{length, ◌+◌, ◌≤◌, vec_len}
 use Rattle.std.specs.Vec.{vec_capacity}
-use Rattle.commonware_base.specs.CallLaws.{CallsSoFar}
+use Rattle.commonware_base.specs.laws.CallLaws.{CallsSoFar}
 use Rattle.commonware_map.specs.ValueMaps.{CalledAtPair}
 use Rattle.commonware_map.proofs.Walked.{IsCounted, pairs_left}
 use Rattle.commonware_map.proofs.map.Map.map_values_into.Given as goal

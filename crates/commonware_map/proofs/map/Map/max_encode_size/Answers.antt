@@ -3,7 +3,7 @@ use Rattle.std.specs.List.{flat_map}
 use Rattle.std.specs.Map.{keys_of, values_of}
 use Rattle.std.proofs.lemmas.Map.Entries.{length-keys_of, length-values_of}
 use Rattle.commonware_base.specs.Varint.{varint, varint_size}
-use Rattle.commonware_base.specs.VarintLaws.{varint-length, varint_size_is}
+use Rattle.commonware_base.specs.laws.VarintLaws.{varint-length, varint_size_is}
 use Rattle.commonware_base.specs.Lists.{list_enc}
 use Rattle.commonware_ordered.proofs.Sizes.{varint_grow, items_length, mul_grow}
 use Rattle.commonware_map.proofs.map.Map.max_encode_size.Given.{Over}

@@ -2,7 +2,7 @@ use Rattle.std.proofs.Common.{length, ap, refl, sym, subst, ◌∙◌, ◌≡◌
 use Rattle.std.specs.Fn.{Called}
 use Rattle.std.specs.List.{AllZip}
 use Rattle.std.specs.Map.{keys_of}
-use Rattle.commonware_base.specs.CallLaws.{so_far_all, so_far_more, so_far_none}
+use Rattle.commonware_base.specs.laws.CallLaws.{so_far_all, so_far_more, so_far_none}
 use Rattle.commonware_map.specs.ValueMaps.{CalledAtRefs, Succeeds}
 use Rattle.commonware_map.proofs.Calls.{as_many, first_error, keys_are, length_clones, ready, values_are}
 use Rattle.commonware_map.proofs.map.Map.try_map_values.Goals as goal

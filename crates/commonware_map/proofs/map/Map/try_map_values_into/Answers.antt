@@ -2,7 +2,7 @@ use Rattle.std.proofs.Common.{length, ap, refl, sym, subst, ◌∙◌, arith}
 use Rattle.std.proofs.lemmas.Map.Entries.{length-keys_of}
 use Rattle.std.specs.Fn.{Called}
 use Rattle.std.specs.Slice.Iter.{iter_rest}
-use Rattle.commonware_base.specs.CallLaws.{so_far_more, so_far_none, takes_next}
+use Rattle.commonware_base.specs.laws.CallLaws.{so_far_more, so_far_none, takes_next}
 use Rattle.commonware_map.specs.ValueMaps.{CalledAtPair, Succeeds, TakesPair}
 use Rattle.commonware_map.proofs.Calls.{as_many, first_error, keys_are, values_are}
 use Rattle.commonware_map.proofs.Walked.{all_called, counted_still, walk_starts, walked_one}

@@ -1,4 +1,4 @@
-use Rattle.commonware_map.specs.MapLaws.{map_one_case}
+use Rattle.commonware_map.specs.laws.MapLaws.{map_one_case}
 use Rattle.commonware_map.proofs.map.codec.map_fault_law.Goals as goal
 
 pub returns : goal.returns

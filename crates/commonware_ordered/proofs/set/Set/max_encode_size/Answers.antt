@@ -1,7 +1,7 @@
 use Rattle.std.proofs.Common.{rules, arith, ◌*◌, ◌+◌, ◌≡◌, ◌∙◌, ◌<◌, ◌^◌, length, length-append, subst, sym}
 use Rattle.std.specs.List.{flat_map}
 use Rattle.commonware_base.specs.Varint.{varint, varint_size}
-use Rattle.commonware_base.specs.VarintLaws.{varint-length, varint_size_is}
+use Rattle.commonware_base.specs.laws.VarintLaws.{varint-length, varint_size_is}
 use Rattle.commonware_base.specs.Lists.{list_enc}
 use Rattle.commonware_ordered.proofs.Sizes.{varint_grow, items_length, mul_grow}
 use Rattle.commonware_ordered.proofs.set.Set.max_encode_size.Given.{Over}

@@ -1,6 +1,6 @@
 -- A fault of the list is one of the set.
 use Rattle.commonware_base.specs.Lists.{ListFault, IsListMemoryFree}
-use Rattle.commonware_base.specs.RefusalLaws.{refuses_from}
+use Rattle.commonware_base.specs.laws.RefusalLaws.{refuses_from}
 use Rattle.commonware_base.specs.Source.{rest_of}
 use Rattle.commonware_ordered.specs.Sets.{SetFault, bad_list}
 use Rattle.commonware_ordered.proofs.set.codec.read_set.Goals as goal

@@ -1,4 +1,4 @@
-use Rattle.commonware_ordered.specs.SetLaws.{set_one_case}
+use Rattle.commonware_ordered.specs.laws.SetLaws.{set_one_case}
 use Rattle.commonware_ordered.proofs.set.codec.set_fault_law.Goals as goal
 
 pub returns : goal.returns

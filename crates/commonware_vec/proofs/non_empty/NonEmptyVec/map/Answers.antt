@@ -1,7 +1,7 @@
 use Rattle.std.proofs.Common.{ap, arith, length, refl}
 use Rattle.std.proofs.lemmas.List.{nil_from_length}
 use Rattle.std.specs.Fn.{CalledAt}
-use Rattle.commonware_base.specs.CallLaws.{length_answers, so_far_all, so_far_more}
+use Rattle.commonware_base.specs.laws.CallLaws.{length_answers, so_far_all, so_far_more}
 use Rattle.commonware_vec.proofs.non_empty.NonEmptyVec.map.Goals as goal
 
 pub loop-item-preserved : goal.loop-item-preserved

@@ -2,7 +2,7 @@ use Rattle.std.proofs.Common.{length, ◌+◌, ◌≤◌, vec_len}
 use Rattle.std.specs.Fn.{CalledAt}
 use Rattle.std.specs.Slice.Iter.{iter_rest}
 use Rattle.std.specs.Vec.{vec_capacity}
-use Rattle.commonware_base.specs.CallLaws.{CallsSoFar}
+use Rattle.commonware_base.specs.laws.CallLaws.{CallsSoFar}
 use Rattle.commonware_vec.proofs.non_empty.NonEmptyVec.map.Given as goal
 
 abbrev pub invariant-loop-item : goal.invariant-loop-item

@@ -1,6 +1,6 @@
 use Rattle.std.proofs.Common.{ap, arith, length, sym, ◌∙◌}
 use Rattle.std.proofs.lemmas.List.{nil_from_length}
-use Rattle.commonware_base.specs.CallLaws.{length_answers, so_far_all, so_far_more}
+use Rattle.commonware_base.specs.laws.CallLaws.{length_answers, so_far_all, so_far_more}
 use Rattle.commonware_vec.specs.Closures.{CalledWith}
 use Rattle.commonware_vec.proofs.non_empty.NonEmptyVec.map_into.Goals as goal
 

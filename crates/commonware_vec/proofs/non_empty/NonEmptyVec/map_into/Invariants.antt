@@ -1,7 +1,7 @@
 use Rattle.std.proofs.Common.{◌≡◌, length, ◌+◌, ◌≤◌, vec_len}
 use Rattle.std.specs.Vec.{vec_capacity}
 use Rattle.std.specs.Vec.Iter.{into_iter_items, into_iter_len}
-use Rattle.commonware_base.specs.CallLaws.{CallsSoFar}
+use Rattle.commonware_base.specs.laws.CallLaws.{CallsSoFar}
 use Rattle.commonware_vec.specs.Closures.{CalledWith}
 use Rattle.commonware_vec.proofs.non_empty.NonEmptyVec.map_into.Given as goal
 

@@ -2,7 +2,7 @@ use Rattle.std.proofs.Common.{◌≡◌, ◌-◌, [], ap, append-nil, arith, len
 use Rattle.std.proofs.lemmas.List.{length-append, length-replicate}
 use Rattle.std.specs.Int.NonZero.{non_zero_usize_get}
 use Rattle.commonware_base.specs.Calls.{CallsGiveAll}
-use Rattle.commonware_base.specs.CallLaws.{length_answers}
+use Rattle.commonware_base.specs.laws.CallLaws.{length_answers}
 use Rattle.commonware_vec.specs.Closures.{CalledWithNothing}
 use Rattle.commonware_vec.proofs.non_empty.NonEmptyVec.resize_with.Goals as goal
 

@@ -1,5 +1,5 @@
 use Rattle.std.proofs.Common.{◌-◌, ◌∷◌, ◌++◌, [], ap, append_assoc, arith, refl, replicate, ◌∙◌}
-use Rattle.commonware_base.specs.CallLaws.{so_far_more}
+use Rattle.commonware_base.specs.laws.CallLaws.{so_far_more}
 use Rattle.commonware_vec.specs.Closures.{CalledWithNothing}
 use Rattle.commonware_vec.proofs.Repeats.{replicate_first}
 use Rattle.commonware_vec.proofs.non_empty.closures.push_answers.Goals as goal

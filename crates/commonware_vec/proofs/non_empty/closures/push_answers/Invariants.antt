@@ -1,6 +1,6 @@
 use Rattle.std.proofs.Common.{◌≡◌, ◌+◌, ◌≤◌, ◌++◌, List, replicate}
 use Rattle.std.specs.Vec.{vec_capacity, vec_len}
-use Rattle.commonware_base.specs.CallLaws.{CallsSoFar}
+use Rattle.commonware_base.specs.laws.CallLaws.{CallsSoFar}
 use Rattle.commonware_vec.specs.Closures.{CalledWithNothing}
 use Rattle.commonware_vec.proofs.non_empty.closures.push_answers.Given as goal
 

@@ -1,5 +1,5 @@
 use Rattle.commonware_base.specs.Range.{as_numbers}
-use Rattle.commonware_vec.specs.NonEmptyLaws.{non_empty_one_case}
+use Rattle.commonware_vec.specs.laws.NonEmptyLaws.{non_empty_one_case}
 use Rattle.commonware_vec.proofs.non_empty.codec.non_empty_fault_law.Goals as goal
 
 pub returns : goal.returns

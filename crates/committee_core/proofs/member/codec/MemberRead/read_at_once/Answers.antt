@@ -1,8 +1,8 @@
 use Rattle.std.proofs.Common.{◌≡◌, ◌*◌, ◌<◌, ◌≤◌, length, arith, true, false}
-use Rattle.commonware_base.specs.ItemsLaws.{each_allowed, items_lack, items_want}
+use Rattle.commonware_base.specs.laws.ItemsLaws.{each_allowed, items_lack, items_want}
 use Rattle.commonware_base.specs.Source.{rest_of}
-use Rattle.commonware_base.specs.SourceLaws.{rest_bytes}
-use Rattle.committee_core.specs.MemberLaws.{member_laws}
+use Rattle.commonware_base.specs.laws.SourceLaws.{rest_bytes}
+use Rattle.committee_core.specs.laws.MemberLaws.{member_laws}
 use Rattle.committee_core.specs.Members.{IsMember, member_bytes, member_fault}
 use Rattle.committee_core.proofs.member.codec.MemberRead.read_at_once.Goals as goal
 

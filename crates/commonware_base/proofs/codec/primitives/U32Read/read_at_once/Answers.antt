@@ -1,9 +1,9 @@
 use Rattle.std.proofs.Common.{◌≡◌, ◌*◌, ◌<◌, ◌≤◌, length, arith, refl, true, false}
-use Rattle.commonware_base.specs.ItemsLaws.{each_allowed, items_lack, items_want}
+use Rattle.commonware_base.specs.laws.ItemsLaws.{each_allowed, items_lack, items_want}
 use Rattle.commonware_base.specs.Source.{rest_of}
-use Rattle.commonware_base.specs.SourceLaws.{rest_bytes}
+use Rattle.commonware_base.specs.laws.SourceLaws.{rest_bytes}
 use Rattle.commonware_base.specs.Words.{word_bytes, IsWord, word_fault}
-use Rattle.commonware_base.specs.WordLaws.{word_laws}
+use Rattle.commonware_base.specs.laws.WordLaws.{word_laws}
 use Rattle.commonware_base.proofs.codec.primitives.U32Read.read_at_once.Goals as goal
 
 pub returns-then-remaining-count-clause-refused : goal.returns-then-remaining-count-clause-refused

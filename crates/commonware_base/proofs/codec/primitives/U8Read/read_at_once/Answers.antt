@@ -1,10 +1,10 @@
 use Rattle.std.proofs.Common.{◌≡◌, ◌<◌, ◌≤◌, length, take, refl, ap, sym, ◌∙◌, arith}
 use Rattle.std.specs.List.{flat_map}
 use Rattle.commonware_base.specs.Bytes.{byte, byte_fault}
-use Rattle.commonware_base.specs.ByteLaws.{byte_laws}
-use Rattle.commonware_base.specs.ItemsLaws.{each_allowed, items_lack, items_want}
+use Rattle.commonware_base.specs.laws.ByteLaws.{byte_laws}
+use Rattle.commonware_base.specs.laws.ItemsLaws.{each_allowed, items_lack, items_want}
 use Rattle.commonware_base.specs.Source.{rest_of}
-use Rattle.commonware_base.specs.SourceLaws.{rest_bytes}
+use Rattle.commonware_base.specs.laws.SourceLaws.{rest_bytes}
 use Rattle.commonware_base.specs.Text.{IsByte}
 use Rattle.commonware_base.proofs.ByteSteps.{byte_short, bytes_join}
 use Rattle.commonware_base.proofs.SourceLemmas.{consumes_front}

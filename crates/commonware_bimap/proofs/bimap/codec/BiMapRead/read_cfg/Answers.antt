@@ -1,7 +1,7 @@
 use Rattle.std.proofs.Common.{refl, subst}
 use Rattle.std.specs.Map.{values_of}
 use Rattle.commonware_base.specs.Lists.{IsListMemoryFree}
-use Rattle.commonware_base.specs.RefusalLaws.{refuses_from}
+use Rattle.commonware_base.specs.laws.RefusalLaws.{refuses_from}
 use Rattle.commonware_base.specs.Source.{rest_of}
 use Rattle.commonware_map.specs.Maps.{MapFault}
 use Rattle.commonware_ordered.specs.Whole.{HasEqualItems, MatchError}

@@ -1,6 +1,6 @@
-use Rattle.commonware_base.specs.CloneLaws.{equal_from_all_zip}
-use Rattle.commonware_map.specs.PairLaws.{both_equal}
-use Rattle.commonware_bimap.specs.BiMapLaws.{repeated_back}
+use Rattle.commonware_base.specs.laws.CloneLaws.{equal_from_all_zip}
+use Rattle.commonware_map.specs.laws.PairLaws.{both_equal}
+use Rattle.commonware_bimap.specs.laws.BiMapLaws.{repeated_back}
 use Rattle.commonware_bimap.proofs.bimap.compare.BiMapClone.clone.Goals as goal
 
 pub invariant_of-result : goal.invariant_of-result

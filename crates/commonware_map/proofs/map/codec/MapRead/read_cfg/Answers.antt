@@ -2,11 +2,11 @@ use Rattle.std.proofs.Common.{◌≡◌, ℕ, ap, length, subst, ◌∙◌}
 use Rattle.commonware_base.specs.Lists.{IsAllowedList, IsListMemoryFree, ListFault, list_enc}
 use Rattle.commonware_base.specs.Range.{Bounds, exactly}
 use Rattle.commonware_base.specs.Refusal.{Refuses}
-use Rattle.commonware_base.specs.RefusalLaws.{refuses_from}
+use Rattle.commonware_base.specs.laws.RefusalLaws.{refuses_from}
 use Rattle.commonware_base.specs.Sequence.{bad_first, bad_second}
 use Rattle.commonware_base.specs.Source.{rest_of}
 use Rattle.commonware_base.specs.Text.{AreBytes}
-use Rattle.commonware_base.specs.TextLaws.{bytes_right}
+use Rattle.commonware_base.specs.laws.TextLaws.{bytes_right}
 use Rattle.commonware_map.specs.Maps.{MapFault}
 use Rattle.commonware_ordered.specs.Sets.{SetFault}
 use Rattle.commonware_map.proofs.MapReads.{accepts_map, as_many, consumes_map, keys_want_memory, rest_bytes}

@@ -1,7 +1,7 @@
 use Rattle.std.proofs.Common.{sym, ap, ◌∙◌, ◌&&◌}
 use Rattle.std.specs.Cmp.Lexicographic.{pointwise}
 use Rattle.std.specs.Map.{values_of}
-use Rattle.commonware_map.specs.PairLaws.{equal_by_parts}
+use Rattle.commonware_map.specs.laws.PairLaws.{equal_by_parts}
 use Rattle.commonware_map.proofs.map.compare.MapPartialEq.eq.Goals as goal
 
 pub returns-then-eq : goal.returns-then-eq

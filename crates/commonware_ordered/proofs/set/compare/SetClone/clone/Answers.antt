@@ -1,5 +1,5 @@
-use Rattle.commonware_base.specs.CloneLaws.{equal_from_all_zip}
-use Rattle.commonware_ordered.specs.StrictLaws.{strict_same}
+use Rattle.commonware_base.specs.laws.CloneLaws.{equal_from_all_zip}
+use Rattle.commonware_ordered.specs.laws.StrictLaws.{strict_same}
 use Rattle.commonware_ordered.proofs.set.compare.SetClone.clone.Goals as goal
 
 pub invariant_of-result : goal.invariant_of-result

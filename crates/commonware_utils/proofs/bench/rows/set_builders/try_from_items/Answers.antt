@@ -4,7 +4,7 @@ use Rattle.std.specs.Iterator.Runs.{YieldsInOrder}
 use Rattle.std.specs.Vec.{vec_len}
 use Rattle.std.specs.Vec.Iter.{into_iter_items, into_iter_len, into_iter_steps}
 use Rattle.std.specs.declared.vec.IntoIter.{IntoIter}
-use Rattle.commonware_ordered.specs.WholeLaws.{whole_set_of_list}
+use Rattle.commonware_ordered.specs.laws.WholeLaws.{whole_set_of_list}
 use Rattle.commonware_utils.proofs.bench.rows.set_builders.try_from_items.Goals as goal
 
 -- what is known of the iterator of a list

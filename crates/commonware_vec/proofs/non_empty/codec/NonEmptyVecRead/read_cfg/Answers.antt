@@ -5,10 +5,10 @@ use Rattle.std.specs.Prelude.{length}
 use Rattle.commonware_base.specs.Lists.{ListFault, IsListMemoryFree}
 use Rattle.commonware_base.specs.Range.{Within, as_numbers}
 use Rattle.commonware_base.specs.Refusal.{Refuses}
-use Rattle.commonware_base.specs.RefusalLaws.{refuses_from}
+use Rattle.commonware_base.specs.laws.RefusalLaws.{refuses_from}
 use Rattle.commonware_base.specs.Source.{rest_of}
 use Rattle.commonware_vec.specs.NonEmpty.{NonEmptyFault, bad_list, no_items}
-use Rattle.commonware_vec.specs.NonEmptyLaws.{begins_empty}
+use Rattle.commonware_vec.specs.laws.NonEmptyLaws.{begins_empty}
 use Rattle.commonware_vec.proofs.non_empty.codec.NonEmptyVecRead.read_cfg.Goals as goal
 
 pub returns-then-is_empty-clause-refused : goal.returns-then-is_empty-clause-refused

@@ -5,7 +5,7 @@ use Rattle.std.proofs.lemmas.Bool.{and_parts, and_from}
 use Rattle.std.proofs.lemmas.List.{append_assoc, append_cancel_left}
 use Rattle.commonware_base.specs.Fault.{Fault}
 use Rattle.commonware_base.specs.Text.{AreBytes, Accepts, IsPrefixFree, ReadLaws, CanonicalLaws}
-use Rattle.commonware_base.specs.TextLaws.{bytes_append, bytes_right}
+use Rattle.commonware_base.specs.laws.TextLaws.{bytes_append, bytes_right}
 use Rattle.commonware_base.specs.Sequence.{sequence_enc, IsWritableSequence, IsAllowedSequence, SequenceFault}
 use Rattle.commonware_base.specs.Sequence.{sequence_case, bad_first, bad_second}
 

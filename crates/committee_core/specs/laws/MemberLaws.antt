@@ -6,7 +6,7 @@ use Rattle.std.proofs.lemmas.Bool.{cases_lt}
 use Rattle.std.proofs.lemmas.Cmp.{nat_list_eq_equiv}
 use Rattle.std.proofs.lemmas.List.{length-append, length-take-le, take-append-drop}
 use Rattle.std.proofs.Math.Seq.{take-append_seam}
-use Rattle.commonware_base.specs.CloneLaws.{equal_from_same}
+use Rattle.commonware_base.specs.laws.CloneLaws.{equal_from_same}
 use Rattle.commonware_base.specs.Fault.{EndOfBuffer}
 use Rattle.commonware_base.specs.Text.{AreBytes, AcceptedOrFaulty, IsPrefixFree, ReadLaws, CanonicalLaws}
 use Rattle.committee_core.specs.Members.{IsMember, member_bytes, member_fault}

@@ -9,7 +9,7 @@ use Rattle.std.proofs.Math.Nat.{pow-succ'}
 use Rattle.std.proofs.Math.Seq.{drop-nil}
 use Rattle.commonware_base.specs.Fault.{Fault, EndOfBuffer, InvalidVarint, InvalidLength, Invalid}
 use Rattle.commonware_base.specs.Text.{AreBytes}
-use Rattle.commonware_base.specs.TextLaws.{bytes_append}
+use Rattle.commonware_base.specs.laws.TextLaws.{bytes_append}
 use Rattle.commonware_base.specs.Varint.{AreContinued, groups_sum, IsVarint, groups, varint, varint_size}
 use Rattle.commonware_base.specs.Varint.{IsTruncated, IsOverlongOrTooGreat, varint_fault}
 

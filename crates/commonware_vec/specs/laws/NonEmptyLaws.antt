@@ -5,9 +5,10 @@ use Rattle.std.specs.Cmp.Lexicographic.{pointwise}
 use Rattle.commonware_base.specs.Range.{Bounds, Within}
 use Rattle.commonware_base.specs.Fault.{Fault}
 use Rattle.commonware_base.specs.Text.{IsPrefixFree, ReadLaws, CanonicalLaws}
-use Rattle.commonware_base.specs.ConditionLaws.{Condition, broken_no_fault, condition_laws}
+use Rattle.commonware_base.specs.laws.ConditionLaws.{Condition, broken_no_fault, condition_laws}
 use Rattle.commonware_base.specs.Lists.{list_enc, IsWritableList, IsAllowedList, ListFault}
-use Rattle.commonware_base.specs.ListLaws.{list_prefix_free, list_laws, list_canonical, pointwise_length, split_count}
+use Rattle.commonware_base.specs.laws.ListLaws.{list_prefix_free, list_laws}
+use Rattle.commonware_base.specs.laws.ListLaws.{list_canonical, pointwise_length, split_count}
 use Rattle.commonware_base.specs.Varint.{varint}
 use Rattle.commonware_vec.specs.NonEmpty.{IsWritableNonEmpty, BeginsEmpty, empty_fault, NonEmptyFault, bad_list}
 use Rattle.commonware_vec.specs.NonEmpty.{no_items, non_empty_case}

@@ -7,21 +7,21 @@ use Rattle.std.specs.Cmp.Lexicographic.{lists_equiv, pointwise}
 use Rattle.std.specs.Ordering.{nat_cmp}
 use Rattle.std.proofs.lemmas.Cmp.{nat_cmp_total}
 use Rattle.commonware_base.specs.Bytes.{byte, byte_fault}
-use Rattle.commonware_base.specs.ByteLaws.{byte_canonical, byte_laws, byte_prefix_free}
+use Rattle.commonware_base.specs.laws.ByteLaws.{byte_canonical, byte_laws, byte_prefix_free}
 use Rattle.commonware_base.specs.Fault.{Fault}
-use Rattle.commonware_base.specs.ListLaws.{list_bytes, list_canonical, list_laws, list_prefix_free}
+use Rattle.commonware_base.specs.laws.ListLaws.{list_bytes, list_canonical, list_laws, list_prefix_free}
 use Rattle.commonware_base.specs.Lists.{list_enc, IsWritableList}
-use Rattle.commonware_base.specs.VecLaws.{vec_of}
-use Rattle.commonware_base.specs.NumberLaws.{number_canonical, number_prefix_free, varint_laws}
+use Rattle.commonware_base.specs.laws.VecLaws.{vec_of}
+use Rattle.commonware_base.specs.laws.NumberLaws.{number_canonical, number_prefix_free, varint_laws}
 use Rattle.commonware_base.specs.Range.{Bounds}
 use Rattle.commonware_base.specs.Sequence.{sequence_case}
-use Rattle.commonware_base.specs.SequenceLaws.{sequence_bytes, sequence_canonical}
-use Rattle.commonware_base.specs.SequenceLaws.{sequence_laws, sequence_one_case, sequence_prefix_free}
+use Rattle.commonware_base.specs.laws.SequenceLaws.{sequence_bytes, sequence_canonical}
+use Rattle.commonware_base.specs.laws.SequenceLaws.{sequence_laws, sequence_one_case, sequence_prefix_free}
 use Rattle.commonware_base.specs.Text.{AreBytes, CanonicalLaws, IsByte, IsPrefixFree, ReadLaws}
 use Rattle.commonware_base.specs.Varint.{varint, varint_fault}
-use Rattle.commonware_base.specs.VarintLaws.{varint_bytes}
+use Rattle.commonware_base.specs.laws.VarintLaws.{varint_bytes}
 use Rattle.commonware_base.specs.Words.{IsWord}
-use Rattle.commonware_ordered.specs.SetLaws.{set_canonical, set_laws, set_prefix_free}
+use Rattle.commonware_ordered.specs.laws.SetLaws.{set_canonical, set_laws, set_prefix_free}
 use Rattle.commonware_ordered.specs.Sets.{IsWritableSet}
 use Rattle.committee_certificates.specs.Certificates.{are_equal_parts, certificate_enc, parts}
 use Rattle.committee_certificates.specs.Certificates.{AreAllowedSigners, IsAllowedCertificate, IsAllowedValue}

@@ -8,12 +8,12 @@ use Rattle.std.specs.declared.cmp.Ordering.{Ordering}
 use Rattle.commonware_base.specs.Range.{Bounds}
 use Rattle.commonware_base.specs.Fault.{Fault}
 use Rattle.commonware_base.specs.Text.{IsPrefixFree, ReadLaws, CanonicalLaws}
-use Rattle.commonware_base.specs.ConditionLaws.{Condition, broken_no_fault, condition_laws}
+use Rattle.commonware_base.specs.laws.ConditionLaws.{Condition, broken_no_fault, condition_laws}
 use Rattle.commonware_base.specs.Lists.{list_enc, IsWritableList, IsAllowedList, ListFault}
-use Rattle.commonware_base.specs.ListLaws.{list_prefix_free, list_laws, list_canonical}
+use Rattle.commonware_base.specs.laws.ListLaws.{list_prefix_free, list_laws, list_canonical}
 use Rattle.commonware_ordered.specs.Sets.{IsWritableSet, BeginsUnsorted, unsorted_fault, SetFault, bad_list, bad_order}
 use Rattle.commonware_ordered.specs.Sets.{set_case}
-use Rattle.commonware_ordered.specs.StrictLaws.{strict_or_not, strict_same}
+use Rattle.commonware_ordered.specs.laws.StrictLaws.{strict_or_not, strict_same}
 
 module _ {T : Type 0} (enc : T → List ℕ) (Writable : T → Type 0) (cmp : T → T → Ordering)
     (prefix_free : IsPrefixFree enc Writable) where

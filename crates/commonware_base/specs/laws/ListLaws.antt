@@ -10,15 +10,15 @@ use Rattle.std.proofs.lemmas.List.{append_assoc, append_cancel_left}
 use Rattle.commonware_base.specs.Fault.{Fault, InvalidLength}
 use Rattle.commonware_base.specs.Text.{AreBytes, Accepts, AcceptedOrFaulty, IsPrefixFree, ReadLaws, CanonicalLaws}
 use Rattle.commonware_base.specs.Range.{Bounds, Within}
-use Rattle.commonware_base.specs.RangeLaws.{within_or_not}
-use Rattle.commonware_base.specs.TextLaws.{bytes_append, bytes_right}
+use Rattle.commonware_base.specs.laws.RangeLaws.{within_or_not}
+use Rattle.commonware_base.specs.laws.TextLaws.{bytes_append, bytes_right}
 use Rattle.commonware_base.specs.Varint.{varint}
 use Rattle.commonware_base.specs.Lists.{list_enc, IsWritableList, IsAllowedList, ListFault, bad_varint, bad_length}
 use Rattle.commonware_base.specs.Lists.{bad_item, list_case, at_varint, at_length, at_item}
 use Rattle.commonware_base.specs.Lists.{IsListMemoryFree, faulty_varint}
 use Rattle.commonware_base.specs.Lists.{outside, empty, first}
-use Rattle.commonware_base.specs.VarintLaws.{varint_split, varint_no_fault, varint_one_fault, varint_or_fault}
-use Rattle.commonware_base.specs.VarintLaws.{varint_bytes}
+use Rattle.commonware_base.specs.laws.VarintLaws.{varint_split, varint_no_fault, varint_one_fault, varint_or_fault}
+use Rattle.commonware_base.specs.laws.VarintLaws.{varint_bytes}
 
 module _ {T : Type 0} (enc : T → List ℕ) (Writable : T → Type 0)
     (prefix_free : IsPrefixFree enc Writable) where

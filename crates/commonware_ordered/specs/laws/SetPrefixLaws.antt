@@ -5,12 +5,12 @@ use Rattle.std.specs.List.{flat_map}
 use Rattle.std.specs.Prelude.{◌↔◌}
 use Rattle.std.specs.declared.cmp.Ordering.{Ordering}
 use Rattle.commonware_base.specs.Fault.{Fault}
-use Rattle.commonware_base.specs.PrefixLaws.{cut, grow, items_short, list_fault_determined}
+use Rattle.commonware_base.specs.laws.PrefixLaws.{cut, grow, items_short, list_fault_determined}
 use Rattle.commonware_base.specs.Prefixes.{IsDeterminedBy}
 use Rattle.commonware_base.specs.Lists.{ListFault, list_enc}
 use Rattle.commonware_base.specs.Range.{Bounds, Within}
 use Rattle.commonware_base.specs.Varint.{varint}
-use Rattle.commonware_base.specs.VarintLaws.{varint-length}
+use Rattle.commonware_base.specs.laws.VarintLaws.{varint-length}
 use Rattle.commonware_ordered.specs.Sets.{BeginsUnsorted, SetFault, bad_list, bad_order}
 
 module _ {T : Type 0} (enc : T → List ℕ) (Writable Allowed : T → Type 0) (cmp : T → T → Ordering)

@@ -7,7 +7,7 @@ use Rattle.std.proofs.lemmas.List.{append_assoc}
 use Rattle.commonware_base.specs.Fault.{Fault, EndOfBuffer}
 use Rattle.commonware_base.specs.Lists.{ItemsFault, IsItemsMemoryFree}
 use Rattle.commonware_base.specs.Text.{AreBytes, AcceptedOrFaulty}
-use Rattle.commonware_base.specs.TextLaws.{bytes_right}
+use Rattle.commonware_base.specs.laws.TextLaws.{bytes_right}
 
 -- of items of which each is allowed, all are
 pub each_allowed : {T : Type 0} (xs : List T) → AllByRecursion (λ (_ : T). Unit {0}) xs

@@ -3,7 +3,7 @@ use Rattle.std.proofs.Common.{◌≡◌, ℕ, zero, suc, ◌+◌, ◌-◌, ◌*�
 use Rattle.std.proofs.Common.{[], ◌∷◌, length, refl, ap, sym, ◌∙◌, arith}
 use Rattle.commonware_faults.specs.Subsets.{size, shared, places, Overlap, OverlapAtLeast}
 use Rattle.commonware_faults.specs.Subsets.{LeastM, IsIn, IsOutside, MeetsOutside}
-use Rattle.commonware_faults.specs.SubsetSizeLaws.{size-le-shared, size-places, shared-places, length-passing}
+use Rattle.commonware_faults.specs.laws.SubsetSizeLaws.{size-le-shared, size-places, shared-places, length-passing}
 
 -- subsets of sizes a and b share at least a + b - n
 pub Overlap-by_size : (n a b k : ℕ) → k + n ≤ a + b → Overlap n a b k

@@ -16,7 +16,7 @@ use Rattle.std.proofs.lemmas.Map.Keys.{apart_from_distinct}
 use Rattle.std.proofs.lemmas.Option.{get_or_from_slice_get, same_Some, slice_get_read, slice_get_within}
 use mathlib.Core.Bool.{true≢false}
 use Rattle.commonware_ordered.specs.Strict.{IsStrict}
-use Rattle.commonware_ordered.specs.StrictLaws.{sorted_from_strict}
+use Rattle.commonware_ordered.specs.laws.StrictLaws.{sorted_from_strict}
 use Rattle.commonware_ordered.specs.Whole.{HasEqualItems}
 
 -- neither part of a false disjunction is true

@@ -12,7 +12,7 @@ use Rattle.commonware_base.specs.Lists.{bad_item}
 use Rattle.commonware_base.specs.Lists.{IsListMemoryFree, faulty_varint, outside, empty, first}
 use Rattle.commonware_base.specs.Range.{Bounds, Within}
 use Rattle.commonware_base.specs.Varint.{IsOverlongOrTooGreat, varint, varint_fault}
-use Rattle.commonware_base.specs.VarintLaws.{varint-length}
+use Rattle.commonware_base.specs.laws.VarintLaws.{varint-length}
 
 -- what is settled holds of the whole exactly where it holds of the prefix
 pub determined_prefix : (bound : ℕ) (P : List ℕ → Type 0) (s prefix : List ℕ)

@@ -5,9 +5,9 @@ use Rattle.std.proofs.lemmas.Bool.{eqb-true, eq-eqb}
 use Rattle.commonware_base.specs.Fault.{Fault, InvalidLength}
 use Rattle.commonware_base.specs.Text.{AreBytes, AcceptedOrFaulty, IsPrefixFree, ReadLaws, CanonicalLaws}
 use Rattle.commonware_base.specs.Range.{Bounds, Within}
-use Rattle.commonware_base.specs.RangeLaws.{within_or_not}
+use Rattle.commonware_base.specs.laws.RangeLaws.{within_or_not}
 use Rattle.commonware_base.specs.Varint.{varint, varint_fault}
-use Rattle.commonware_base.specs.VarintLaws.{varint_split, varint_no_fault, varint_one_fault, varint_or_fault}
+use Rattle.commonware_base.specs.laws.VarintLaws.{varint_split, varint_no_fault, varint_one_fault, varint_or_fault}
 use Rattle.commonware_base.specs.Words.{IsWord}
 use Rattle.commonware_base.specs.Numbers.{NumberFault, invalid_varint, out_of_range}
 

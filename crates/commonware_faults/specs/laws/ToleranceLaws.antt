@@ -6,9 +6,9 @@ use Rattle.std.proofs.lemmas.Nat.{le-div}
 use Rattle.commonware_faults.specs.Counts.{GreatestFit, n3f1_faults, n5f1_faults}
 use Rattle.commonware_faults.specs.Subsets.{shared, places, OverlapAtLeast, GreatestFor, Greatest, Greatest3}
 use Rattle.commonware_faults.specs.Subsets.{Greatest5, LeastM}
-use Rattle.commonware_faults.specs.SubsetLaws.{Overlap-by_size, Overlap-at_ends, Overlap-at_least}
-use Rattle.commonware_faults.specs.SubsetLaws.{MeetsOutside-by_thirds, LeastM-by_double}
-use Rattle.commonware_faults.specs.SubsetSizeLaws.{shared-places, size-le-shared}
+use Rattle.commonware_faults.specs.laws.SubsetLaws.{Overlap-by_size, Overlap-at_ends, Overlap-at_least}
+use Rattle.commonware_faults.specs.laws.SubsetLaws.{MeetsOutside-by_thirds, LeastM-by_double}
+use Rattle.commonware_faults.specs.laws.SubsetSizeLaws.{shared-places, size-le-shared}
 use Rattle.commonware_faults.specs.Tolerance.{IsFaultTolerance}
 
 -- k times g is two of them and the rest

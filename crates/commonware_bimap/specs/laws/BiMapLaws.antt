@@ -10,12 +10,12 @@ use Rattle.std.specs.declared.cmp.Ordering.{Ordering}
 use Rattle.commonware_base.specs.Range.{Bounds}
 use Rattle.commonware_base.specs.Fault.{Fault}
 use Rattle.commonware_base.specs.Text.{IsPrefixFree, ReadLaws, CanonicalLaws}
-use Rattle.commonware_base.specs.ConditionLaws.{Condition, broken_no_fault, condition_laws}
-use Rattle.commonware_ordered.specs.EqualItemLaws.{equal_items_back, equal_items_or_none, equal_items_same}
-use Rattle.commonware_map.specs.MapLaws.{map_canonical, map_laws, map_prefix_free}
+use Rattle.commonware_base.specs.laws.ConditionLaws.{Condition, broken_no_fault, condition_laws}
+use Rattle.commonware_ordered.specs.laws.EqualItemLaws.{equal_items_back, equal_items_or_none, equal_items_same}
+use Rattle.commonware_map.specs.laws.MapLaws.{map_canonical, map_laws, map_prefix_free}
 use Rattle.commonware_map.specs.Maps.{map_enc, IsAllowedMap, IsWritableMap, MapFault}
 use Rattle.commonware_map.specs.Pairs.{are_equal_pairs}
-use Rattle.commonware_map.specs.PairLaws.{equal_by_parts}
+use Rattle.commonware_map.specs.laws.PairLaws.{equal_by_parts}
 use Rattle.commonware_ordered.specs.Whole.{HasEqualItems}
 use Rattle.commonware_bimap.specs.BiMaps.{IsWritableBiMap, BeginsRepeated, repeated_fault, BiMapFault, bad_map}
 use Rattle.commonware_bimap.specs.BiMaps.{bad_values, bimap_case}

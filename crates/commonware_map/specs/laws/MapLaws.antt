@@ -8,16 +8,17 @@ use Rattle.std.specs.declared.cmp.Ordering.{Ordering}
 use Rattle.commonware_base.specs.Range.{Bounds, exactly}
 use Rattle.commonware_base.specs.Fault.{Fault}
 use Rattle.commonware_base.specs.Text.{AreBytes, IsPrefixFree, ReadLaws, CanonicalLaws}
-use Rattle.commonware_base.specs.TextLaws.{prefix_free_on, canonical_on, laws_on}
+use Rattle.commonware_base.specs.laws.TextLaws.{prefix_free_on, canonical_on, laws_on}
 use Rattle.commonware_base.specs.Lists.{list_enc, IsWritableList, IsAllowedList, ListFault}
-use Rattle.commonware_base.specs.ListLaws.{list_prefix_free, list_laws, list_canonical, list_bytes, split_count}
+use Rattle.commonware_base.specs.laws.ListLaws.{list_prefix_free, list_laws, list_canonical, list_bytes, split_count}
 use Rattle.commonware_base.specs.Sequence.{sequence_enc, IsWritableSequence, IsAllowedSequence, sequence_case}
-use Rattle.commonware_base.specs.SequenceLaws.{sequence_bytes, sequence_prefix_free, sequence_canonical, sequence_laws}
-use Rattle.commonware_base.specs.SequenceLaws.{sequence_one_case}
+use Rattle.commonware_base.specs.laws.SequenceLaws.{sequence_bytes, sequence_prefix_free}
+use Rattle.commonware_base.specs.laws.SequenceLaws.{sequence_canonical, sequence_laws}
+use Rattle.commonware_base.specs.laws.SequenceLaws.{sequence_one_case}
 use Rattle.commonware_map.specs.Maps.{columns, map_enc, IsWritableMap, AreAllowedValues, IsAllowedMap, MapFault}
 use Rattle.commonware_map.specs.Pairs.{are_equal_pairs}
-use Rattle.commonware_map.specs.PairLaws.{equal_by_parts}
-use Rattle.commonware_ordered.specs.SetLaws.{set_prefix_free, set_canonical, set_laws}
+use Rattle.commonware_map.specs.laws.PairLaws.{equal_by_parts}
+use Rattle.commonware_ordered.specs.laws.SetLaws.{set_prefix_free, set_canonical, set_laws}
 use Rattle.commonware_ordered.specs.Sets.{IsWritableSet, SetFault}
 
 -- two lists of one length are the columns of a list of pairs

@@ -1,0 +1,16 @@
+pub mod ByteLaws
+pub mod CallLaws
+pub mod CloneLaws
+pub mod ConditionLaws
+pub mod ItemsLaws
+pub mod ListLaws
+pub mod NumberLaws
+pub mod PrefixLaws
+pub mod RangeLaws
+pub mod RefusalLaws
+pub mod SequenceLaws
+pub mod SourceLaws
+pub mod TextLaws
+pub mod VarintLaws
+pub mod VecLaws
+pub mod WordLaws

@@ -1,0 +1,3 @@
+pub mod SubsetLaws
+pub mod SubsetSizeLaws
+pub mod ToleranceLaws

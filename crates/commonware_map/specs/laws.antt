@@ -1,0 +1,3 @@
+pub mod LookupLaws
+pub mod MapLaws
+pub mod PairLaws

@@ -1,0 +1,5 @@
+pub mod EqualItemLaws
+pub mod SetLaws
+pub mod SetPrefixLaws
+pub mod StrictLaws
+pub mod WholeLaws
