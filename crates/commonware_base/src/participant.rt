@@ -121,10 +121,8 @@ impl<A: Allocator> Read<A> for Participant {
     ghost read_laws = { λ _ _. varint_laws };
 
     fn read_cfg(alloc: A, src: &mut Source<'_>, cfg: &()) -> Result<Participant, Error> {
-        match UInt::read_cfg(alloc, src, cfg) {
-            Ok(UInt(index)) => Ok(Participant(index)),
-            Err(error) => Err(error),
-        }
+        let UInt(index) = UInt::read_cfg(alloc, src, cfg)?;
+        Ok(Participant(index))
     }
 }
 

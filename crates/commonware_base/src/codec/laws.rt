@@ -49,8 +49,6 @@ pub fn round_trip<T: Read<A> + Write<A> + Canonical + Drop, A: Allocator + Copy>
         return Err(Error::Memory);
     }
     let mut src = Source::new(&sink);
-    match T::read_cfg(alloc, &mut src, cfg) {
-        Ok(again) => Ok((again, src.remaining())),
-        Err(error) => Err(error),
-    }
+    let again = T::read_cfg(alloc, &mut src, cfg)?;
+    Ok((again, src.remaining()))
 }

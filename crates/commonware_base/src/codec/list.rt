@@ -198,22 +198,16 @@ pub fn read_list<T: Read<A> + Drop, A: Allocator + Copy>(
     ensures stays { OnErr result (src.new ≡ src.old) }
 {
     let mut here = *src;
-    let count = match read_varint(&mut here) {
-        Ok(count) => count as usize,
-        Err(error) => return Err(error),
-    };
+    let count = read_varint(&mut here)?;
+    let count = count as usize;
     if !range.contains(&count) {
         return Err(Error::InvalidLength(count));
     }
     match T::read_at_once(alloc, &mut here, count, item) {
         Some(read) => {
-            return match read {
-                Ok(items) => {
-                    *src = here;
-                    Ok(items)
-                }
-                Err(error) => Err(error),
-            };
+            let items = read?;
+            *src = here;
+            return Ok(items);
         }
         None => {}
     }
@@ -221,15 +215,11 @@ pub fn read_list<T: Read<A> + Drop, A: Allocator + Copy>(
     let stated = Stated { count, bytes };
     let mut items = Vec::new(alloc);
     for _ in 0..count {
-        match T::read_cfg(alloc, &mut here, item) {
-            Ok(value) => {
-                let Ok(more) = put(alloc, items, value, stated, here.remaining()) else {
-                    return Err(Error::Memory);
-                };
-                items = more;
-            }
-            Err(error) => return Err(error),
-        }
+        let value = T::read_cfg(alloc, &mut here, item)?;
+        let Ok(more) = put(alloc, items, value, stated, here.remaining()) else {
+            return Err(Error::Memory);
+        };
+        items = more;
     }
     *src = here;
     Ok(items)

@@ -272,17 +272,13 @@ impl<A: Allocator> Read<A> for usize {
 
     fn read_cfg(_alloc: A, src: &mut Source<'_>, cfg: &RangeCfg<usize>) -> Result<usize, Error> {
         let start = *src;
-        match read_varint(src) {
-            Ok(number) => {
-                let number = number as usize;
-                if cfg.contains(&number) {
-                    return Ok(number);
-                }
-                *src = start;
-                Err(Error::InvalidLength(number))
-            }
-            Err(error) => Err(error),
+        let number = read_varint(src)?;
+        let number = number as usize;
+        if cfg.contains(&number) {
+            return Ok(number);
         }
+        *src = start;
+        Err(Error::InvalidLength(number))
     }
 }
 

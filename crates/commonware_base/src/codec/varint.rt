@@ -74,10 +74,8 @@ impl<A: Allocator> Read<A> for UInt {
         (λ n _ _. (record { 0 = n }, refl)) varint_laws };
 
     fn read_cfg(_alloc: A, src: &mut Source<'_>, _cfg: &()) -> Result<UInt, Error> {
-        match read_varint(src) {
-            Ok(number) => Ok(UInt(number)),
-            Err(error) => Err(error),
-        }
+        let number = read_varint(src)?;
+        Ok(UInt(number))
     }
 }
 
@@ -124,14 +122,10 @@ pub(crate) fn read_varint(src: &mut Source<'_>) -> Result<u32, Error>
     ensures stays { OnErr result (src.new ≡ src.old) }
 {
     let rest = src.rest();
-    match varint_len(rest) {
-        Ok(count) => {
-            let number = groups_value(&rest[..count]);
-            src.advance(count);
-            Ok(number)
-        }
-        Err(error) => Err(error),
-    }
+    let count = varint_len(rest)?;
+    let number = groups_value(&rest[..count]);
+    src.advance(count);
+    Ok(number)
 }
 
 /// Returns the length of the varint at the start of the bytes.
