@@ -4,7 +4,7 @@ use Rattle.std.specs.List.{flat_map}
 use Rattle.commonware_base.specs.Bytes.{byte, byte_fault}
 use Rattle.commonware_base.specs.Fault.{Fault, EndOfBuffer}
 
--- bytes stand for themselves
+-- a byte is its own encoding
 pub bytes_join : (xs : List ℕ) → flat_map byte xs ≡ xs
 bytes_join [] = refl
 bytes_join (x ∷ xs) = ap (λ u. x ∷ u) (bytes_join xs)

@@ -1,4 +1,5 @@
 pub mod ByteSteps
+pub mod Errors
 pub mod ListSteps
 pub mod ReadSteps
 pub mod RoundTrip

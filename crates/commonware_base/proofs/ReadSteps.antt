@@ -82,7 +82,7 @@ module _ {T : Type 0} (enc : T → List ℕ) (Writable Allowed : T → Type 0) (
       faulty = w;
     })
 
-    -- Where some item is read, or the first wants memory, the list wants memory.
+    -- Where some item is read, or reading the first allocates, reading the list allocates.
     pub read_wants : (done : ℕ) (now : Source) (items : List T) → ReadSoFar enc Writable Allowed range count done start now items → 0 < count →
         ((s : List ℕ) (v : T) (r : List ℕ) (f : Fault) → Accepts enc Writable Allowed s v r → item_fault s f → ⊥) →
         (done ≡ 0 → ¬ ItemMemoryFree (rest_of now)) → ¬ IsListMemoryFree item_fault ItemMemoryFree range (rest_of start)
@@ -118,7 +118,7 @@ module _ {T : Type 0} (enc : T → List ℕ) (Writable Allowed : T → Type 0) (
     faulty = w.faulty;
   })
 
-  -- where the items want memory, the list does
+  -- where reading the items allocates, reading the list does
   pub list_wants : ((s : List ℕ) (v : T) (r : List ℕ) (f : Fault) → Accepts enc Writable Allowed s v r → item_fault s f → ⊥) → ¬ IsItemsMemoryFree enc Writable Allowed ItemMemoryFree count (rest_of now) → ¬ IsListMemoryFree item_fault ItemMemoryFree range (rest_of start)
   list_wants accepted_no_fault wants = list_wants_memory item_fault ItemMemoryFree range (rest_of start) count (rest_of now) short (positive count (λ z. wants (inl z))) in_range taken.rest
       (λ free f fault. wants (inr (free, (λ a. accepted_no_fault (rest_of now) a.0 a.1 f a.2 fault))))

@@ -9,7 +9,7 @@ use Rattle.commonware_base.specs.declared.codec.error.Error.{Error}
 use Rattle.commonware_base.specs.declared.codec.error.Error.TheVariants.{EndOfBuffer, InvalidVarint, InvalidLength, Invalid, Memory}
 
 module _ {T : Type 0} (enc : T → List ℕ) (Writable Allowed : T → Type 0) (value : T) (text after : List ℕ) (writable : Writable value) (written : text ≡ enc value ++ after) where
-  -- what is accepted of the bytes of a value is spelled as it is
+  -- what is accepted of the encoding of a value has the same encoding
   same_bytes : IsPrefixFree enc Writable → (again : T) (rest : List ℕ) → Accepts enc Writable Allowed text again rest → enc again ≡ enc value
   same_bytes prefix_free again rest a = prefix_free again value rest after a.writable writable (sym a.begins ∙ written)
 
@@ -28,7 +28,7 @@ module _ {T : Type 0} (enc : T → List ℕ) (Writable Allowed : T → Type 0) (
     no_fault : (f : Fault) → HasFault text f → ⊥
     no_fault f h = laws.accepted_no_fault text value after f (record { writable = writable; allowed = allowed; begins = written }) h
 
-    -- so they are refused for memory alone
+    -- so they are refused only for an allocation failure
     pub only_memory : (free : Type 0) (error : Error) → Refuses (HasFault text) free error → error ≡ Memory
     only_memory free EndOfBuffer h = absurd (no_fault faults.EndOfBuffer h)
     only_memory free InvalidVarint h = absurd (no_fault faults.InvalidVarint h)

@@ -1,11 +1,11 @@
--- A byte, which stands for itself.
+-- A byte, which is its own encoding.
 use Rattle.std.specs.Prelude.{◌≡◌, ℕ, List, [], ◌∷◌}
 use Rattle.commonware_base.specs.Fault.{Fault, EndOfBuffer}
 
--- a byte is its own text
+-- a byte is its own encoding
 abbrev pub byte : ℕ → List ℕ
 byte b = b ∷ []
 
--- what is wrong with a text that should begin with a byte
+-- the fault (decoding error) of an input that should begin with a byte
 abbrev pub byte_fault : List ℕ → Fault → Type 0
 byte_fault s f = (s ≡ []) × (f ≡ EndOfBuffer)

@@ -1,7 +1,8 @@
--- What can be wrong with a text.
+-- Decoding errors: what can be wrong with an input.
 use Rattle.std.specs.Prelude.{ℕ, List}
 
--- The faults of a text, as `Error` names them, with its words as lists of bytes. Want of memory is no fault of a text.
+-- The faults (decoding errors) of an input, as `Error` names them, with its words as lists of bytes. An allocation
+-- failure is no fault of an input.
 pub data Fault : Type 0 where
   EndOfBuffer : Fault
   InvalidVarint : Fault

@@ -20,14 +20,14 @@ pub record IsAllowedList {T : Type 0} (range : Bounds ℕ) (Allowed : T → Type
   pub in_range : Within range (length items)
   pub each : AllByRecursion Allowed items
 
--- The text begins with a length that is out of the range.
+-- The input begins with a length that is out of the range.
 pub record BeginsOutOfRange (range : Bounds ℕ) (text : List ℕ) (count : ℕ) : Type 0 where
   pub rest : List ℕ
   pub short : count < 2 ^ 32
   pub begins : text ≡ varint count ++ rest
   pub outside : ¬ Within range count
 
--- The text begins with a length, then come fewer items than that, and then a fault of an item.
+-- The input begins with a length, then come fewer items than that, and then a fault of an item.
 pub record BeginsWithFaultyItem {T : Type 0} (enc : T → List ℕ) (Writable Allowed : T → Type 0)
     (item_fault : List ℕ → Fault → Type 0) (range : Bounds ℕ) (text : List ℕ) (fault : Fault) : Type 0 where
   pub count : ℕ
@@ -41,7 +41,7 @@ pub record BeginsWithFaultyItem {T : Type 0} (enc : T → List ℕ) (Writable Al
   pub allowed : AllByRecursion Allowed items
   pub faulty : item_fault rest fault
 
--- What is wrong with a text that should begin with a list: its length's spelling, its length, or an item.
+-- The fault of an input that should begin with a list: of its length's varint, of its length, or of an item.
 pub data ListFault {T : Type 0} (enc : T → List ℕ) (Writable Allowed : T → Type 0)
     (item_fault : List ℕ → Fault → Type 0) (range : Bounds ℕ) (text : List ℕ) (fault : Fault) : Type 0 where
   bad_varint : varint_fault text fault → ListFault enc Writable Allowed item_fault range text fault
@@ -50,13 +50,13 @@ pub data ListFault {T : Type 0} (enc : T → List ℕ) (Writable Allowed : T →
   bad_item : BeginsWithFaultyItem enc Writable Allowed item_fault range text fault
       → ListFault enc Writable Allowed item_fault range text fault
 
--- The cuts at which a text that should begin with a list can be faulty.
+-- The error cases of an input that should begin with a list.
 pub data ListCase : Type 0 where
   at_varint : ListCase
   at_length : ListCase
   at_item : ListCase
 
--- the cut of a fault
+-- the error case of a fault
 abbrev pub list_case :
     {T : Type 0} {enc : T → List ℕ} {Writable Allowed : T → Type 0} {item_fault : List ℕ → Fault → Type 0}
     {range : Bounds ℕ} {text : List ℕ} {fault : Fault} → ListFault enc Writable Allowed item_fault range text fault
@@ -65,7 +65,8 @@ list_case (bad_varint w) = at_varint
 list_case (bad_length count same w) = at_length
 list_case (bad_item w) = at_item
 
--- A list is read or refused with no memory where its length is wrong or 0, or where its first item is refused so.
+-- A list is decoded or refused without an allocation where its length is wrong or 0, or where its first item is refused
+-- so.
 pub data IsListMemoryFree (item_fault : List ℕ → Fault → Type 0) (ItemMemoryFree : List ℕ → Type 0) (range : Bounds ℕ)
     (text : List ℕ) : Type 0 where
   faulty_varint : (fault : Fault) → varint_fault text fault → IsListMemoryFree item_fault ItemMemoryFree range text
@@ -74,7 +75,7 @@ pub data IsListMemoryFree (item_fault : List ℕ → Fault → Type 0) (ItemMemo
   first : (count : ℕ) (rest : List ℕ) (fault : Fault) → count < 2 ^ 32 → text ≡ varint count ++ rest
       → ItemMemoryFree rest → item_fault rest fault → IsListMemoryFree item_fault ItemMemoryFree range text
 
--- Fewer than `count` items come, and then a text with a fault of an item.
+-- Fewer than `count` items come, and then bytes with a fault of an item.
 pub record ItemsFault {T : Type 0} (enc : T → List ℕ) (Writable Allowed : T → Type 0)
     (item_fault : List ℕ → Fault → Type 0) (count : ℕ) (text : List ℕ) (fault : Fault) : Type 0 where
   pub items : List T
@@ -85,8 +86,8 @@ pub record ItemsFault {T : Type 0} (enc : T → List ℕ) (Writable Allowed : T 
   pub allowed : AllByRecursion Allowed items
   pub faulty : item_fault rest fault
 
--- `count` items are read or refused with no memory where they are none, or where no item comes first and that is found
--- with no memory.
+-- `count` items are decoded or refused without an allocation where `count` is 0, or where no item comes first and that
+-- is found without an allocation.
 abbrev pub IsItemsMemoryFree : {T : Type 0} → (T → List ℕ) → (T → Type 0) → (T → Type 0) → (List ℕ → Type 0) → ℕ
     → List ℕ → Type 0
 IsItemsMemoryFree {T} enc Writable Allowed ItemMemoryFree count text =

@@ -5,7 +5,7 @@ use Rattle.commonware_base.specs.Range.{Bounds}
 use Rattle.commonware_base.specs.Lists.{BeginsOutOfRange}
 use Rattle.commonware_base.specs.Varint.{varint_fault}
 
--- what is wrong with a text that should begin with a number in a range
+-- the fault of an input that should begin with a number in a range
 pub data NumberFault (range : Bounds ℕ) (text : List ℕ) (fault : Fault) : Type 0 where
   invalid_varint : varint_fault text fault → NumberFault range text fault
   out_of_range : (n : ℕ) → fault ≡ InvalidLength n → BeginsOutOfRange range text n → NumberFault range text fault

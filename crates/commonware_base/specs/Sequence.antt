@@ -1,4 +1,4 @@
--- Sequential composition: the text of one value and then that of another, whose limits may go by the first.
+-- Sequential composition: the encoding of one value and then that of another, whose limits may depend on the first.
 use Rattle.std.specs.Prelude.{ℕ, List, ◌++◌}
 use Rattle.commonware_base.specs.Fault.{Fault}
 use Rattle.commonware_base.specs.Text.{Accepts}
@@ -15,8 +15,8 @@ IsWritableSequence First Second p = First p.0 × Second p.1
 abbrev pub IsAllowedSequence : {X Y : Type 0} → (X → Type 0) → (X → Y → Type 0) → X × Y → Type 0
 IsAllowedSequence First Second p = First p.0 × Second p.0 p.1
 
--- What is wrong with a text that should begin with two values: the fault of the first; or, after one that is accepted,
--- that of the second.
+-- The fault of an input that should begin with two values: the fault of the first; or, after one that is accepted, that
+-- of the second.
 pub data SequenceFault {X : Type 0} (first_enc : X → List ℕ) (FirstWritable FirstAllowed : X → Type 0)
     (first_fault : List ℕ → Fault → Type 0) (second_fault : X → List ℕ → Fault → Type 0) (text : List ℕ) (fault : Fault)
     : Type 0 where
@@ -26,12 +26,12 @@ pub data SequenceFault {X : Type 0} (first_enc : X → List ℕ) (FirstWritable 
       → second_fault x rest fault → SequenceFault first_enc FirstWritable FirstAllowed first_fault second_fault text
       fault
 
--- The cuts at which a text that should begin with two values can be faulty.
+-- The error cases of an input that should begin with two values.
 pub data SequenceCase : Type 0 where
   at_first : SequenceCase
   at_second : SequenceCase
 
--- the cut of a fault
+-- the error case of a fault
 abbrev pub sequence_case :
     {X : Type 0} {first_enc : X → List ℕ} {FirstWritable FirstAllowed : X → Type 0}
     {first_fault : List ℕ → Fault → Type 0} {second_fault : X → List ℕ → Fault → Type 0} {text : List ℕ} {fault : Fault}

@@ -14,7 +14,7 @@ position_of source = source.position
 abbrev pub rest_of : Source → List ℕ
 rest_of source = drop source.position source.bytes.now
 
--- From old to new exactly this text was taken: what was left is the text, and then what is left now.
+-- From old to new exactly these bytes were taken: what was left is these bytes, and then what is left now.
 pub record Consumes (old new : Source) (text : List ℕ) : Type 0 where
   pub bytes : bytes_of new ≡ bytes_of old
   pub position : position_of new ≡ position_of old + length text

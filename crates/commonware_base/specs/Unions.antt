@@ -1,4 +1,4 @@
--- A message with its namespace, as one text.
+-- A message with its namespace, as one list of bytes.
 use Rattle.std.specs.Prelude.{◌++◌, ℕ, List, length}
 use Rattle.commonware_base.specs.Varint.{varint}
 

@@ -1,4 +1,4 @@
--- How a number below 2 ^ 32 is spelled: in groups of seven bits, the lowest first.
+-- The varint encoding of a number below 2 ^ 32: groups of seven bits, the lowest first.
 use Rattle.std.specs.Prelude.{◌≡◌, ℕ, zero, suc, ◌+◌, ◌*◌, ◌/◌, ◌%◌, ◌^◌, ◌<◌, ◌≤◌, List, [], ◌∷◌, ◌++◌, length, nat_lt}
 use Rattle.std.specs.Prelude.{if◌then◌else◌, ◌⊎◌}
 use Rattle.std.specs.List.{AllByRecursion}
@@ -17,7 +17,7 @@ abbrev pub groups_sum : List ℕ → ℕ
 groups_sum [] = 0
 groups_sum (b ∷ bytes) = b % 128 + 128 * groups_sum bytes
 
--- The bytes spell the number: each byte but the last is at least 128, the last is below 128 and is 0
+-- The bytes encode the number: each byte but the last is at least 128, the last is below 128 and is 0
 -- only where it is alone, and there are at most five.
 pub record IsVarint (number : ℕ) (bytes : List ℕ) : Type 0 where
   pub prefix : List ℕ
@@ -35,11 +35,11 @@ abbrev pub groups : ℕ → ℕ → List ℕ
 groups zero n = n ∷ []
 groups (suc more) n = if nat_lt n 128 then n ∷ [] else (n % 128 + 128) ∷ groups more (n / 128)
 
--- The bytes that spell a number below 2 ^ 32.
+-- The varint encoding of a number below 2 ^ 32.
 unfoldable pub varint : ℕ → List ℕ
 varint n = groups 4 n
 
--- How many bytes spell a number below 2 ^ 32: the length of `varint`, which a caller at a number can compute.
+-- The length of the varint encoding of a number below 2 ^ 32, which a caller at a number can compute.
 abbrev pub varint_size : ℕ → ℕ
 varint_size n = length (groups 4 n)
 
@@ -48,7 +48,7 @@ pub record IsTruncated (text : List ℕ) : Type 0 where
   pub high : AreContinued text
   pub short : length text ≤ 4
 
--- The text begins with 2 to 5 bytes of which all but the last are at least 128 and the last is 0, or with
+-- The input begins with 2 to 5 bytes of which all but the last are at least 128 and the last is 0, or with
 -- four bytes of at least 128 and then one above 15.
 pub record IsOverlongOrTooGreat (text : List ℕ) : Type 0 where
   pub prefix : List ℕ
@@ -58,7 +58,7 @@ pub record IsOverlongOrTooGreat (text : List ℕ) : Type 0 where
   pub high : AreContinued prefix
   pub wrong : ((last ≡ 0) × (0 < length prefix) × (length prefix ≤ 4)) ⊎ ((length prefix ≡ 4) × (15 < last))
 
--- what is wrong with a text that should begin with a number
+-- the fault of an input that should begin with a number
 abbrev pub varint_fault : List ℕ → Fault → Type 0
 varint_fault text EndOfBuffer = IsTruncated text
 varint_fault text InvalidVarint = IsOverlongOrTooGreat text

@@ -1,4 +1,4 @@
--- A word, which is written as four bytes, the highest first.
+-- A word, which is encoded as four bytes, the highest first.
 use Rattle.std.specs.Prelude.{◌≡◌, ℕ, ◌<◌, ◌^◌, List, length}
 use Rattle.std.specs.Int.{w32, to_be_bytes}
 use Rattle.commonware_base.specs.Fault.{Fault, EndOfBuffer}

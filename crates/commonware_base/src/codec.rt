@@ -1,9 +1,9 @@
-//! Byte forms with laws: what is written, what is accepted, and the first fault of every other
-//! text.
+//! Encodings with laws: the bytes that are written, the inputs that are accepted, and the first
+//! fault (the decoding error) of every other input.
 //!
-//! A type says what its bytes are (`EncodeSize`), how they are appended (`Write`) and how they are
-//! read (`Read`). Each of these traits carries its laws, so generic code over them is proved once
-//! for every type that keeps them.
+//! A type says what its encoding is (`EncodeSize`), how it is appended (`Write`) and how it is
+//! decoded (`Read`). Each of these traits carries its laws, so generic code over them is proved
+//! once for every type that keeps them.
 
 mod config;
 mod error;

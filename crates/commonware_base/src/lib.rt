@@ -1,5 +1,5 @@
-//! What the ordered collections, quorums and certificates stand on: byte forms with laws,
-//! participants, clones that equal their source, collecting that may be refused.
+//! What the ordered collections, quorums and certificates are built on: encodings with laws,
+//! participants, clones that equal their source, and collecting that may fail.
 #![tactic(auto)]
 
 pub mod codec;

@@ -14,7 +14,8 @@ use std::alloc::{AllocError, Allocator};
 use std::fmt;
 use std::marker::Model;
 
-/// The index of a participant in an ordered committee, from 0. It is written as a varint.
+/// The index of a participant in an ordered committee, from 0. It is encoded as a varint:
+/// `Participant::new(128)` as `[0x80, 0x01]`.
 #[derive(Clone, Copy, Debug, Default, PartialEq, Eq, PartialOrd, Ord, Hash)]
 pub struct Participant(u32);
 
@@ -29,14 +30,14 @@ impl Model for Participant {
 }
 
 impl Participant {
-    /// The participant of an index.
+    /// Returns the participant of an index.
     pub fn new(index: u32) -> Self
         ensures { result ≡ index }
     {
         Participant(index)
     }
 
-    /// The participant of an index, which is at most 4294967295.
+    /// Returns the participant of an index. It requires that the index is at most 4294967295.
     pub fn from_usize(index: usize) -> Self
         requires { index < 2 ^ 32 }
         ensures { result ≡ index }
@@ -44,7 +45,7 @@ impl Participant {
         Participant(index as u32)
     }
 
-    /// The index.
+    /// Returns the index.
     pub fn get(self) -> u32
         ensures { result ≡ self }
     {
@@ -87,7 +88,8 @@ impl EncodeSize for Participant {
     }
 
     fn is_writable(&self) -> bool {
-        // What is read is known to be in the range of its type, so it is writable.
+        // The prover knows the range of a value only once the body reads it: each value in the
+        // range of its type is writable.
         let _index = self.0;
         true
     }
@@ -119,10 +121,8 @@ impl<A: Allocator> Read<A> for Participant {
     ghost read_laws = { λ _ _. varint_laws };
 
     fn read_cfg(alloc: A, src: &mut Source<'_>, cfg: &()) -> Result<Participant, Error> {
-        match UInt::read_cfg(alloc, src, cfg) {
-            Ok(UInt(index)) => Ok(Participant(index)),
-            Err(error) => Err(error),
-        }
+        let UInt(index) = UInt::read_cfg(alloc, src, cfg)?;
+        Ok(Participant(index))
     }
 }
 

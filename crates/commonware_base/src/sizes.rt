@@ -1,4 +1,4 @@
-//! Sizes: the larger of two, and the largest of an allocation.
+//! Sizes: the larger of two, and the largest of one allocation.
 ghost use Rattle.std.specs.Prelude.{◌≡◌};
 ghost use Rattle.std.specs.Prelude.{max as larger};
 
@@ -10,7 +10,7 @@ pub fn max_allocation_law()
     ensures { MAX_ALLOCATION_BYTES ≡ 9223372036854775807 }
 {}
 
-/// The larger of two sizes.
+/// Returns the larger of two sizes.
 pub fn max(a: usize, b: usize) -> usize
     ensures { result ≡ larger a b }
 {

@@ -1,22 +1,22 @@
-//! Collections that are made from an iterator, or refused.
+//! Collections that are made from an iterator, or an error.
 ghost use Rattle.std.specs.Prelude.{Bool, IfErr, IfOk, List};
 ghost use Rattle.std.specs.Iterator.{IsFinite, IsFiniteIterable};
 ghost use Rattle.commonware_base.specs.Taken.{IsMadeFrom, IsMadeOf, IsRefusalFrom, IsRefusalOf};
 
 /// A collection that an iterator may be collected into. Each implementation says what it makes of
-/// the items, and why it refuses.
+/// the items, and which error it returns.
 pub trait TryFromIterator<T, A>: Sized {
-    /// Why a collection was refused.
+    /// Why no collection was made.
     type Error;
 
     /// Holds of all the items of an iterator, and the collection that is made of them.
     ghost collects: { List T → Self → Type 0 };
 
-    /// Holds of the items that were drawn, whether the iterator ended after them, and the refusal.
+    /// Holds of the items that were drawn, whether the iterator ended after them, and the error.
     ghost refuses: { List T → Bool → Self.Error → Type 0 };
 
-    /// The collection of all the items, or a refusal. The iterator has to end. It may be given up
-    /// before its end only where the answer is a refusal.
+    /// Returns the collection of all the items, or an error. It requires that the iterator ends. It
+    /// may stop before the iterator's end only where it returns an error.
     fn try_from_iter<I: IntoIterator<Item = T>>(alloc: A, iter: I) -> Result<Self, Self::Error>
         requires { IsFiniteIterable I.into_iter_gives I.IntoIter.can_next
             I.IntoIter.remaining iter }
@@ -25,10 +25,10 @@ pub trait TryFromIterator<T, A>: Sized {
             (IsRefusalOf I.into_iter_gives I.IntoIter.next_gives iter refuses) };
 }
 
-/// Collecting what may be refused, for every iterator. It is called by its path, as std's
-/// `Iterator` has a method of that name.
+/// Collecting that may fail, for every iterator. It is called by its path, as std's `Iterator` has
+/// a method of that name.
 pub trait TryCollect: Iterator + Sized {
-    /// What `C::try_from_iter` answers for the iterator, which has to end.
+    /// Returns what `C::try_from_iter` returns for the iterator, which has to end.
     fn try_collect<C: TryFromIterator<Self::Item, A>, A>(self, alloc: A) -> Result<C, C::Error>
         requires can { Self.can_next self }
         requires finite { IsFinite (Self.remaining self) }

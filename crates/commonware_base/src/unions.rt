@@ -1,11 +1,11 @@
-//! Two texts of bytes as one, and a message with its namespace.
+//! Two lists of bytes as one, and a message with its namespace.
 ghost use Rattle.std.specs.Prelude.{◌≡◌, ◌<◌, ◌^◌, ◌++◌, ℕ, List, IfOk, length};
 ghost use Rattle.commonware_base.specs.Unions.{union_text};
 
 use crate::codec::{EncodeSize, UInt, Write};
 use std::alloc::{AllocError, Allocator};
 
-/// The bytes of `a`, followed by those of `b`.
+/// Returns the bytes of `a`, followed by those of `b`.
 pub fn union<A: Allocator>(alloc: A, a: &[u8], b: &[u8]) -> Result<Vec<u8, A>, AllocError>
     ensures { IfOk result (λ v. v.items ≡ a.now ++ b.now) }
 {
@@ -15,10 +15,10 @@ pub fn union<A: Allocator>(alloc: A, a: &[u8], b: &[u8]) -> Result<Vec<u8, A>, A
     Ok(union)
 }
 
-/// The length of the namespace as a varint, the namespace, and the message. The namespace has at
-/// most 4294967295 bytes.
+/// Returns the length of the namespace as a varint, the namespace, and the message. It requires
+/// that the namespace has at most 4294967295 bytes.
 ///
-/// No other pair of a namespace and a message has these bytes.
+/// No other pair of a namespace and a message has these bytes: the encoding separates domains.
 pub fn union_unique<A: Allocator>(
     alloc: A,
     namespace: &[u8],

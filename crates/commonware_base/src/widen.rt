@@ -8,7 +8,7 @@ use std::num::{NonZeroU8, NonZeroU16, NonZeroU32, NonZeroU64};
 ///
 /// Each implementation says which numbers its values and those of `T` are seen as. So a generic
 /// caller learns that both are the same in the eyes of the implementation, and no more. The
-/// fourteen that stand here see each value as the number that it is.
+/// fourteen implementations here see each value as the number that it is.
 pub trait Widen<T> {
     /// The number that a value is.
     ghost number: { Self → ℕ };

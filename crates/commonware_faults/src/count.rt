@@ -7,7 +7,7 @@ pub trait Count: Drop {
     /// The number that a value is.
     ghost number: { Self → ℤ };
 
-    /// The number, where it is from 0 to `u32::MAX`; else `None`.
+    /// Returns the number, where it is from 0 to `u32::MAX`; else `None`.
     fn to_u32(self) -> Option<u32>
         ensures { SomeIff result (IsU32 (number self)) (amount (number self)) };
 }

@@ -1,9 +1,10 @@
 //! Fault models of consensus: how many of n participants may be faulty, and how many make a quorum.
 //!
-//! A model answers for every number of participants from 1 to `u32::MAX`, given as a whole number
-//! of any type. No call takes memory. What the numbers of `N3f1` and `N5f1` mean is said by
-//! counting: of any two subsets of the participants of such a size, how many participants do they
-//! share?
+//! A model is defined for every number of participants from 1 to `u32::MAX`, given as a whole
+//! number of any type. No call allocates. What the numbers of `N3f1` and `N5f1` mean is said by
+//! quorum intersection: how many participants any two subsets of such sizes share. That a quorum
+//! overlaps another outside every set of f Byzantine participants is what the safety of a protocol
+//! rests on.
 ghost use Rattle.std.specs.Prelude.{◌≡◌, ℕ, ◌+◌, ◌-◌, ◌*◌, ◌/◌, ◌^◌, ◌<◌, ◌≤◌};
 ghost use Rattle.std.proofs.Common.{arith};
 ghost use Rattle.commonware_faults.specs.Counts.{IsCommitteeSize, GreatestFit, amount, n3f1_faults, n5f1_faults};
@@ -17,14 +18,15 @@ pub trait Faults {
     /// How many of n participants may be faulty.
     ghost faults: { ℕ → ℕ };
 
-    /// How many of `n` participants may be faulty. `n` is from 1 to `u32::MAX`.
+    /// Returns how many of `n` participants may be faulty. It requires that `n` is from 1 to
+    /// `u32::MAX`.
     fn max_faults<N: Count>(n: N) -> u32
         requires { IsCommitteeSize (N.number n) }
         ensures faults { result ≡ faults (amount (N.number n)) }
         ensures at_most { result ≤ amount (N.number n) };
 
-    /// How many of `n` participants make a quorum: all but as many as may be faulty. `n` is from 1
-    /// to `u32::MAX`.
+    /// Returns how many of `n` participants make a quorum: all but as many as may be faulty. It
+    /// requires that `n` is from 1 to `u32::MAX`.
     fn quorum<N: Count>(n: N) -> u32
         requires { IsCommitteeSize (N.number n) }
         ensures { result + faults (amount (N.number n)) ≡ amount (N.number n) }
@@ -37,8 +39,9 @@ pub trait Faults {
     ghost at_most: { (n : ℕ) → 1 ≤ n → n < 2 ^ 32 → faults n ≤ n };
 }
 
-/// The model that needs `n >= 3f + 1` participants for f faults: any two quorums share one that
-/// isn't faulty. Among 6 participants one may be faulty and 5 are a quorum; among 100, 33 and 67.
+/// The model that needs `n >= 3f + 1` participants for f faulty (Byzantine) ones: any two quorums
+/// share one that isn't faulty. Among 6 participants one may be faulty and 5 are a quorum; among
+/// 100, 33 and 67.
 #[derive(Clone, Copy, Debug, Default, PartialEq, Eq)]
 pub struct N3f1;
 
@@ -47,8 +50,9 @@ impl Faults for N3f1 {
 
     ghost at_most = { λ n h k. Prim.omega arith };
 
-    /// The greatest f for which `3f + 1` is at most `n`, which is the greatest f for which any two
-    /// subsets of n - f participants share at least f + 1. `n` is from 1 to `u32::MAX`.
+    /// Returns the greatest f for which `3f + 1` is at most `n`, which is the greatest f for which
+    /// any two subsets of n - f participants share at least f + 1. It requires that `n` is from 1
+    /// to `u32::MAX`.
     fn max_faults<N: Count>(n: N) -> u32
         requires { IsCommitteeSize (N.number n) }
         ensures faults { result ≡ (amount (N.number n) - 1) / 3 }
@@ -61,8 +65,8 @@ impl Faults for N3f1 {
         (total - 1) / 3
     }
 
-    /// All but `max_faults(n)`. Two quorums share a participant outside any subset of at most so
-    /// many. `n` is from 1 to `u32::MAX`.
+    /// Returns `n - max_faults(n)`. Two quorums share a participant outside any subset of at most
+    /// `max_faults(n)`. It requires that `n` is from 1 to `u32::MAX`.
     fn quorum<N: Count>(n: N) -> u32
         requires { IsCommitteeSize (N.number n) }
         ensures value { result + n3f1_faults (amount (N.number n)) ≡ amount (N.number n) }
@@ -74,9 +78,9 @@ impl Faults for N3f1 {
     }
 }
 
-/// The model that needs `n >= 5f + 1` participants for f faults, with a larger and a smaller
-/// quorum. Among 10 participants one may be faulty, 9 are the larger quorum and 3 the smaller one;
-/// among 100, 19, 81 and 39.
+/// The model that needs `n >= 5f + 1` participants for f faulty (Byzantine) ones, with a larger and
+/// a smaller quorum. Among 10 participants one may be faulty, 9 are the larger quorum and 3 the
+/// smaller one; among 100, 19, 81 and 39.
 #[derive(Clone, Copy, Debug, Default, PartialEq, Eq)]
 pub struct N5f1;
 
@@ -85,8 +89,9 @@ impl Faults for N5f1 {
 
     ghost at_most = { λ n h k. Prim.omega arith };
 
-    /// The greatest f for which `5f + 1` is at most `n`, which is the greatest f for which any two
-    /// subsets of n - f participants share at least 3f + 1. `n` is from 1 to `u32::MAX`.
+    /// Returns the greatest f for which `5f + 1` is at most `n`, which is the greatest f for which
+    /// any two subsets of n - f participants share at least 3f + 1. It requires that `n` is from 1
+    /// to `u32::MAX`.
     fn max_faults<N: Count>(n: N) -> u32
         requires { IsCommitteeSize (N.number n) }
         ensures faults { result ≡ (amount (N.number n) - 1) / 5 }
@@ -99,8 +104,8 @@ impl Faults for N5f1 {
         (total - 1) / 5
     }
 
-    /// All but `max_faults(n)`. Two quorums share a participant outside any subset of at most so
-    /// many. `n` is from 1 to `u32::MAX`.
+    /// Returns `n - max_faults(n)`. Two quorums share a participant outside any subset of at most
+    /// `max_faults(n)`. It requires that `n` is from 1 to `u32::MAX`.
     fn quorum<N: Count>(n: N) -> u32
         requires { IsCommitteeSize (N.number n) }
         ensures value { result + n5f1_faults (amount (N.number n)) ≡ amount (N.number n) }
@@ -113,7 +118,8 @@ impl Faults for N5f1 {
 }
 
 impl N5f1 {
-    /// The larger quorum of `n` participants, which is `quorum(n)`. `n` is from 1 to `u32::MAX`.
+    /// Returns the larger quorum of `n` participants, which is `quorum(n)`. It requires that `n` is
+    /// from 1 to `u32::MAX`.
     pub fn l_quorum<N: Count>(n: N) -> u32
         requires { IsCommitteeSize (N.number n) }
         ensures { result + n5f1_faults (amount (N.number n)) ≡ amount (N.number n) }
@@ -121,8 +127,9 @@ impl N5f1 {
         Self::quorum(n)
     }
 
-    /// The smaller quorum of `n` participants, `2f + 1` for f faults: the least size whose subsets
-    /// share at least f + 1 participants with each larger quorum. `n` is from 1 to `u32::MAX`.
+    /// Returns the smaller quorum of `n` participants, `2f + 1` for f faults: the least size whose
+    /// subsets share at least f + 1 participants with each larger quorum. It requires that `n` is
+    /// from 1 to `u32::MAX`.
     pub fn m_quorum<N: Count>(n: N) -> u32
         requires { IsCommitteeSize (N.number n) }
         ensures value { result ≡ 2 * n5f1_faults (amount (N.number n)) + 1 }

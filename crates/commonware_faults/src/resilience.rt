@@ -12,7 +12,7 @@ use crate::faults::{Faults, N3f1, N5f1};
 /// A fault model whose number of faults is the greatest f for which kf + 1 is at most n. All that
 /// `resilience_law` says holds of it.
 ///
-/// A model of yours becomes one by naming its k and proving the one law:
+/// A model of your own becomes one by naming its k and proving the one law:
 ///
 /// ```text
 /// impl Resilience for N4f1 {
@@ -41,9 +41,9 @@ impl Resilience for N5f1 {
     ghost divides = { (Prim.omega arith, λ n h l. refl) };
 }
 
-/// What any two quorums share in every model, one of your own among them: n - 2f, and no greater
-/// number is always shared. Where 3f + 1 is at most n, they share a participant outside any subset
-/// of at most f.
+/// Quorum intersection: what any two quorums share in every model, one of your own among them. They
+/// share n - 2f, and no greater number is always shared. Where 3f + 1 is at most n, they share a
+/// participant outside any subset of at most f.
 pub fn overlap_law<M: Faults>()
     ensures shares { (n : ℕ) → let f = M.faults n in OverlapAtLeast n (n - f) (n - f) (n - 2 * f) }
     ensures most { (n : ℕ) → 1 ≤ n → n < 2 ^ 32 → (s : ℕ) → let f = M.faults n in
@@ -58,7 +58,7 @@ pub fn resilience_law<M: Resilience>()
     ensures { (n : ℕ) → 1 ≤ n → n < 2 ^ 32 → IsFaultTolerance M.factor n (M.faults n) }
 {}
 
-/// What is so of every k from 2 on, whatever any model answers: (n - 1) / k is all that
+/// What holds for every k from 2 on, whatever any model returns: (n - 1) / k satisfies all that
 /// `IsFaultTolerance` says; the greatest f by counting is the greatest with kf + 1 at most n, at
 /// three and at five in the words of `N3f1` and `N5f1` too; and 2f + 1 is the least m, and the
 /// only one, exactly where it is at most n.
@@ -70,9 +70,10 @@ pub fn counting_law()
     ensures least { (n f m : ℕ) → LeastM n f m ↔ ((m ≡ 2 * f + 1) × (2 * f + 1 ≤ n)) }
 {}
 
-/// How many of `n` participants may be faulty at a resilience `n >= kf + 1` whose `k` is a number
-/// of the running program: the greatest f that fits, 2 of 20 at a `k` of 7. A model whose `k` is
-/// known before has this as its `max_faults`. `k` is from 2 and `n` from 1.
+/// Returns how many of `n` participants may be faulty at a resilience `n >= kf + 1` whose `k` is a
+/// number of the running program: the greatest f that fits, 2 of 20 at a `k` of 7. A model whose
+/// `k` is known before has this as its `max_faults`. It requires that `k` is at least 2 and `n` at
+/// least 1.
 pub fn tolerated_faults(k: u32, n: u32) -> u32
     requires resilience { 2 ≤ k }
     requires some { 1 ≤ n }
@@ -81,8 +82,8 @@ pub fn tolerated_faults(k: u32, n: u32) -> u32
     (n - 1) / k
 }
 
-/// The least size whose subsets share at least f + 1 participants with each quorum of a model,
-/// which is `2f + 1`. `n` is from 1 to `u32::MAX`.
+/// Returns the least size whose subsets share at least f + 1 participants with each quorum of a
+/// model, which is `2f + 1`. It requires that `n` is from 1 to `u32::MAX`.
 pub fn smaller_quorum<M: Resilience, N: Count>(n: N) -> u32
     requires { IsCommitteeSize (N.number n) }
     ensures value { result ≡ 2 * M.faults (amount (N.number n)) + 1 }

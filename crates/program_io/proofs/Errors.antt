@@ -1,4 +1,4 @@
--- What holds of the error that a function gives on.
+-- What holds of the error that a function passes on.
 use Rattle.std.proofs.Common.{◌≡◌, Result, Ok, Err, sym, subst, IfErr}
 use Rattle.std.specs.Result.{IsErrAnd}
 

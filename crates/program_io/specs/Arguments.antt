@@ -4,11 +4,11 @@ use Rattle.std.specs.Iterator.{Drains}
 use Rattle.std.specs.Vec.Iter.{into_iter_steps}
 use Rattle.std.specs.declared.vec.IntoIter.{IntoIter}
 
--- the arguments were taken, and they are these texts
+-- the arguments were taken, and they are these strings
 abbrev pub AreArguments : {A E : Type 0} → Result (IntoIter (String A) A) E → List (String A) → Type 0
 AreArguments taken texts = IsOkAnd taken (λ arguments. Drains into_iter_steps arguments texts)
 
--- the arguments are some texts, of which the first is the program's name: the words follow it
+-- the arguments are some strings, of which the first is the program's name: the words follow it
 abbrev pub AreWords : {A : Type 0} → IntoIter (String A) A → List (List ℕ) → Type 0
 AreWords {A} arguments words =
     (texts : List (String A)) × Drains into_iter_steps arguments texts × (words ≡ map string_bytes (drop 1 texts))

@@ -7,12 +7,12 @@ pub record Watch (S : Type 0) : Type 0 where
   pub failed : Bool
   pub ended : Bool
 
--- whether a reader has ended once a read into this much room has answered r
+-- whether a reader has ended after a read into this much room returned r
 abbrev pub ended_after : {E : Type 0} → Bool → ℕ → Result ℕ E → Bool
 ended_after ended room (Ok n) = if room == 0 then ended else n == 0
 ended_after ended room (Err e) = if room == 0 then ended else false
 
--- whether a write of so many bytes that answered r is a failure: an error, or none of some bytes taken
+-- whether a write of len bytes that returned r is a failure: an error, or no byte taken where len is not 0
 abbrev pub is_failed_write : {E : Type 0} → ℕ → Result ℕ E → Bool
 is_failed_write len (Ok n) = n == 0 && not (len == 0)
 is_failed_write len (Err e) = true

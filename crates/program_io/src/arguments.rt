@@ -6,10 +6,10 @@ use std::alloc::Allocator;
 use std::env::Args;
 use std::io;
 
-/// All the arguments, of which the first is the program's name.
+/// Returns all the arguments, of which the first is the program's name.
 ///
-/// The answer is `None` where they can't be taken: the process has none to give, or a request for
-/// memory was refused.
+/// It returns `None` where they can't be taken: the process has none to give, or an allocation
+/// failed.
 pub fn take_arguments<A: Allocator + Copy>(
     alloc: A,
     arguments: io::Result<Args<A>>,
@@ -25,7 +25,7 @@ pub fn take_arguments<A: Allocator + Copy>(
     }
 }
 
-/// What follows the first text: none where there is no text.
+/// Returns what follows the first string: nothing where there is no string.
 pub fn after_first<A: Allocator>(texts: &[String<A>]) -> &[String<A>]
     ensures { result.now ≡ drop 1 texts.now }
 {

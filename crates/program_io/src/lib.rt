@@ -1,8 +1,9 @@
-//! What a program of words and streams stands on: its arguments, devices that remember that a
-//! call failed or that the input ended, whole texts to a writer, and a line on standard error.
+//! What a program that reads words and streams is built on: its arguments, readers and writers
+//! that remember that a call failed or that the input ended, all the bytes to a writer, and a line
+//! on standard error.
 //!
-//! It is generic over the allocator, the reader and the writers, so that each refused request for
-//! memory and each failing device can be tried. No call of a device that fails is made again: an
+//! It is generic over the allocator, the reader and the writers, so that a test can make each
+//! allocation and each call of a device fail. No call of a device that fails is made again: an
 //! interrupted one is a failure like every other.
 #![tactic(auto)]
 

@@ -1,4 +1,4 @@
-//! A line for whoever looks at standard error.
+//! A line on standard error.
 ghost use Rattle.std.specs.Prelude.{◌≤◌, ℕ, List, length};
 ghost use Rattle.std.specs.Io.KnownBytes.{Appends};
 
@@ -6,14 +6,14 @@ use crate::output::write_bytes;
 use std::fmt::Display;
 use std::io::{Cursor, Write};
 
-/// How many bytes of a line are said at most: over twice as many as any line of a session has.
+/// The most bytes of a line that are written: over twice the longest line of a session.
 const LINE: usize = 128;
 
-/// Says a line, in one write where the writer takes it whole. A line of more than 128 bytes, its
-/// line feed among them, is cut after these.
+/// Writes a line, in one write where the writer takes it whole. A line of more than 128 bytes, its
+/// line feed included, is truncated to 128.
 ///
-/// It takes no memory. No call is tried again, and a writer that fails is left: that is no error,
-/// since nobody could be told.
+/// It allocates nothing. No call is made again after a failure, and a failure is no error, since
+/// there is nobody left to tell.
 pub fn say<E: Write, D: Display>(errors: &mut E, line: &D)
     ensures { (said : List ℕ) × (length said ≤ 128)
         × Appends (E.contents errors.old) (E.contents errors.new) said }

@@ -5,14 +5,14 @@ ghost use Rattle.std.specs.Io.KnownBytes.{Appends};
 use crate::watched::Watched;
 use std::io::Write;
 
-/// The writer failed, or took none of some bytes.
+/// The writer failed, or took no byte of a non-empty slice.
 #[derive(Clone, Copy, Debug, PartialEq, Eq, thiserror::Error)]
 #[error("failed: write")]
 pub struct WriteFailed;
 
 /// Writes all the bytes, and flushes.
 ///
-/// It fails at the first write that fails or takes none, or at the flush. Then a beginning of the
+/// It fails at the first write that fails or takes no byte, or at the flush. Then a prefix of the
 /// bytes was written.
 pub fn write_whole<W: Write>(output: &mut Watched<W>, bytes: &[u8]) -> Result<(), WriteFailed>
     ensures bytes { OnOk result
@@ -20,7 +20,7 @@ pub fn write_whole<W: Write>(output: &mut Watched<W>, bytes: &[u8]) -> Result<()
     ensures sound { OnOk result (output.new.failed ≡ output.old.failed) }
     ensures ended { output.new.ended ≡ output.old.ended }
 
-    // Where it gives up.
+    // Where it fails.
     ensures failed { OnErr result (output.new.failed ≡ true) }
     ensures beginning { (front back : List ℕ) × (bytes.now ≡ front ++ back)
         × Appends (W.contents output.old.inner) (W.contents output.new.inner) front }
@@ -34,7 +34,7 @@ pub fn write_whole<W: Write>(output: &mut Watched<W>, bytes: &[u8]) -> Result<()
 
 /// Writes all the bytes.
 ///
-/// It fails at the first write that fails or takes none. What was written is a beginning of the
+/// It fails at the first write that fails or takes no byte. What was written is a prefix of the
 /// bytes.
 pub(crate) fn write_bytes<W: Write>(output: &mut W, bytes: &[u8]) -> Result<(), WriteFailed>
     ensures bytes { OnOk result

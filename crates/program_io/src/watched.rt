@@ -12,8 +12,10 @@ use std::marker::Model;
 /// A reader or a writer that remembers whether a call has failed, and whether its last read was at
 /// the end.
 ///
-/// Each call is passed on to the inner reader or writer, once, and its answer is given back as it
-/// is.
+/// Each call is passed on to the inner reader or writer, once, and its result is returned as it is.
+///
+/// Once the reads over `b"abcdef"` have returned all 6 bytes, the reader has not ended; the next
+/// read returns 0, and it has ended, and has not failed.
 #[derive(Drop)]
 pub struct Watched<S> {
     inner: S,
@@ -30,7 +32,7 @@ impl<S> Model for Watched<S> {
 }
 
 impl<S> Watched<S> {
-    /// Watches a reader or a writer. No call has failed yet, and none was at the end.
+    /// Watches a reader or a writer. No call has failed yet, and no read was at the end.
     pub fn new(inner: S) -> Watched<S>
         ensures inner { result.inner ≡ inner }
         ensures failed { result.failed ≡ false }
@@ -43,14 +45,14 @@ impl<S> Watched<S> {
         }
     }
 
-    /// The reader or writer that is watched.
+    /// Returns the reader or writer that is watched.
     pub fn inner(&self) -> &S
         ensures { result.now ≡ self.now.inner }
     {
         &self.inner
     }
 
-    /// Whether a call has answered with an error, or a write has taken none of some bytes.
+    /// Whether a call has returned an error, or a write has taken no byte of a non-empty slice.
     ///
     /// Once true it stays true.
     pub fn failed(&self) -> bool
@@ -59,7 +61,7 @@ impl<S> Watched<S> {
         self.failed
     }
 
-    /// Whether the last read with room for a byte gave none, and no error.
+    /// Whether the last read with room for a byte returned 0.
     pub fn ended(&self) -> bool
         ensures { result ≡ self.now.ended }
     {
@@ -95,8 +97,8 @@ impl<S: Read> Read for Watched<S> {
 impl<S: Write> Write for Watched<S> {
     ghost contents = { λ w. S.contents w.inner };
 
-    /// Writes to the inner writer, once, and remembers an error, and that none of some bytes was
-    /// taken.
+    /// Writes to the inner writer, once, and remembers an error, and that no byte of a non-empty
+    /// slice was taken.
     fn write(&mut self, buf: &[u8]) -> io::Result<usize>
         ensures bound { WritesAtMost result buf.now }
         ensures bytes { WriteAppends (S.contents self.old.inner) (S.contents self.new.inner)

@@ -3,7 +3,7 @@ use Rattle.std.specs.Prelude.{◌≡◌, List, [], ◌∷◌, ◌++◌, length, 
 use Rattle.std.proofs.Common.{append_assoc, append-nil, ap, sym, subst, ◌∙◌}
 use Rattle.commonware_base.specs.Calls.{CallsGive, CallsGiveAll, CallableAlong}
 
--- Where each call answers what h makes of its argument, the answers are the map of h.
+-- Where each call returns h of its argument, the results are the map of h.
 pub answers_are :
     {F X R : Type 0} (step : F → X → R → F → Type 0) (h : X → R)
     (pure : (f : F) (x : X) (r : R) (f' : F) → step f x r f' → r ≡ h x) (f : F) (xs : List X) (rs : List R) (last : F)
@@ -24,7 +24,7 @@ module _ {F X R : Type 0} (step : F → X → R → F → Type 0) where
   calls_more f (y ∷ xs) [] now x r next h s = absurd h
   calls_more f (y ∷ xs) (z ∷ rs) now x r next h s = (h.0, h.1, calls_more h.0 xs rs now x r next h.2 s)
 
-  -- a call gives one answer
+  -- a call returns one result
   length_calls : (f : F) (xs : List X) (rs : List R) (last : F) → CallsGive step f xs rs last → length rs ≡ length xs
   length_calls f [] [] last h = refl
   length_calls f [] (r ∷ rs) last h = absurd h
@@ -71,6 +71,6 @@ module _ {F X R : Type 0} (step : F → X → R → F → Type 0) where
   takes_next takes f xs rs now rest x left callable h e =
       callable.at h.done x left rs now (h.split ∙ ap (λ l. h.done ++ l) e) h.calls
 
-  -- as many answers as arguments
+  -- there are as many results as arguments
   pub length_answers : (f : F) (xs : List X) (rs : List R) → CallsGiveAll step f xs rs → length rs ≡ length xs
   length_answers f xs rs h = length_calls f xs rs h.last h.calls

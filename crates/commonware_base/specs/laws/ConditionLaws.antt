@@ -1,33 +1,34 @@
--- The laws of values that keep a further condition, as the items of a set are strict: a text's fault is one that it has
--- without the condition, or, where it begins with a value that breaks the condition, one fault that says so.
+-- The laws of values that keep a further condition, as the items of a set are strictly increasing: the fault of an
+-- input is one that it has without the condition, or, where it begins with a value that breaks the condition, one fault
+-- that says so.
 use Rattle.std.specs.Prelude.{◌≡◌, ℕ, List, ◌⊎◌, ◌↔◌}
 use Rattle.std.proofs.Common.{inl, inr, sym, ◌∙◌, refl}
 use Rattle.commonware_base.specs.Fault.{Fault}
 use Rattle.commonware_base.specs.Text.{Accepts, IsPrefixFree, ReadLaws}
 
--- What the condition is to texts. `Keeps` and `HasFaultWith` are `Writable` and `HasFault` with it; `Breaks` is said of
--- a text that begins with a value that breaks it, and `fault` is the fault of such a text.
+-- What the condition is to inputs. `Keeps` and `HasFaultWith` are `Writable` and `HasFault` with it; `Breaks` holds of
+-- an input that begins with a value that breaks it, and `fault` is the fault of such an input.
 pub record Condition {V : Type 0} (enc : V → List ℕ) (Writable Keeps Allowed : V → Type 0)
     (HasFault HasFaultWith : List ℕ → Fault → Type 0) (Breaks : List ℕ → Type 0) (fault : Fault) : Type 0 where
   -- A value that keeps the condition is writable without it.
   pub without : (v : V) → Keeps v → Writable v
-  -- A value that is accepted without the condition keeps it, or the text breaks it.
+  -- A value that is accepted without the condition keeps it, or the input breaks it.
   pub keeps_or_breaks : (s : List ℕ) (v : V) (r : List ℕ) → Accepts enc Writable Allowed s v r → Keeps v ⊎ Breaks s
-  -- A text that breaks it begins with a value, and no value of the same bytes keeps it.
+  -- An input that breaks it begins with a value, and no value of the same bytes keeps it.
   pub broken : (s : List ℕ) → Breaks s
       → (v : V) × (r : List ℕ) × Accepts enc Writable Allowed s v r × ((w : V) → Keeps w → enc w ≡ enc v → ⊥)
-  -- A fault is one without the condition, or that of a text that breaks it.
+  -- A fault is one without the condition, or that of an input that breaks it.
   pub faults : (s : List ℕ) (f : Fault) → HasFaultWith s f ↔ (HasFault s f ⊎ ((f ≡ fault) × Breaks s))
 
 module _ {V : Type 0} {enc : V → List ℕ} {Writable Keeps Allowed : V → Type 0}
     {HasFault HasFaultWith : List ℕ → Fault → Type 0} {Breaks : List ℕ → Type 0} {fault : Fault}
     (laws : ReadLaws enc Writable Allowed HasFault)
     (c : Condition enc Writable Keeps Allowed HasFault HasFaultWith Breaks fault) where
-  -- a text that breaks the condition has no fault without it
+  -- an input that breaks the condition has no fault without it
   pub broken_no_fault : (s : List ℕ) (f : Fault) → Breaks s → HasFault s f → ⊥
   broken_no_fault s f b = let v = c.broken s b in laws.accepted_no_fault s v.0 v.1 f v.2
 
-  -- a text has at most one fault
+  -- an input has at most one fault
   one : (s : List ℕ) (f g : Fault) → HasFault s f ⊎ ((f ≡ fault) × Breaks s) → HasFault s g ⊎ ((g ≡ fault) × Breaks s)
       → f ≡ g
   one s f g (inl v) (inl w) = laws.one_fault s f g v w
@@ -36,7 +37,7 @@ module _ {V : Type 0} {enc : V → List ℕ} {Writable Keeps Allowed : V → Typ
   one s f g (inr v) (inr w) = v.0 ∙ sym w.0
 
   module _ (prefix_free : IsPrefixFree enc Writable) where
-    -- a value at the prefix that keeps the condition is no fault
+    -- an input that begins with a value that keeps the condition has no fault
     no_fault : (s : List ℕ) (v : V) (r : List ℕ) (f : Fault) → Accepts enc Keeps Allowed s v r
         → HasFault s f ⊎ ((f ≡ fault) × Breaks s) → ⊥
     no_fault s v r f a (inl w) =
@@ -47,7 +48,7 @@ module _ {V : Type 0} {enc : V → List ℕ} {Writable Keeps Allowed : V → Typ
         b.3 v a.writable
         (prefix_free v b.0 r b.1 (c.without v a.writable) b.2.writable (sym a.begins ∙ b.2.begins))
 
-    -- what is promised of the texts of values that keep the condition
+    -- the laws of the encodings of values that keep the condition
     pub condition_laws : ReadLaws enc Keeps Allowed HasFaultWith
     condition_laws = record {
       allowed_by_bytes = λ v w p q. laws.allowed_by_bytes v w (c.without v p) (c.without w q);

@@ -24,7 +24,7 @@ module _ {T : Type 0} (enc : T → List ℕ) (Writable : T → Type 0) (item_fau
   taken : (v : T) (s t : List ℕ) → Writable v → s ≡ enc v ++ t → length s ≡ size + length t
   taken v s t w e = ap length e ∙ length-append (enc v) t ∙ ap (λ n. n + length t) (sized v w)
 
-  -- where fewer bytes are left, the text ends before an item is whole
+  -- where fewer bytes are left, the input ends before an item is complete
   pub items_lack : (count : ℕ) (text : List ℕ) → AreBytes text → length text < count * size
       → ItemsFault enc Writable (λ _. Unit {0}) item_fault count text EndOfBuffer
   items_lack zero text h l = absurd (omega (arith, l))
@@ -54,7 +54,7 @@ module _ {T : Type 0} (enc : T → List ℕ) (Writable : T → Type 0) (item_fau
         }
   ]
 
-  -- where as many are left, and that is some, they want memory
+  -- where as many are left, and that is not 0, reading them allocates
   pub items_want : (count : ℕ) (text : List ℕ) → AreBytes text → ¬ (count ≡ 0) → count * size ≤ length text
       → ¬ IsItemsMemoryFree enc Writable (λ _. Unit {0}) (λ _. Unit {0}) count text
   items_want count text h p n (inl z) = p z

@@ -22,7 +22,7 @@ use Rattle.commonware_base.specs.laws.VarintLaws.{varint_bytes}
 
 module _ {T : Type 0} (enc : T → List ℕ) (Writable : T → Type 0)
     (prefix_free : IsPrefixFree enc Writable) where
-  -- the first items have one spelling, and what follows them is the same
+  -- the first items have one encoding, and what follows them is the same
   split_first : (a b : T) (xs ys : List T) (s t : List ℕ) → Writable a → Writable b
       → flat_map enc (a ∷ xs) ++ s ≡ flat_map enc (b ∷ ys) ++ t
       → (enc a ≡ enc b) × (flat_map enc xs ++ s ≡ flat_map enc ys ++ t)
@@ -32,7 +32,7 @@ module _ {T : Type 0} (enc : T → List ℕ) (Writable : T → Type 0)
       let g : enc a ≡ enc b = prefix_free a b _ _ p q f in
       (g, append_cancel_left (enc b) _ _ (ap (λ u. u ++ (flat_map enc xs ++ s)) (sym g) ∙ f))
 
-  -- as many items of one spelling
+  -- as many items of one encoding
   pub same_items : (xs ys : List T) (s t : List ℕ) → length xs ≡ length ys → AllByRecursion Writable xs
       → AllByRecursion Writable ys → flat_map enc xs ++ s ≡ flat_map enc ys ++ t
       → (flat_map enc xs ≡ flat_map enc ys) × (s ≡ t)
@@ -55,7 +55,7 @@ module _ {T : Type 0} (enc : T → List ℕ) (Writable : T → Type 0)
       (sym (append_assoc (varint (length xs)) (flat_map enc xs) s) ∙ e
       ∙ append_assoc (varint (length ys)) (flat_map enc ys) t)
 
-  -- no list begins another
+  -- no encoding of a list is a proper prefix of another's
   pub list_prefix_free : IsPrefixFree (list_enc enc) (IsWritableList Writable)
   list_prefix_free xs ys s t p q e =
       let f = split_count xs ys s t p q e in
@@ -65,7 +65,7 @@ module _ {T : Type 0} (enc : T → List ℕ) (Writable : T → Type 0)
 
   module _ (Allowed : T → Type 0)
       (allowed_by_bytes : (a b : T) → Writable a → Writable b → enc a ≡ enc b → Allowed a → Allowed b) where
-    -- as many items of one spelling are allowed together
+    -- as many items of one encoding are allowed together
     allowed_items : (xs ys : List T) → length xs ≡ length ys → AllByRecursion Writable xs → AllByRecursion Writable ys
         → flat_map enc xs ++ [] ≡ flat_map enc ys ++ [] → AllByRecursion Allowed xs → AllByRecursion Allowed ys
     allowed_items [] [] n p q e h = tt
@@ -75,7 +75,7 @@ module _ {T : Type 0} (enc : T → List ℕ) (Writable : T → Type 0)
         let f = split_first a b xs ys [] [] p.0 q.0 e in
         (allowed_by_bytes a b p.0 q.0 f.0 h.0, allowed_items xs ys (omega arith) p.1 q.1 f.1 h.1)
 
-    -- lists of one spelling are allowed together
+    -- lists of one encoding are allowed together
     pub list_allowed_by_bytes : (range : Bounds ℕ) (xs ys : List T) → IsWritableList Writable xs
         → IsWritableList Writable ys → list_enc enc xs ≡ list_enc enc ys → IsAllowedList range Allowed xs
         → IsAllowedList range Allowed ys
@@ -90,7 +90,7 @@ module _ {T : Type 0} (enc : T → List ℕ) (Writable : T → Type 0)
         (one_fault : (s : List ℕ) (f g : Fault) → item_fault s f → item_fault s g → f ≡ g)
         (accepted_no_fault : (s : List ℕ) (v : T) (r : List ℕ) (f : Fault) → Accepts enc Writable Allowed s v r
         → item_fault s f → ⊥) where
-      -- an item at the prefix is no fault
+      -- an input that begins with an item has no fault of an item
       no_fault_before : (a : T) (xs : List T) (s t : List ℕ) (f : Fault) → Writable a → Allowed a
           → t ≡ flat_map enc (a ∷ xs) ++ s → item_fault t f → ⊥
       no_fault_before a xs s t f p h e w =
@@ -117,7 +117,7 @@ module _ {T : Type 0} (enc : T → List ℕ) (Writable : T → Type 0)
           no_fault_among xs ys s t g (omega arith) p.1 q.1 h.1 (split_first a b xs ys s t p.0 q.0 e).1 w
 
       module _ (range : Bounds ℕ) where
-        -- a list at the prefix is no fault
+        -- an input that begins with a list has no fault
         pub list_accepted_no_fault : (s : List ℕ) (xs : List T) (r : List ℕ) (f : Fault) → IsWritableList Writable xs
             → IsAllowedList range Allowed xs → s ≡ list_enc enc xs ++ r
             → ListFault enc Writable Allowed item_fault range s f → ⊥
@@ -134,7 +134,7 @@ module _ {T : Type 0} (enc : T → List ℕ) (Writable : T → Type 0)
             no_fault_among xs w.items r w.rest f (subst (λ n. length w.items < n) c.0 w.fewer) p.each w.writable h.each
             (sym c.1) w.faulty
 
-        -- two faults of a text are at one cut
+        -- two faults of an input are in one error case
         pub list_one_case :
             (s : List ℕ) (f g : Fault) (v : ListFault enc Writable Allowed item_fault range s f)
             (w : ListFault enc Writable Allowed item_fault range s g) → list_case v ≡ list_case w
@@ -154,7 +154,7 @@ module _ {T : Type 0} (enc : T → List ℕ) (Writable : T → Type 0)
             (subst (Within range) (varint_split v.count m _ _ v.short w.short (sym v.begins ∙ w.begins)).0 v.in_range))
         list_one_case s f g (bad_item v) (bad_item w) = refl
 
-        -- a text has at most one fault
+        -- an input has at most one fault
         pub list_one_fault : (s : List ℕ) (f g : Fault) → ListFault enc Writable Allowed item_fault range s f
             → ListFault enc Writable Allowed item_fault range s g → f ≡ g
         list_one_fault s f g (bad_varint v) (bad_varint w) = varint_one_fault s f g v w
@@ -197,7 +197,7 @@ module _ {T : Type 0} (enc : T → List ℕ) (Writable : T → Type 0)
 
         module _ (accepted_or_faulty : (s : List ℕ) → AreBytes s
             → AcceptedOrFaulty enc Writable Allowed (item_fault s) s) where
-          -- a text has n items at the prefix, or some and then a fault
+          -- an input begins with n items, or with fewer and then a fault
           items_or_fault : (n : ℕ) (s : List ℕ) → AreBytes s → Items n s ⊎ FaultyItems n s
           items_or_fault zero s h =
               inl (record { items = []; rest = s; count = refl; begins = refl; writable = tt; allowed = tt })
@@ -237,7 +237,7 @@ module _ {T : Type 0} (enc : T → List ℕ) (Writable : T → Type 0)
             ]
           ]
 
-          -- a text begins with a list or has a fault
+          -- an input begins with a list or has a fault
           pub list_accepted_or_faulty : (s : List ℕ) → AreBytes s
               → AcceptedOrFaulty (list_enc enc) (IsWritableList Writable) (IsAllowedList range Allowed)
               (ListFault enc Writable Allowed item_fault range s) s
@@ -280,7 +280,7 @@ module _ {T : Type 0} (enc : T → List ℕ) (Writable : T → Type 0)
             ]
           ]
 
--- A list whose first item is read, or wants memory, isn't memory-free.
+-- A list whose first item is read, or needs an allocation, isn't memory-free.
 pub list_wants_memory :
     (item_fault : List ℕ → Fault → Type 0) (ItemMemoryFree : List ℕ → Type 0) (range : Bounds ℕ) (s : List ℕ) (n : ℕ)
     (r : List ℕ) → n < 2 ^ 32 → 0 < n → Within range n → s ≡ varint n ++ r
@@ -295,7 +295,7 @@ list_wants_memory item_fault ItemMemoryFree range s n r h p i e none m = go m
         let same : r ≡ t = (varint_split n k _ _ h q (sym e ∙ w)).1 in
         none (subst ItemMemoryFree (sym same) free) f (subst (λ u. item_fault u f) (sym same) fault)
 
--- Equal lists have one spelling, and lists of one spelling are equal.
+-- Equal lists have one encoding, and lists of one encoding are equal.
 module _ {T : Type 0} (enc : T → List ℕ) (Writable : T → Type 0)
     (prefix_free : IsPrefixFree enc Writable)
     (eq : T → T → Bool) where
@@ -307,7 +307,7 @@ module _ {T : Type 0} (enc : T → List ℕ) (Writable : T → Type 0)
   pointwise_length (x ∷ xs) (y ∷ ys) e = ap suc (pointwise_length xs ys (and_parts (eq x y) (pointwise eq xs ys) e).1)
 
   module _ (equal_by_bytes : (a b : T) → Writable a → Writable b → (eq a b ≡ true) ↔ (enc a ≡ enc b)) where
-    -- equal items have one spelling
+    -- equal items have one encoding
     equal_items : (xs ys : List T) → AllByRecursion Writable xs → AllByRecursion Writable ys → pointwise eq xs ys ≡ true
         → flat_map enc xs ≡ flat_map enc ys
     equal_items [] [] p q e = refl
@@ -319,7 +319,7 @@ module _ {T : Type 0} (enc : T → List ℕ) (Writable : T → Type 0)
         let tail = equal_items xs ys p.1 q.1 b.1 in
         cc
 
-    -- items of one spelling are equal
+    -- items of one encoding are equal
     items_equal : (xs ys : List T) → length xs ≡ length ys → AllByRecursion Writable xs → AllByRecursion Writable ys
         → flat_map enc xs ++ [] ≡ flat_map enc ys ++ [] → pointwise eq xs ys ≡ true
     items_equal [] [] n p q e = refl
@@ -356,7 +356,7 @@ module _ {T : Type 0} (enc : T → List ℕ) (Writable : T → Type 0)
 
 -- A list keeps the laws that its items keep.
 module _ {T : Type 0} (enc : T → List ℕ) (Writable : T → Type 0) (prefix_free : IsPrefixFree enc Writable) where
-  -- what is promised of the texts of lists
+  -- the laws of the encodings of lists
   pub list_laws : (Allowed : T → Type 0) (item_fault : List ℕ → Fault → Type 0) (range : Bounds ℕ)
       → ReadLaws enc Writable Allowed item_fault → ReadLaws (list_enc enc) (IsWritableList Writable)
       (IsAllowedList range Allowed) (ListFault enc Writable Allowed item_fault range)
@@ -373,7 +373,7 @@ module _ {T : Type 0} (enc : T → List ℕ) (Writable : T → Type 0) (prefix_f
         h.accepted_no_fault range h.accepted_or_faulty;
   }
 
-  -- the cuts of a list exclude one another
+  -- the error cases of a list exclude one another
   pub list_cases_exclude : (Allowed : T → Type 0) (item_fault : List ℕ → Fault → Type 0) (range : Bounds ℕ)
       → ReadLaws enc Writable Allowed item_fault → (s : List ℕ) (f g : Fault)
       (v : ListFault enc Writable Allowed item_fault range s f)

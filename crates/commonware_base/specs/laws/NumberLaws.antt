@@ -11,7 +11,7 @@ use Rattle.commonware_base.specs.laws.VarintLaws.{varint_split, varint_no_fault,
 use Rattle.commonware_base.specs.Words.{IsWord}
 use Rattle.commonware_base.specs.Numbers.{NumberFault, invalid_varint, out_of_range}
 
--- two numbers that begin one text are the same
+-- two numbers that begin one input are the same
 pub number_prefix_free : IsPrefixFree varint IsWord
 number_prefix_free a b x y p q e = ap varint (varint_split a b x y p q e).0
 
@@ -20,7 +20,7 @@ varint_equal : (a b : ℕ) → IsWord a → IsWord b → ((a == b) ≡ true) ↔
 varint_equal a b p q =
     ((λ e. ap varint (eqb-true a b e)), (λ e. eq-eqb a b (varint_split a b [] [] p q (ap (λ t. t ++ []) e)).0))
 
--- a text begins with a number or has a fault
+-- an input begins with a number or has a fault
 varint_accepted_or_faulty : (s : List ℕ) → AreBytes s
     → AcceptedOrFaulty varint IsWord (λ _. Unit {0}) (varint_fault s) s
 varint_accepted_or_faulty s h = elim (varint_or_fault s h) [
@@ -28,14 +28,14 @@ varint_accepted_or_faulty s h = elim (varint_or_fault s h) [
   | inl w ↦ inl (w.0, w.1, record { writable = w.2; allowed = tt; begins = w.3 })
 ]
 
--- a number in the range at the prefix is no fault
+-- an input that begins with a number in the range has no fault
 number_no_fault : (range : Bounds ℕ) (s : List ℕ) (n : ℕ) (r : List ℕ) (f : Fault) → IsWord n → Within range n
     → s ≡ varint n ++ r → NumberFault range s f → ⊥
 number_no_fault range s n r f p h e (invalid_varint w) = varint_no_fault s n r f p e w
 number_no_fault range s n r f p h e (out_of_range m q w) =
     w.outside (subst (Within range) (varint_split n m _ _ p w.short (sym e ∙ w.begins)).0 h)
 
--- a text has at most one fault
+-- an input has at most one fault
 number_one_fault : (range : Bounds ℕ) (s : List ℕ) (f g : Fault) → NumberFault range s f → NumberFault range s g → f ≡ g
 number_one_fault range s f g (invalid_varint v) (invalid_varint w) = varint_one_fault s f g v w
 number_one_fault range s f g (invalid_varint v) (out_of_range m q w) =
@@ -45,7 +45,7 @@ number_one_fault range s f g (out_of_range n p v) (invalid_varint w) =
 number_one_fault range s f g (out_of_range n p v) (out_of_range m q w) =
     p ∙ ap InvalidLength (varint_split n m _ _ v.short w.short (sym v.begins ∙ w.begins)).0 ∙ sym q
 
--- a text begins with a number in the range or has a fault
+-- an input begins with a number in the range or has a fault
 number_accepted_or_faulty : (range : Bounds ℕ) (s : List ℕ) → AreBytes s
     → AcceptedOrFaulty varint IsWord (Within range) (NumberFault range s) s
 number_accepted_or_faulty range s h = elim (varint_or_fault s h) [
@@ -57,7 +57,7 @@ number_accepted_or_faulty range s h = elim (varint_or_fault s h) [
   ]
 ]
 
--- what is promised of the texts of varints
+-- the laws of the encodings of varints
 pub varint_laws : ReadLaws varint IsWord (λ _. Unit {0}) varint_fault
 varint_laws = record {
   allowed_by_bytes = λ a b _ _ _ h. h;
@@ -71,7 +71,7 @@ pub number_canonical : CanonicalLaws varint IsWord (λ a b. a == b)
 number_canonical =
     record { equal_by_bytes = varint_equal; writable_together = λ a b e p. subst IsWord (eqb-true a b e) p }
 
--- what is promised of the texts of numbers in a range
+-- the laws of the encodings of numbers in a range
 pub number_laws : (range : Bounds ℕ) → ReadLaws varint IsWord (Within range) (NumberFault range)
 number_laws range = record {
   allowed_by_bytes = λ a b p q e h. subst (Within range) (varint_split a b [] [] p q (ap (λ t. t ++ []) e)).0 h;

@@ -1,4 +1,4 @@
--- What the prefix of a text settles: the first fault of a list, and whether reading it takes memory.
+-- What the prefix of an input determines: the first fault of a list, and whether decoding it allocates.
 use Rattle.std.proofs.Common.{◌≡◌, ℕ, suc, ◌+◌, ◌*◌, ◌^◌, ◌<◌, ◌≤◌, List, [], ◌∷◌, ◌++◌, length, refl, ap, sym, ◌∙◌}
 use Rattle.std.proofs.Common.{arith, inl, inr, subst}
 use Rattle.std.proofs.Common.{append_assoc, append-nil, length-append}
@@ -14,7 +14,7 @@ use Rattle.commonware_base.specs.Range.{Bounds, Within}
 use Rattle.commonware_base.specs.Varint.{IsOverlongOrTooGreat, varint, varint_fault}
 use Rattle.commonware_base.specs.laws.VarintLaws.{varint-length}
 
--- what is settled holds of the whole exactly where it holds of the prefix
+-- what is determined holds of the whole exactly where it holds of the prefix
 pub determined_prefix : (bound : ℕ) (P : List ℕ → Type 0) (s prefix : List ℕ)
     → IsDeterminedBy bound P → IsLongPrefix bound s prefix
     → P prefix ↔ P s
@@ -27,7 +27,7 @@ determined_prefix bound P s prefix settled f = elim f.enough [
       ((λ p. subst P (sym f.whole) (both.0 p)), (λ p. both.1 (subst P f.whole p))))
 ]
 
--- a text that begins with x, of which the prefix is as long as x or longer: the prefix begins with x
+-- where an input begins with x, and its prefix is as long as x or longer, the prefix begins with x
 pub cut : (x s more r : List ℕ) → s ++ more ≡ x ++ r → length x ≤ length s
     → (c : List ℕ) × (s ≡ x ++ c) × (r ≡ c ++ more)
 cut [] s more r e h = (s, refl, sym e)
@@ -40,11 +40,11 @@ cut (b ∷ x) (a ∷ s) more r e h =
     let same : s ≡ x ++ c = w.1 in
     (c, cc, w.2)
 
--- a text that begins with x still does with more after it
+-- an input that begins with x still does with more after it
 pub grow : (x s more r : List ℕ) → s ≡ x ++ r → s ++ more ≡ x ++ (r ++ more)
 grow x s more r e = ap (λ t. t ++ more) e ∙ append_assoc x r more
 
--- five bytes settle the fault of a varint
+-- five bytes determine the fault of a varint
 pub varint_fault_determined : (f : Fault) → IsDeterminedBy 5 (λ s. varint_fault s f)
 varint_fault_determined EndOfBuffer s more h = (
   (λ w. absurd (omega (arith, w.short))),
@@ -79,9 +79,8 @@ varint_fault_determined InvalidVarint s more h = (on, back)
 varint_fault_determined (InvalidLength n) s more h = ((λ w. w), (λ w. w))
 varint_fault_determined (Invalid what why) s more h = ((λ w. w), (λ w. w))
 
--- Items take at most size bytes each, and the range allows at most so many: then as many bytes as that comes to settle
--- the
--- rest, with five for the length.
+-- Items take at most `size` bytes each, and the range allows at most `most` of them: then the first 5 + most * size
+-- bytes determine the rest, where 5 bytes are for the length.
 module _ {T : Type 0} (enc : T → List ℕ) (Writable Allowed : T → Type 0) (item_fault : List ℕ → Fault → Type 0)
     (ItemMemoryFree : List ℕ → Type 0) (range : Bounds ℕ) (size most : ℕ)
     (item_short : (v : T) → Writable v → length (enc v) ≤ size)
@@ -91,7 +90,7 @@ module _ {T : Type 0} (enc : T → List ℕ) (Writable Allowed : T → Type 0) (
   items_short [] p = omega arith
   items_short (x ∷ xs) p = omega (arith, item_short x p.0, items_short xs p.1, length-append (enc x) (flat_map enc xs))
 
-  -- where fewer items than the length says stand before it, what follows has room for one more
+  -- where fewer items than the length says come before it, what follows has room for one more
   room_left : (s x y r : List ℕ) (n : ℕ) → 5 + most * size ≤ length s → s ≡ x ++ (y ++ r) → length x ≤ 5
       → length y ≤ n * size → n < most → size ≤ length r
   room_left s x y r n h e p q l =
@@ -99,7 +98,7 @@ module _ {T : Type 0} (enc : T → List ℕ) (Writable Allowed : T → Type 0) (
       omega (arith, ap length e, length-append x (y ++ r), length-append y r)
 
   module _ (s more : List ℕ) (h : 5 + most * size ≤ length s) where
-    -- a text that begins with a number
+    -- an input that begins with a number
     after_number : (n : ℕ) (r : List ℕ) → n < 2 ^ 32 → s ++ more ≡ varint n ++ r
         → (c : List ℕ) × (s ≡ varint n ++ c) × (r ≡ c ++ more)
     after_number n r small e = cut (varint n) s more r e (omega (arith, varint-length n small))
@@ -182,7 +181,7 @@ module _ {T : Type 0} (enc : T → List ℕ) (Writable Allowed : T → Type 0) (
       list_back f (bad_length n same w) = bad_length n same (out_back n w)
       list_back f (bad_item w) = bad_item (item_back f w)
 
-      -- whether it is read with no memory
+      -- whether it is read without an allocation
       module _ (some : 1 ≤ most) (free_determined : IsDeterminedBy size ItemMemoryFree) where
         first_room : (c : List ℕ) (n : ℕ) → n < 2 ^ 32 → s ≡ varint n ++ c → size ≤ length c
         first_room c n small e =
@@ -216,7 +215,7 @@ module _ {T : Type 0} (enc : T → List ℕ) (Writable Allowed : T → Type 0) (
         (f : Fault) → IsDeterminedBy (5 + most * size) (λ s. ListFault enc Writable Allowed item_fault range s f)
     list_fault_determined f s more h = (list_on s more h item_determined f, list_back s more h item_determined f)
 
-    -- whether a list is read or refused with no memory
+    -- whether a list is decoded or refused without an allocation
     pub list_memory_free_determined : 1 ≤ most → IsDeterminedBy size ItemMemoryFree
         → IsDeterminedBy (5 + most * size) (IsListMemoryFree item_fault ItemMemoryFree range)
     list_memory_free_determined some free s more h =

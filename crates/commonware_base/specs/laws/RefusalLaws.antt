@@ -1,4 +1,4 @@
--- A refusal under other faults.
+-- An error under other faults.
 use Rattle.commonware_base.specs.declared.codec.error.Error.{Error}
 use Rattle.commonware_base.specs.declared.codec.error.Error.TheVariants.{EndOfBuffer, InvalidVarint, InvalidLength}
 use Rattle.commonware_base.specs.declared.codec.error.Error.TheVariants.{Invalid, Memory}
@@ -6,7 +6,7 @@ use Rattle.commonware_base.specs.Fault.{Fault}
 use Rattle.commonware_base.specs.Fault as faults
 use Rattle.commonware_base.specs.Refusal.{Refuses}
 
--- A refusal under other faults and another need of memory.
+-- An error under other faults and another condition for memory-free decoding.
 pub refuses_from : (P Q : Fault → Type 0) (M N : Type 0) → ((f : Fault) → P f → Q f) → (¬ M → ¬ N) → (e : Error)
     → Refuses P M e → Refuses Q N e
 refuses_from P Q M N on_fault on_memory EndOfBuffer r = on_fault faults.EndOfBuffer r

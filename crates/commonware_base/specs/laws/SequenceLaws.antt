@@ -11,7 +11,7 @@ use Rattle.commonware_base.specs.Sequence.{sequence_case, bad_first, bad_second}
 
 module _ {X Y : Type 0} (ex : X → List ℕ) (WX : X → Type 0) (first_prefix_free : IsPrefixFree ex WX) (ey : Y → List ℕ)
     (WY : Y → Type 0) where
-  -- two texts that begin alike begin with the same first text, and what follows is the same
+  -- where an input begins with two pairs, their first encodings are the same, and so is what follows
   split_sequence : (p q : X × Y) (s t : List ℕ) → IsWritableSequence WX WY p → IsWritableSequence WX WY q
       → sequence_enc ex ey p ++ s ≡ sequence_enc ex ey q ++ t → (ex p.0 ≡ ex q.0) × (ey p.1 ++ s ≡ ey q.1 ++ t)
   split_sequence p q s t v w e =
@@ -20,13 +20,13 @@ module _ {X Y : Type 0} (ex : X → List ℕ) (WX : X → Type 0) (first_prefix_
       let g = first_prefix_free p.0 q.0 _ _ v.0 w.0 f in
       (g, append_cancel_left (ex q.0) _ _ (ap (λ u. u ++ (ey p.1 ++ s)) (sym g) ∙ f))
 
-  -- what is written are bytes
+  -- what is written is bytes
   pub sequence_bytes : ((x : X) → WX x → AreBytes (ex x)) → ((y : Y) → WY y → AreBytes (ey y)) → (p : X × Y)
       → IsWritableSequence WX WY p → AreBytes (sequence_enc ex ey p)
   sequence_bytes first second p w = bytes_append (ex p.0) (ey p.1) (first p.0 w.0) (second p.1 w.1)
 
   module _ (second_prefix_free : IsPrefixFree ey WY) where
-    -- no two values begin two others
+    -- no encoding of two values is a proper prefix of that of two others
     pub sequence_prefix_free : IsPrefixFree (sequence_enc ex ey) (IsWritableSequence WX WY)
     sequence_prefix_free p q s t v w e =
         let f = split_sequence p q s t v w e in
@@ -34,7 +34,7 @@ module _ {X Y : Type 0} (ex : X → List ℕ) (WX : X → Type 0) (first_prefix_
         let b : ey p.1 ≡ ey q.1 = second_prefix_free p.1 q.1 s t v.1 w.1 f.1 in
         cc
 
-    -- both halves of two texts that are one text are the same
+    -- where two encodings of pairs are the same, so are both halves
     same_halves : (p q : X × Y) → IsWritableSequence WX WY p → IsWritableSequence WX WY q
         → sequence_enc ex ey p ≡ sequence_enc ex ey q → (ex p.0 ≡ ex q.0) × (ey p.1 ≡ ey q.1)
     same_halves p q v w e =
@@ -65,7 +65,7 @@ module _ {X Y : Type 0} (ex : X → List ℕ) (WX : X → Type 0) (first_prefix_
         (AY : X → Y → Type 0) (fy : X → List ℕ → Fault → Type 0) (second_laws : (x : X) → ReadLaws ey WY (AY x) (fy x))
         (allowed_same : (x z : X) (y : Y) → WX x → WX z → ex x ≡ ex z → AY x y → AY z y)
         (fault_same : (x z : X) (s : List ℕ) (f : Fault) → WX x → WX z → ex x ≡ ex z → fy x s f → fy z s f) where
-      -- what is accepted first has one spelling, and the same follows
+      -- what is accepted first has one encoding, and the same follows
       same_first : (s : List ℕ) (x z : X) (r t : List ℕ) → Accepts ex WX AX s x r → Accepts ex WX AX s z t
           → (ex x ≡ ex z) × (r ≡ t)
       same_first s x z r t a b =
@@ -84,7 +84,7 @@ module _ {X Y : Type 0} (ex : X → List ℕ) (WX : X → Type 0) (first_prefix_
             begins = a.begins ∙ append_assoc (ex p.0) (ey p.1) r;
           }
 
-      -- two values at the prefix are no fault
+      -- an input that begins with two values has no fault
       no_fault : (s : List ℕ) (p : X × Y) (r : List ℕ) (f : Fault)
           → Accepts (sequence_enc ex ey) (IsWritableSequence WX WY) (IsAllowedSequence AX AY) s p r
           → SequenceFault ex WX AX fx fy s f → ⊥
@@ -95,7 +95,7 @@ module _ {X Y : Type 0} (ex : X → List ℕ) (WX : X → Type 0) (first_prefix_
           (record { writable = a.writable.1; allowed = a.allowed.1; begins = e.1 })
           (fault_same x p.0 t f b.writable a.writable.0 e.0 w)
 
-      -- two faults of a text are at one cut
+      -- two faults of an input are in one error case
       pub sequence_one_case :
           (s : List ℕ) (f g : Fault) (v : SequenceFault ex WX AX fx fy s f) (w : SequenceFault ex WX AX fx fy s g)
           → sequence_case v ≡ sequence_case w
@@ -104,7 +104,7 @@ module _ {X Y : Type 0} (ex : X → List ℕ) (WX : X → Type 0) (first_prefix_
       sequence_one_case s f g (bad_second x t b v) (bad_first w) = absurd (first_laws.accepted_no_fault s x t g b w)
       sequence_one_case s f g (bad_second x t b v) (bad_second z u c w) = refl
 
-      -- a text has at most one fault
+      -- an input has at most one fault
       one : (s : List ℕ) (f g : Fault) → SequenceFault ex WX AX fx fy s f → SequenceFault ex WX AX fx fy s g → f ≡ g
       one s f g (bad_first v) (bad_first w) = first_laws.one_fault s f g v w
       one s f g (bad_first v) (bad_second x t b w) = absurd (first_laws.accepted_no_fault s x t f b v)
@@ -113,7 +113,7 @@ module _ {X Y : Type 0} (ex : X → List ℕ) (WX : X → Type 0) (first_prefix_
           let e = same_first s x z t u b c in
           (second_laws z).one_fault u f g (subst (λ k. fy z k f) e.1 (fault_same x z t f b.writable c.writable e.0 v)) w
 
-      -- what is promised of the texts of two values
+      -- the laws of the encodings of two values
       pub sequence_laws :
           ReadLaws (sequence_enc ex ey) (IsWritableSequence WX WY) (IsAllowedSequence AX AY)
           (SequenceFault ex WX AX fx fy)

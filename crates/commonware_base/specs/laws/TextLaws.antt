@@ -1,26 +1,26 @@
--- Laws of texts, and of values that are seen as other values.
+-- Laws of lists of bytes, and of values that are seen as other values.
 use Rattle.std.specs.Prelude.{◌≡◌, ℕ, List, [], ◌∷◌, ◌++◌, Bool}
 use Rattle.std.proofs.Common.{inl, inr, ap, subst, ◌∙◌}
 use Rattle.commonware_base.specs.Fault.{Fault}
 use Rattle.commonware_base.specs.Text.{AreBytes, IsPrefixFree, ReadLaws, CanonicalLaws}
 
--- two texts joined are a text
+-- two lists of bytes joined are a list of bytes
 pub bytes_append : (x y : List ℕ) → AreBytes x → AreBytes y → AreBytes (x ++ y)
 bytes_append [] y p q = q
 bytes_append (b ∷ x) y p q = (p.0, bytes_append x y p.1 q)
 
--- the end of a text is a text
+-- the end of a list of bytes is a list of bytes
 pub bytes_right : (x y : List ℕ) → AreBytes (x ++ y) → AreBytes y
 bytes_right [] y h = h
 bytes_right (b ∷ x) y h = bytes_right x y h.1
 
 -- A type whose values are seen as those of another keeps the laws that these keep.
 module _ {T V : Type 0} (view : V → T) (enc : T → List ℕ) (Writable : T → Type 0) where
-  -- no spelling begins another
+  -- no encoding is a proper prefix of another
   pub prefix_free_on : IsPrefixFree enc Writable → IsPrefixFree (λ v. enc (view v)) (λ v. Writable (view v))
   prefix_free_on h a b = h (view a) (view b)
 
-  -- values are equal exactly where their bytes are
+  -- values are equal exactly where their encodings are
   pub canonical_on : (eq : T → T → Bool) → CanonicalLaws enc Writable eq
       → CanonicalLaws (λ v. enc (view v)) (λ v. Writable (view v)) (λ v w. eq (view v) (view w))
   canonical_on eq h =

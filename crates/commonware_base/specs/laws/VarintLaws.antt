@@ -13,7 +13,7 @@ use Rattle.commonware_base.specs.laws.TextLaws.{bytes_append}
 use Rattle.commonware_base.specs.Varint.{AreContinued, groups_sum, IsVarint, groups, varint, varint_size}
 use Rattle.commonware_base.specs.Varint.{IsTruncated, IsOverlongOrTooGreat, varint_fault}
 
--- Two texts that agree: their high bytes in prefix, and the byte after them, are the same.
+-- Two lists of bytes that agree: their high bytes in prefix, and the byte after them, are the same.
 pub same_front : (f g : List ℕ) (l m : ℕ) (x y : List ℕ) → AreContinued f → AreContinued g → l < 128 → m < 128
     → f ++ l ∷ x ≡ g ++ m ∷ y → (f ≡ g) × (l ≡ m) × (x ≡ y)
 same_front [] [] l m x y hf hg hl hm e = (refl, cc, cc)
@@ -30,7 +30,7 @@ sum_pos : (g : List ℕ) (m : ℕ) → 0 < m → m < 128 → 0 < groups_sum (g +
 sum_pos [] m p h = omega arith
 sum_pos (c ∷ g) m p h = let r = sum_pos g m p h in omega (arith, r)
 
--- Two spellings with one sum are the same.
+-- Two varint encodings with one sum are the same.
 pub same_sum : (f g : List ℕ) (l m : ℕ) → AreContinued f → AreContinued g → l < 128 → m < 128 → (l ≡ 0 → f ≡ [])
     → (m ≡ 0 → g ≡ []) → groups_sum (f ++ l ∷ []) ≡ groups_sum (g ++ m ∷ []) → f ++ l ∷ [] ≡ g ++ m ∷ []
 same_sum [] [] l m hf hg hl hm sf sg e = let d : l ≡ m = omega arith in ap (λ n. n ∷ []) d
@@ -52,7 +52,7 @@ same_sum (b ∷ f) (c ∷ g) l m hf hg hl hm sf sg e =
     (λ z. let n : c ∷ g ≡ [] = sg z in absurd (cc)) r in
     cc
 
--- A spelling in groups, of any length.
+-- A varint encoding, of any length.
 record Spells (number more : ℕ) (bytes : List ℕ) : Type 0 where
   prefix : List ℕ
   last : ℕ
@@ -64,7 +64,7 @@ record Spells (number more : ℕ) (bytes : List ℕ) : Type 0 where
   sum : groups_sum bytes ≡ number
   positive : 0 < number → 0 < last
 
--- the groups of a number spell it
+-- the groups of a number encode it
 spells : (more n : ℕ) → n < 128 ^ suc more → Spells n more (groups more n)
 spells zero n h =
     record {
@@ -108,7 +108,7 @@ spells (suc more) n h = elim (cases_lt n 128) [
       })
 ]
 
--- The bytes of a number spell it.
+-- The bytes of a number encode it.
 pub varint_is : (n : ℕ) → n < 2 ^ 32 → IsVarint n (varint n)
 unfolding varint
 varint_is n h =
@@ -136,7 +136,7 @@ varint_bytes n h = let v = varint_is n h in
     subst AreBytes (sym v.bytes_are)
     (bytes_append v.prefix (v.last ∷ []) (high_bytes v.prefix v.high) (omega (arith, v.low), tt))
 
--- No other bytes spell it.
+-- No other bytes encode it.
 pub varint_only : (n : ℕ) (s : List ℕ) → IsVarint n s → s ≡ varint n
 varint_only n s v =
     let w = varint_is n v.fits in
@@ -145,7 +145,7 @@ varint_only n s v =
     sv ∙ same_sum v.prefix w.prefix v.last w.last v.high w.high v.low w.low v.shortest w.shortest
     (ap groups_sum (sym sv) ∙ (v.sum ∙ sym w.sum) ∙ ap groups_sum sw) ∙ sym sw
 
--- Where a text begins with two numbers, they are the same, and so is what follows.
+-- Where an input begins with two numbers, they are the same, and so is what follows.
 pub varint_split : (m n : ℕ) (x y : List ℕ) → m < 2 ^ 32 → n < 2 ^ 32 → varint m ++ x ≡ varint n ++ y
     → (m ≡ n) × (x ≡ y)
 varint_split m n x y hm hn e =
@@ -162,7 +162,7 @@ varint_split m n x y hm hn e =
     v.bytes_are ∙ ap (λ g. g ++ v.last ∷ []) f ∙ ap (λ b. w.prefix ++ b ∷ []) l ∙ sym w.bytes_are in
     (sym v.sum ∙ ap groups_sum t ∙ w.sum, s.2)
 
--- the text that a number begins, with its parts
+-- an input that begins with a number, with its parts
 parts : (s : List ℕ) (n : ℕ) (r : List ℕ) (v : IsVarint n (varint n)) → s ≡ varint n ++ r → s ≡ v.prefix ++ v.last ∷ r
 parts s n r v e = e ∙ ap (λ t. t ++ r) v.bytes_are ∙ append_assoc v.prefix (v.last ∷ []) r
 
@@ -171,7 +171,7 @@ not_all_high : (f : List ℕ) (l : ℕ) (x : List ℕ) → l < 128 → AreContin
 not_all_high [] l x h a = omega (arith, a.0.0)
 not_all_high (b ∷ f) l x h a = not_all_high f l x h a.1
 
--- Two texts that agree: up to the first byte below 128, or the fifth.
+-- Two lists of bytes that agree: up to the first byte below 128, or the fifth.
 same_wrong : (f g : List ℕ) (l m : ℕ) (x y : List ℕ) → AreContinued f → AreContinued g → l < 128
     → f ++ l ∷ x ≡ g ++ m ∷ y → length f ≤ length g → (f ≡ g) × (l ≡ m)
 same_wrong [] [] l m x y hf hg hl e h = (refl, cc)
@@ -192,7 +192,7 @@ last_of_five (a ∷ b ∷ c ∷ []) l e h s = absurd (omega arith)
 last_of_five (a ∷ b ∷ c ∷ d ∷ []) l e h s = omega arith
 last_of_five (a ∷ b ∷ c ∷ d ∷ k ∷ f) l e h s = absurd (omega arith)
 
--- A text that a number begins has no fault.
+-- An input that begins with a number has no fault.
 pub varint_no_fault : (s : List ℕ) (n : ℕ) (r : List ℕ) (f : Fault) → n < 2 ^ 32 → s ≡ varint n ++ r → varint_fault s f
     → ⊥
 varint_no_fault s n r EndOfBuffer h e w =
@@ -221,7 +221,7 @@ varint_no_fault s n r InvalidVarint h e w =
 varint_no_fault s n r (InvalidLength k) h e w = w
 varint_no_fault s n r (Invalid what why) h e w = w
 
--- A cut text has no byte that ends a number, and no fifth.
+-- A truncated input has no byte that ends a number, and no fifth.
 truncated_not_misspelled : (s : List ℕ) → IsTruncated s → IsOverlongOrTooGreat s → ⊥
 truncated_not_misspelled s c w =
     let a : AreContinued (w.prefix ++ w.last ∷ w.rest) = subst AreContinued w.begins c.high in
@@ -231,7 +231,7 @@ truncated_not_misspelled s c w =
       | inr z ↦ omega (arith, c.short, n, z.0, length-append w.prefix (w.last ∷ w.rest))
     ]
 
--- A text has one fault.
+-- An input has at most one fault.
 pub varint_one_fault : (s : List ℕ) (f g : Fault) → varint_fault s f → varint_fault s g → f ≡ g
 varint_one_fault s EndOfBuffer EndOfBuffer p q = refl
 varint_one_fault s EndOfBuffer InvalidVarint p q = absurd (truncated_not_misspelled s p q)
@@ -254,7 +254,7 @@ pub record Stops (more : ℕ) (s : List ℕ) : Type 0 where
   pub short : length prefix ≤ more
   pub stops : (last < 128) ⊎ (length prefix ≡ more)
 
--- a text of bytes is high and short, or it stops
+-- a list of bytes is high and short, or it stops
 pub stop_of : (more : ℕ) (s : List ℕ) → AreBytes s → (AreContinued s × (length s ≤ more)) ⊎ Stops more s
 stop_of more [] h = inl (tt, omega arith)
 stop_of zero (b ∷ s) h =
@@ -285,7 +285,7 @@ sum_fits (a ∷ b ∷ c ∷ []) l e h s = omega arith
 sum_fits (a ∷ b ∷ c ∷ d ∷ []) l e h s = let p : l ≤ 15 = s refl in omega arith
 sum_fits (a ∷ b ∷ c ∷ d ∷ k ∷ f) l e h s = absurd (omega arith)
 
--- A text that stops is a number or has the fault.
+-- An input that stops is a number or has the fault.
 pub number_of : (s : List ℕ) (prefix : List ℕ) (last : ℕ) (rest : List ℕ)
     → s ≡ prefix ++ last ∷ rest → AreContinued prefix
     → length prefix ≤ 4 → (last < 128) ⊎ (length prefix ≡ 4) →
@@ -333,7 +333,7 @@ number_of s prefix last rest begins high short stops = elim (cases_lt 0 last) [
       },
     )
 
--- A text of bytes begins with a number or has a fault.
+-- An input begins with a number or has a fault.
 pub varint_or_fault : (s : List ℕ) → AreBytes s
     → ((n : ℕ) × (r : List ℕ) × (n < 2 ^ 32) × (s ≡ varint n ++ r)) ⊎ ((f : Fault) × varint_fault s f)
 varint_or_fault s h = elim (stop_of 4 s h) [
@@ -350,18 +350,18 @@ varint_or_fault s h = elim (stop_of 4 s h) [
   ]
 ]
 
--- The number is spelled by sofar and then by the groups of what is left.
+-- The number is encoded by sofar and then by the groups of what is left.
 pub record Goes (number left : ℕ) (sofar : List ℕ) : Type 0 where
   pub more : ℕ
   pub below : left < 128 ^ suc more
   pub text : varint number ≡ sofar ++ groups more left
 
--- at the start nothing is spelled
+-- at the start nothing is encoded
 pub goes_start : (n : ℕ) → n < 2 ^ 32 → Goes n n []
 unfolding varint
 goes_start n h = record { more = 4; below = omega arith; text = refl }
 
--- one more group is spelled
+-- one more group is encoded
 pub goes_step : (n left : ℕ) (sofar : List ℕ) → Goes n left sofar → 128 ≤ left
     → Goes n (left / 128) (sofar ++ (left % 128 + 128) ∷ [])
 goes_step n left sofar g h = step g.more g.below g.text
@@ -410,15 +410,15 @@ groups_sum-drop (suc i) (x ∷ xs) = let r = groups_sum-drop i xs in omega (arit
 
 -- What the bytes up to a place make.
 module _ (s : List ℕ) (i : ℕ) (within : i < length s) (high : AreContinued (take i s)) (short : i ≤ 4) where
-  -- the text around a place
+  -- the list around a place
   cut_at : s ≡ take i s ++ get_or s i 0 ∷ drop (i + 1) s
   cut_at = sym (take-append-drop i s) ∙ ap (λ t. take i s ++ t) (drop_more s i 0 within)
 
-  -- how many bytes stand before it
+  -- how many bytes come before it
   front_length : length (take i s) ≡ i
   front_length = length-take-le i s (omega arith)
 
-  -- a last byte of 0 is a misspelling
+  -- a last byte of 0 is overlong
   pub bad_zero : 0 < i → get_or s i 0 ≡ 0 → IsOverlongOrTooGreat s
   bad_zero p z = let n =
       front_length in record {
@@ -430,7 +430,7 @@ module _ (s : List ℕ) (i : ℕ) (within : i < length s) (high : AreContinued (
         wrong = inl (z, omega (arith, n), omega (arith, n));
       }
 
-  -- a fifth byte above 15 is one
+  -- a fifth byte above 15 is too great
   pub bad_fifth : i ≡ 4 → 15 < get_or s i 0 → IsOverlongOrTooGreat s
   bad_fifth p z = let n =
       front_length in record {

@@ -1,4 +1,4 @@
--- A `Vec` of a list. A law that says that each text is accepted or faulty has to name a value, and no call makes one
+-- A `Vec` of a list. A law that says that each input is accepted or faulty has to name a value, and no call makes one
 -- there.
 use Rattle.std.specs.Prelude.{◌≡◌, ◌<◌, ◌^◌, List, length, refl, Vec}
 use Rattle.std.specs.Ptr.{null_ptr}

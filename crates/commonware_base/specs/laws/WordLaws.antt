@@ -1,4 +1,4 @@
--- What is proved of words and their texts.
+-- What is proved of words and their encodings.
 use Rattle.std.specs.Prelude.{◌≡◌, ℕ, zero, suc, ◌<◌, ◌≤◌, List, [], ◌∷◌, ◌++◌, length, refl, ◌↔◌, ◌==◌, true}
 use Rattle.std.specs.Int.{w32, from_be_bytes}
 use Rattle.std.proofs.Common.{inl, inr, ap, sym, ◌∙◌, arith, get_or, subst}
@@ -8,11 +8,11 @@ use Rattle.commonware_base.specs.Fault.{Fault, EndOfBuffer}
 use Rattle.commonware_base.specs.Text.{AreBytes, AcceptedOrFaulty, IsPrefixFree, ReadLaws, CanonicalLaws}
 use Rattle.commonware_base.specs.Words.{word_bytes, IsWord, word_fault}
 
--- two texts of four bytes that begin one text are the same
+-- the encodings of two words that begin one input are the same
 pub word_prefix_free : IsPrefixFree word_bytes IsWord
 word_prefix_free a b x y p q e = cc
 
--- four bytes at the prefix are no fault
+-- an input that begins with four bytes has no fault
 word_no_fault : (s : List ℕ) (v : ℕ) (r : List ℕ) (f : Fault) → s ≡ word_bytes v ++ r → word_fault s f → ⊥
 word_no_fault s v r f e w = omega (arith, w.0, ap length e)
 
@@ -50,7 +50,7 @@ word_equal a b p q = (
       (sym (from_be_bytes-to_be_bytes_4 a p) ∙ ap (from_be_bytes w32) e ∙ from_be_bytes-to_be_bytes_4 b q)),
 )
 
--- what is promised of the texts of words
+-- the laws of the encodings of words
 pub word_laws : ReadLaws word_bytes IsWord (λ _. Unit {0}) word_fault
 word_laws = record {
   allowed_by_bytes = λ a b _ _ _ h. h;

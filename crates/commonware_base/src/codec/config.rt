@@ -11,6 +11,8 @@ use std::ops::{Bound, Range, RangeFrom, RangeFull, RangeInclusive, RangeTo, Rang
 
 /// A range of lengths or numbers: a lower bound that is in it, where it has one, and an upper
 /// bound. A range that is empty or reversed holds no number.
+///
+/// `RangeCfg::from(1..3)` holds 1 and 2, and neither 0 nor 3.
 #[derive(Clone, Copy, Debug)]
 pub struct RangeCfg<T> {
     lower: Option<T>,

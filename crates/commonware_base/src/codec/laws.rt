@@ -1,4 +1,4 @@
-//! Laws of the byte forms, each the contract of a call that a proof can cite.
+//! Laws of the encodings, each the contract of a call that a proof can cite.
 ghost use Rattle.std.specs.Prelude.{◌≡◌, ℕ, ◌<◌, ◌^◌, List, length, true, IfOk, IfErr};
 ghost use Rattle.commonware_base.specs.Fault.{Fault};
 ghost use Rattle.commonware_base.specs.Lists.{ListFault, list_case};
@@ -10,28 +10,28 @@ use crate::codec::source::Source;
 use crate::codec::traits::{Canonical, Read, Write};
 use std::alloc::Allocator;
 
-/// Each number below 2^32 has one spelling as a varint, the one that is written, and no other
-/// number has it.
+/// Each number below 2^32 has one varint encoding, the one that is written, and no other number
+/// has it.
 pub fn varint_law()
     ensures spelled { (n : ℕ) → n < 2 ^ 32 → IsVarint n (varint n) }
     ensures only { (n : ℕ) (bytes : List ℕ) → IsVarint n bytes → bytes ≡ varint n }
 {}
 
-/// The cuts at which a text is no list exclude one another: no text is faulty at two of them.
+/// The error cases in which an input is no list exclude one another: no input is in two of them.
 pub fn list_fault_law<T: Read<A>, A: Allocator>(alloc: A, range: RangeCfg<usize>, item: &T::Cfg)
     ensures { (s : List ℕ) (f g : Fault)
         (v : ListFault T.enc T.writable (T.allowed item.now) (T.fault item.now) range s f)
         (w : ListFault T.enc T.writable (T.allowed item.now) (T.fault item.now) range s g)
         → list_case v ≡ list_case w }
 {
-    // The contract alone speaks of them.
+    // They are named so that no parameter is unused: only the contract speaks of them.
     let _ = (alloc, range);
 }
 
-/// Writes a value and any bytes after it, and reads it again: an equal value, and how many bytes
-/// are left, which are those after it; or `Memory`.
+/// Encodes a value, with any bytes after it, and decodes it again. It returns an equal value and
+/// how many bytes are left, which are those after it; or `Memory`.
 ///
-/// The value is writable, and the configuration allows it.
+/// It requires that the value is writable, and that the configuration allows it.
 pub fn round_trip<T: Read<A> + Write<A> + Canonical + Drop, A: Allocator + Copy>(
     alloc: A,
     value: &T,
@@ -49,8 +49,6 @@ pub fn round_trip<T: Read<A> + Write<A> + Canonical + Drop, A: Allocator + Copy>
         return Err(Error::Memory);
     }
     let mut src = Source::new(&sink);
-    match T::read_cfg(alloc, &mut src, cfg) {
-        Ok(again) => Ok((again, src.remaining())),
-        Err(error) => Err(error),
-    }
+    let again = T::read_cfg(alloc, &mut src, cfg)?;
+    Ok((again, src.remaining()))
 }

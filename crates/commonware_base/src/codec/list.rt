@@ -1,4 +1,4 @@
-//! Lists of items that have a byte form: the length, and then each item.
+//! Lists of items that have an encoding: the length, and then each item.
 ghost use Rattle.std.specs.Prelude.{◌≡◌, ℕ, ◌+◌, ◌<◌, ◌≤◌, ◌++◌, ◌∷◌, [], vec_capacity, vec_len, List, length, OnOk, OnErr, IfOk, IfErr};
 ghost use Rattle.std.specs.List.{AllByRecursion, flat_map};
 ghost use Rattle.std.specs.Cmp.Lexicographic.{pointwise};
@@ -48,7 +48,7 @@ impl<T: EncodeSize, A: Allocator> EncodeSize for Vec<T, A> {
     }
 }
 
-/// Appends the bytes of the items. Where memory is refused, some of them may stand there.
+/// Appends the bytes of the items. After an allocation failure, some of them may be in the sink.
 #[inline(always)]
 fn push_items<T: Write<A>, A: Allocator>(
     sink: &mut Vec<u8, A>,
@@ -64,14 +64,14 @@ fn push_items<T: Write<A>, A: Allocator>(
     Ok(())
 }
 
-/// Appends the bytes of the list. Where memory is refused, some of them may stand there.
+/// Appends the bytes of the list. After an allocation failure, some of them may be in the sink.
 ///
-/// The items of a type that writes many at once are written so. Of other types, once the first item
-/// is written, room is made for the others, as if each took as many bytes as the first, but for no
-/// more than they take in memory.
+/// Items of a type that writes many at once are written so. For other types, once the first item is
+/// written, room is reserved for the others, as if each took as many bytes as the first, but for no
+/// more bytes than they take in memory.
 ///
-/// It is put in line, and so are its loop and what calls it, so that a loop over a list that the
-/// caller holds keeps the length in a register.
+/// It is inlined, and so are its loop and its caller, so that a loop over a list that the caller
+/// holds keeps the length in a register.
 #[inline(always)]
 fn push_list<T: Write<A>, A: Allocator>(
     sink: &mut Vec<u8, A>,
@@ -110,25 +110,26 @@ impl<T: Write<A>, A: Allocator> Write<A> for Vec<T, A> {
     }
 }
 
-/// The most items of a list for which room is made with the first, whatever the text states.
+/// The most items of a list for which room is reserved with the first, whatever the input states.
 const MOST_ROOM: usize = 1024;
 
-/// What a text tells of the room for its items: how many it states, and in how many bytes.
+/// What an input tells about the room for its items: the length that it states, and how many bytes
+/// follow.
 #[derive(Clone, Copy)]
 struct Stated {
     count: usize,
     bytes: usize,
 }
 
-/// How many items are to have room with the first one.
+/// For how many items room is reserved with the first one.
 fn first_room(stated: Stated) -> usize
     ensures { 1 ≤ result }
 {
     stated.count.min(stated.bytes).min(MOST_ROOM).max(1)
 }
 
-/// Makes room for more items, where so many bytes are left: for no more than are stated, and for
-/// no more than the bytes hold, if each takes as many as those that are read.
+/// Reserves room for more items, where `left` bytes are left: for no more than are stated, and for
+/// no more than the bytes hold, if each takes as many as those that were read.
 #[cold]
 #[inline(never)]
 fn make_room<T, A: Allocator>(
@@ -146,10 +147,10 @@ fn make_room<T, A: Allocator>(
     items.reserve(others.min((left / each).saturating_add(1)).max(1))
 }
 
-/// The list with another item last, after which so many bytes are left.
+/// Returns the list with another item last, after which `left` bytes are left.
 ///
-/// The list goes in and out by value, and only one that is full is lent, so that a loop keeps the
-/// length in a register.
+/// The list goes in and out by value, and only a full one is mutably borrowed, so that a loop keeps
+/// the length in a register.
 #[inline(always)]
 fn put<T: Drop, A: Allocator>(
     alloc: A,
@@ -173,15 +174,15 @@ fn put<T: Drop, A: Allocator>(
     Ok(items)
 }
 
-/// Reads a list under a range for its length and a configuration for its items: what `Vec` reads.
+/// Decodes a list under a range for its length and a configuration for its items, as `Vec` does.
 ///
-/// It answers the first fault: the length's, then a length out of the range, then that of the
-/// first item that has one. Once the first item is read, it makes room for as many items as the
-/// text states, but for no more than there are bytes after the length, nor than 1024. Where that
-/// is full, it makes room for as many others as are stated, but for no more than the bytes that
-/// are left hold, if each takes as many as those before it. After an error the source stands where
-/// it stood. The items of a type that reads many at once are read so, and then room is made as its
-/// `read_at_once` says.
+/// It returns the first fault: that of the length's varint, then a length out of the range, then
+/// that of the first item that has one. Once the first item is read, it reserves room for as many
+/// items as the input states, but for no more than there are bytes after the length, nor than 1024.
+/// Where that is full, it reserves room for as many others as are stated, but for no more than the
+/// bytes that are left hold, if each takes as many as those before it. After an error the source is
+/// where it was. The items of a type that reads many at once are read so, and then room is reserved
+/// as its `read_at_once` says.
 pub fn read_list<T: Read<A> + Drop, A: Allocator + Copy>(
     alloc: A,
     src: &mut Source<'_>,
@@ -197,22 +198,16 @@ pub fn read_list<T: Read<A> + Drop, A: Allocator + Copy>(
     ensures stays { OnErr result (src.new ≡ src.old) }
 {
     let mut here = *src;
-    let count = match read_varint(&mut here) {
-        Ok(count) => count as usize,
-        Err(error) => return Err(error),
-    };
+    let count = read_varint(&mut here)?;
+    let count = count as usize;
     if !range.contains(&count) {
         return Err(Error::InvalidLength(count));
     }
     match T::read_at_once(alloc, &mut here, count, item) {
         Some(read) => {
-            return match read {
-                Ok(items) => {
-                    *src = here;
-                    Ok(items)
-                }
-                Err(error) => Err(error),
-            };
+            let items = read?;
+            *src = here;
+            return Ok(items);
         }
         None => {}
     }
@@ -220,15 +215,11 @@ pub fn read_list<T: Read<A> + Drop, A: Allocator + Copy>(
     let stated = Stated { count, bytes };
     let mut items = Vec::new(alloc);
     for _ in 0..count {
-        match T::read_cfg(alloc, &mut here, item) {
-            Ok(value) => {
-                let Ok(more) = put(alloc, items, value, stated, here.remaining()) else {
-                    return Err(Error::Memory);
-                };
-                items = more;
-            }
-            Err(error) => return Err(error),
-        }
+        let value = T::read_cfg(alloc, &mut here, item)?;
+        let Ok(more) = put(alloc, items, value, stated, here.remaining()) else {
+            return Err(Error::Memory);
+        };
+        items = more;
     }
     *src = here;
     Ok(items)

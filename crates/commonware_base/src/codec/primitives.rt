@@ -33,7 +33,8 @@ impl EncodeSize for u8 {
     }
 
     fn is_writable(&self) -> bool {
-        // What is read is known to be in the range of its type, so it is writable.
+        // The prover knows the range of a value only once the body reads it: each value in the
+        // range of its type is writable.
         let _byte = *self;
         true
     }
@@ -45,7 +46,7 @@ impl<A: Allocator> Write<A> for u8 {
         Ok(())
     }
 
-    /// The bytes stand for themselves, so they are copied.
+    /// A byte is its own encoding, so the bytes are copied.
     #[inline(always)]
     fn write_at_once(items: &[u8], sink: &mut Vec<u8, A>) -> Option<Result<(), AllocError>> {
         Some(sink.extend_from_slice(items))
@@ -74,8 +75,8 @@ impl<A: Allocator> Read<A> for u8 {
         }
     }
 
-    /// The bytes stand for themselves, so they are copied, into room for just that count; where
-    /// fewer are left, none is, and no memory is asked for.
+    /// A byte is its own encoding, so the bytes are copied, into room for exactly `count`. Where
+    /// fewer are left, none is copied, and nothing is allocated.
     #[inline(always)]
     fn read_at_once(
         alloc: A,
@@ -124,7 +125,8 @@ impl EncodeSize for u32 {
     }
 
     fn is_writable(&self) -> bool {
-        // What is read is known to be in the range of its type, so it is writable.
+        // The prover knows the range of a value only once the body reads it: each value in the
+        // range of its type is writable.
         let _word = *self;
         true
     }
@@ -132,13 +134,13 @@ impl EncodeSize for u32 {
 
 impl<A: Allocator> Write<A> for u32 {
     fn write(&self, sink: &mut Vec<u8, A>) -> Result<(), AllocError> {
-        // Four bytes into room that is there, which are one store where the list is at hand.
+        // Four bytes into room that is there: one store, where the list is in registers.
         sink.reserve(4)?;
         push_word(sink, *self);
         Ok(())
     }
 
-    /// The words go into room that is made for all of them.
+    /// The words go into room that is reserved for all of them.
     #[inline(always)]
     fn write_at_once(items: &[u32], sink: &mut Vec<u8, A>) -> Option<Result<(), AllocError>> {
         if let Err(error) = sink.reserve(items.len() * 4) {
@@ -183,8 +185,8 @@ impl<A: Allocator> Read<A> for u32 {
         Ok(take_word(src))
     }
 
-    /// The words are taken into room for just that count; where fewer are left, none is, and no
-    /// memory is asked for.
+    /// The words are taken into room for exactly `count`. Where fewer are left, none is taken, and
+    /// nothing is allocated.
     #[inline(always)]
     fn read_at_once(
         alloc: A,
@@ -207,9 +209,9 @@ impl<A: Allocator> Read<A> for u32 {
     }
 }
 
-/// Takes the word at the prefix, whose bytes are there.
+/// Takes the word that comes next, whose bytes are there.
 ///
-/// It is inlined and tests nothing, so that a loop of it works on several words at a time.
+/// It is inlined and branchless, so that a loop of it works on several words at a time.
 #[inline(always)]
 fn take_word(src: &mut Source<'_>) -> u32
     requires { 4 ≤ length (rest_of src.old) }
@@ -270,17 +272,13 @@ impl<A: Allocator> Read<A> for usize {
 
     fn read_cfg(_alloc: A, src: &mut Source<'_>, cfg: &RangeCfg<usize>) -> Result<usize, Error> {
         let start = *src;
-        match read_varint(src) {
-            Ok(number) => {
-                let number = number as usize;
-                if cfg.contains(&number) {
-                    return Ok(number);
-                }
-                *src = start;
-                Err(Error::InvalidLength(number))
-            }
-            Err(error) => Err(error),
+        let number = read_varint(src)?;
+        let number = number as usize;
+        if cfg.contains(&number) {
+            return Ok(number);
         }
+        *src = start;
+        Err(Error::InvalidLength(number))
     }
 }
 

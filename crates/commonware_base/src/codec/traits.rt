@@ -1,4 +1,4 @@
-//! What has a byte form: how it is written and read, and the laws.
+//! Types that have an encoding: how values are encoded and decoded, and the laws.
 ghost use Rattle.std.specs.Prelude.{◌≡◌, ℕ, ◌<◌, ◌≤◌, ◌^◌, ◌↔◌, ◌++◌, List, length, IsTrue, OnOk, OnErr, IfOk, IfErr, IfSome, IfNone};
 ghost use Rattle.std.specs.List.{AllByRecursion, flat_map};
 ghost use Rattle.commonware_base.specs.Fault.{Fault};
@@ -11,16 +11,17 @@ use crate::codec::error::Error;
 use crate::codec::source::Source;
 use std::alloc::{AllocError, Allocator};
 
-/// A type whose values have a byte form.
+/// A type whose values have an encoding.
 pub trait EncodeSize {
     /// The bytes of a value.
     ghost enc: { Self → List ℕ };
 
-    /// The values that can be written. For a number it names the range of the type, for a
+    /// The values that can be encoded. For a number this names the range of the type, for a
     /// collection its invariant too, since a law ranges over every number and list.
     ghost writable: { Self → Type 0 };
 
-    /// How many bytes the value has. The value is writable, and the number fits a `usize`.
+    /// Returns the length of the value's encoding in bytes. It requires that the value is writable,
+    /// and that the length fits a `usize`.
     fn encode_size(&self) -> usize
         requires writable { writable self.now }
         requires fits { length (enc self.now) < 2 ^ 64 }
@@ -30,28 +31,28 @@ pub trait EncodeSize {
     fn is_writable(&self) -> bool
         ensures { IsTrue result ↔ writable self.now };
 
-    /// No spelling begins another.
+    /// The encodings are prefix-free: no encoding is a proper prefix of another.
     ghost prefix_free: { IsPrefixFree enc writable };
 
-    /// What is written are bytes.
+    /// What is written is bytes.
     ghost text_of_bytes: { (v : Self) → writable v → AreBytes (enc v) };
 }
 
-/// A type whose values can be appended to a list of bytes.
+/// A type whose values can be encoded: appended to a list of bytes.
 pub trait Write<A: Allocator>: EncodeSize {
-    /// Appends the bytes of the value, which is writable. Where memory is refused, the sink is as
-    /// it was.
+    /// Appends the encoding of the value, which has to be writable. After an allocation failure the
+    /// sink is as it was.
     fn write(&self, sink: &mut Vec<u8, A>) -> Result<(), AllocError>
         requires { Self.writable self.now }
         ensures ok { OnOk result (sink.new.items ≡ sink.old.items ++ Self.enc self.now) }
         ensures err { OnErr result (sink.new.items ≡ sink.old.items) };
 
-    /// Appends the bytes of the items, one after another, and answers `Some`; each is writable.
-    /// Where memory is refused, the sink is as it was. Or it does nothing and answers `None`: then
-    /// a caller writes them one by one by `write`, as the writer of lists does.
+    /// Appends the encodings of the items, one after another, and returns `Some`; each has to be
+    /// writable. After an allocation failure the sink is as it was. Or it does nothing and returns
+    /// `None`: then a caller writes them one by one by `write`, as the writer of lists does.
     ///
     /// A type need not have a body of its own: this one does nothing. Those of `u8` and `u32` write
-    /// all items into room that is made once.
+    /// all items into room that is reserved once.
     #[inline(always)]
     fn write_at_once(items: &[Self], sink: &mut Vec<u8, A>) -> Option<Result<(), AllocError>>
     where
@@ -63,7 +64,7 @@ pub trait Write<A: Allocator>: EncodeSize {
             (sink.new.items ≡ sink.old.items)) }
         ensures none { IfNone result (sink.new.items ≡ sink.old.items) }
     {
-        // The contract alone speaks of them.
+        // They are named so that no parameter is unused: only the contract speaks of them.
         let _ = (items.len(), sink.len());
         None
     }
@@ -73,30 +74,30 @@ pub trait Write<A: Allocator>: EncodeSize {
 pub trait MaxEncodeSize: EncodeSize {
     ghost MAX_ENCODE_SIZE: { ℕ };
 
-    /// At least the number of bytes of every writable value.
+    /// At least the length in bytes of every writable value's encoding.
     const MAX_ENCODE_SIZE: usize;
 
-    /// No writable value takes more bytes.
+    /// No writable value's encoding is longer.
     ghost bounded: { (v : Self) → Self.writable v → length (Self.enc v) ≤ MAX_ENCODE_SIZE };
 }
 
-/// A type whose values can be read.
+/// A type whose values can be decoded.
 pub trait Read<A: Allocator>: EncodeSize + Sized {
-    /// What limits the values that are read.
+    /// The configuration that limits the values that are decoded.
     type Cfg;
 
-    /// The values that a configuration lets through.
+    /// The values that a configuration allows.
     ghost allowed: { Self.Cfg → Self → Type 0 };
 
-    /// The fault of a text under a configuration.
+    /// The faults (decoding errors) of an input under a configuration.
     ghost fault: { Self.Cfg → List ℕ → Fault → Type 0 };
 
-    /// The texts that are read or refused with no memory.
+    /// The inputs that are accepted or refused without an allocation.
     ghost memory_free: { Self.Cfg → List ℕ → Type 0 };
 
-    /// The value whose bytes come next, or the first fault of the text; `Memory` only where the
-    /// reading isn't memory-free. What follows the value is left. After an error the source stands
-    /// where it stood.
+    /// Decodes the value whose encoding comes next. It returns the value, or the first fault of the
+    /// input, or `Memory`, which comes only where the decoding isn't memory-free. What follows the
+    /// value is left. After an error the source is where it was.
     fn read_cfg(alloc: A, src: &mut Source<'_>, cfg: &Self::Cfg) -> Result<Self, Error>
         ensures accepted { IfOk result (λ v. Accepts Self.enc Self.writable (allowed cfg.now)
             (rest_of src.old) v (rest_of src.new)) }
@@ -105,13 +106,13 @@ pub trait Read<A: Allocator>: EncodeSize + Sized {
             (Refuses (fault cfg.now (rest_of src.old)) (memory_free cfg.now (rest_of src.old))) }
         ensures stays { OnErr result (src.new ≡ src.old) };
 
-    /// The next `count` values, or the first fault of one of them; `Memory` only where the reading
-    /// isn't memory-free. What follows them is left. After an error the source stands where it
-    /// stood. Or it does nothing and answers `None`: then a caller reads them one by one by
-    /// `read_cfg`, as the reader of lists does.
+    /// Decodes the next `count` values. It returns them, or the first fault of one of them, or
+    /// `Memory`, which comes only where the decoding isn't memory-free. What follows them is left.
+    /// After an error the source is where it was. Or it does nothing and returns `None`: then a
+    /// caller reads them one by one by `read_cfg`, as the reader of lists does.
     ///
-    /// A type need not have a body of its own: this one does nothing. Those of `u8` and `u32` make
-    /// room for just that count, once its bytes are known to be there.
+    /// A type need not have a body of its own: this one does nothing. Those of `u8` and `u32`
+    /// reserve room for exactly `count`, once its bytes are known to be there.
     #[inline(always)]
     fn read_at_once(
         alloc: A,
@@ -133,19 +134,19 @@ pub trait Read<A: Allocator>: EncodeSize + Sized {
         ensures stays { IfSome result (λ read. OnErr read (src.new ≡ src.old)) }
         ensures none { IfNone result (src.new ≡ src.old) }
     {
-        // The contract alone speaks of them.
+        // They are named so that no parameter is unused: only the contract speaks of them.
         let _ = (alloc, src.position(), count, cfg);
         None
     }
 
-    /// A text that is accepted has no fault, each other text has one, and what is allowed goes by
-    /// the bytes.
+    /// An input that is accepted has no fault, each other input has one, and whether a value is
+    /// allowed depends on its encoding alone.
     ghost read_laws: { (alloc : A) (c : Self.Cfg)
         → ReadLaws Self.enc Self.writable (allowed c) (fault c) };
 }
 
-/// A type whose writable values are equal exactly where their bytes are. Equal values are writable
-/// together.
+/// A type whose encoding is canonical: writable values are equal exactly where their encodings are,
+/// and of two equal values both are writable or neither.
 pub trait Canonical: EncodeSize + Eq {
     ghost canonical: { CanonicalLaws Self.enc Self.writable Self.eq };
 }

@@ -1,5 +1,6 @@
-//! Numbers below 2^32 in groups of seven bits: the lowest group first, one group a byte, the top
-//! bit set on every byte but the last, in the fewest bytes.
+//! Varints: numbers below 2^32 in groups of seven bits, the lowest group first, one group a byte,
+//! the top bit set on every byte but the last, in the fewest bytes. An overlong encoding is
+//! refused.
 ghost use Rattle.std.specs.Prelude.{◌≡◌, ℕ, ◌+◌, ◌≤◌, ◌<◌, ◌^◌, ◌==◌, ◌++◌, List, length, take, OnOk, OnErr, IfOk, IfErr, refl};
 ghost use Rattle.commonware_base.specs.Refusal.{Refuses};
 ghost use Rattle.commonware_base.specs.Source.{rest_of, Consumes};
@@ -14,7 +15,7 @@ use crate::codec::source::Source;
 use crate::codec::traits::{Canonical, EncodeSize, MaxEncodeSize, Read, Write};
 use std::alloc::{AllocError, Allocator};
 
-/// A number that is written as a varint.
+/// A number that is encoded as a varint: `UInt(300)` as `[0xac, 0x02]`.
 #[derive(Clone, Copy, Debug, PartialEq, Eq, PartialOrd, Ord, Hash)]
 pub struct UInt(pub u32);
 
@@ -32,7 +33,8 @@ impl EncodeSize for UInt {
     }
 
     fn is_writable(&self) -> bool {
-        // What is read is known to be in the range of its type, so it is writable.
+        // The prover knows the range of a value only once the body reads it: each value in the
+        // range of its type is writable.
         let _value = self.0;
         true
     }
@@ -72,10 +74,8 @@ impl<A: Allocator> Read<A> for UInt {
         (λ n _ _. (record { 0 = n }, refl)) varint_laws };
 
     fn read_cfg(_alloc: A, src: &mut Source<'_>, _cfg: &()) -> Result<UInt, Error> {
-        match read_varint(src) {
-            Ok(number) => Ok(UInt(number)),
-            Err(error) => Err(error),
-        }
+        let number = read_varint(src)?;
+        Ok(UInt(number))
     }
 }
 
@@ -83,7 +83,7 @@ impl Canonical for UInt {
     ghost canonical = { canonical_on (λ v. v.0) varint IsWord ◌==◌ number_canonical };
 }
 
-/// How many bytes spell the number.
+/// Returns the length of the number's varint encoding.
 pub(crate) fn varint_size(number: u32) -> usize
     ensures size { result ≡ length (varint number) }
     ensures at_most_five { result ≤ 5 }
@@ -97,7 +97,7 @@ pub(crate) fn varint_size(number: u32) -> usize
     size
 }
 
-/// Appends the bytes of the number. Where memory is refused, some of them may stand there.
+/// Appends the bytes of the number. After an allocation failure, some of them may be in the sink.
 pub(crate) fn push_varint<A: Allocator>(
     sink: &mut Vec<u8, A>,
     number: u32,
@@ -114,7 +114,7 @@ pub(crate) fn push_varint<A: Allocator>(
     Ok(())
 }
 
-/// The number whose bytes come next.
+/// Decodes the varint that comes next.
 pub(crate) fn read_varint(src: &mut Source<'_>) -> Result<u32, Error>
     ensures consumed { IfOk result (λ number. Consumes src.old src.new (varint number)) }
     ensures fits { IfOk result (λ number. number < 2 ^ 32) }
@@ -122,17 +122,13 @@ pub(crate) fn read_varint(src: &mut Source<'_>) -> Result<u32, Error>
     ensures stays { OnErr result (src.new ≡ src.old) }
 {
     let rest = src.rest();
-    match varint_len(rest) {
-        Ok(count) => {
-            let number = groups_value(&rest[..count]);
-            src.advance(count);
-            Ok(number)
-        }
-        Err(error) => Err(error),
-    }
+    let count = varint_len(rest)?;
+    let number = groups_value(&rest[..count]);
+    src.advance(count);
+    Ok(number)
 }
 
-/// How many bytes the number at the prefix takes.
+/// Returns the length of the varint at the start of the bytes.
 fn varint_len(bytes: &[u8]) -> Result<usize, Error>
     ensures within { IfOk result (λ count. count ≤ length bytes.now) }
     ensures found { IfOk result (λ count.
@@ -155,7 +151,7 @@ fn varint_len(bytes: &[u8]) -> Result<usize, Error>
     Err(Error::EndOfBuffer)
 }
 
-/// The number that the bytes spell.
+/// Returns the number that the bytes encode.
 fn groups_value(bytes: &[u8]) -> u32
     requires { groups_sum bytes.now < 2 ^ 32 }
     ensures { result ≡ groups_sum bytes.now }

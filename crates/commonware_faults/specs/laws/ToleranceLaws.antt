@@ -52,7 +52,7 @@ Greatest-refuted k n f g two h above within =
     elim (cases_lt n (k * g + 1)) [ inl less ↦ less | inr fits ↦ absurd (omega (arith, h.greatest g fits)) ] in
     omega (arith, shared-places n 0 (n - g) g n, over, split k g two)
 
--- where quorums are to share, there is a participant
+-- where quorums have to share, there is a participant
 some_from_greatest : (k n f : ℕ) → Greatest k n f → 1 ≤ n
 some_from_greatest k n f h =
     omega (arith, Overlap-at_ends n (n - f) (n - f) ((k - 2) * f + 1) (omega arith) (omega arith) h.overlaps)

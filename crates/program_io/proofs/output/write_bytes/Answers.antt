@@ -3,7 +3,7 @@ use Rattle.std.proofs.lemmas.List.{take_rest}
 use Rattle.std.proofs.KnownBytes.{Appends-trans}
 use Rattle.program_io.proofs.output.write_bytes.Goals as goal
 
--- n bytes more of the rest are gone
+-- n more bytes of the rest were written
 moves_front : (all gone rest : List ℕ) (n : ℕ) → all ≡ gone ++ rest → all ≡ (gone ++ take n rest) ++ take (length rest - n) (drop n rest)
 moves_front all gone rest n e =
     e ∙ ap (λ l. gone ++ l) (sym (take-append-drop n rest)) ∙ sym (append_assoc gone (take n rest) (drop n rest)) ∙ ap (λ l. (gone ++ take n rest) ++ l) (sym (take_rest rest n))
