@@ -13,7 +13,7 @@ less_from_test Less e = refl
 less_from_test Equal e = cc
 less_from_test Greater e = cc
 
--- where each item was asked whether it is less than the next, the answer tells strict lists
+-- where each item was tested whether it is less than the next, the result tells strictly increasing lists
 pub strict_told : {T : Type 0} (cmp : T → T → Ordering) (xs : List T) (r : Bool) → IsAllAdjacentAnswer (λ x y b. b ≡ is_lt (cmp x y)) xs r → IsTrue r ↔ IsStrict cmp xs
 strict_told cmp xs true told = (λ _ k d high. less_from_test (cmp (get_or xs k d) (get_or xs (k + 1) d)) (told k d high), λ _. refl)
 strict_told cmp [] false told = absurd (omega (arith, told.1))

@@ -10,7 +10,7 @@ use Rattle.commonware_ordered.specs.declared.error.Error.{Error}
 use Rattle.commonware_ordered.specs.declared.error.Error.TheVariants.{DuplicateKey, DuplicateValue, Memory}
 
 module _ {X : Type 0} {eq : X → X → Bool} (laws : IsEquivalence eq) (C : X → X → Type 0) (each : (x y : X) → C x y → eq x y ≡ true) where
-  -- what is answered for the clones is answered for their sources
+  -- what is returned for the clones is returned for their sources
   pub whole_set_of_clones : (cmp : X → X → Ordering) (xs ys : List X) → AllZip C xs ys → (r : Result (List X) Error) → IsWholeSet eq cmp ys r → IsWholeSetOfClones eq cmp C xs r
   whole_set_of_clones cmp xs ys z (Ok s) h = (ys, z, h.0, h.1, λ twice. h.2 (equal_items_same eq laws xs ys (equal_from_all_zip C each xs ys z) twice))
   whole_set_of_clones cmp xs ys z (Err DuplicateKey) h = equal_items_back eq laws xs ys (equal_from_all_zip C each xs ys z) h

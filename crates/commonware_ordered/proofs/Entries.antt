@@ -1,4 +1,4 @@
--- What is put into a tree of pairs, as what is put into a list of pairs by their keys.
+-- What is inserted into a tree of pairs, as what is inserted into a list of pairs by their keys.
 use Rattle.std.proofs.Common.{◌≡◌, Bool, true, false, ◌||◌, List, [], ◌∷◌, ◌++◌, cond, refl, sym, ◌∙◌, ap}
 use Rattle.std.specs.Prelude.{None, Option, Some}
 use Rattle.std.specs.BTreeMap.{insert_entry, is_at}
@@ -65,7 +65,7 @@ module _ {K V : Type 0} (cmp : K → K → Ordering) where
   pub put_where_some : IsTotalOrder cmp → (es fs : List (K × V)) (k : K) (v w : V) → IsStrictlySortedBy cmp (keys_of es) → lookup (is_at (cmp k)) es ≡ Some w → fs ≡ insert_entry cmp es k w → IsPut (λ p q. cmp p.0 q.0) es (k, v) false fs
   put_where_some total es fs k v w s some is = (any_by_lookup es k ∙ ap is_some some, is ∙ entry_present total es k w s some)
 
--- pairs whose keys rise are put into a tree in turn: one pair more was put
+-- pairs of strictly increasing keys are inserted into a tree in turn: one more pair was inserted
 pub pair_more : {K V Z : Type 0} {cmp : K → K → Ordering} → IsTotalOrder cmp → (es done more : List (K × V)) (s t : Zip (IntoIter K Z) (IntoIter V Z)) (p : K × V) (new : Bool) → IsStrictlySortedBy cmp (keys_of es) → LeftOf es done s
     → zip_steps into_iter_steps into_iter_steps s (Some p) t → IsPut (λ p q. cmp p.0 q.0) done p new more → LeftOf es more t
 pair_more total es done more s t p new strict h w put =

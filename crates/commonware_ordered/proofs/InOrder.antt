@@ -1,4 +1,4 @@
--- Items that are put in their order one at a time into a run and a tree.
+-- Items that are inserted in their order one at a time into a run and a tree.
 use Rattle.std.proofs.Common.{◌≡◌, ℕ, ◌+◌, Bool, true, false, List, [], ◌∷◌, ◌++◌, length, get_or, refl, sym, ◌∙◌, ap, subst, append_assoc, append-nil, arith, ◌⊎◌, ⊎_elim}
 use Rattle.std.specs.BTreeSet.{insert_key}
 use Rattle.std.specs.Cmp.{IsTotalOrder}
@@ -16,7 +16,7 @@ use Rattle.commonware_ordered.proofs.Halves.{put_in_run, run_is_all, run_is_none
 use Rattle.commonware_ordered.proofs.Rising.{below_all, below_next, one_equals, put_at_end, strict_more}
 use Rattle.commonware_ordered.proofs.Zipped.{empty_from_len}
 
--- what the tree says of an item that it took in or not is what is put
+-- what the tree says of an item that it took in or not is an insertion
 pub put_from_added : {X : Type 0} (cmp : X → X → Ordering) (r s : List X) (x : X) (new : Bool) → new ≡ not (list_any (eq_by_cmp cmp x) r) → s ≡ insert_key cmp r x → (new ≡ false → s ≡ r) → IsPut cmp r x new s
 put_from_added cmp r s x true a k u = (go (list_any (eq_by_cmp cmp x) r) a, k)
   where
@@ -51,19 +51,19 @@ module _ {X Z : Type 0} where
   left_none all done s t h w = sym (append-nil done) ∙ (sym (ap (λ l. done ++ l) (empty_from_len (into_iter_items s) (sym w.0 ∙ h.len))) ∙ h.split)
 
 module _ {X : Type 0} {cmp : X → X → Ordering} (o : IsTotalOrder cmp) where
-  -- how the last item of a run stands to another
+  -- how the last item of a run compares with another
   pub last_stands : (r : List X) (x last : X) (n : ℕ) (c : Ordering) → IsStrictlySortedBy cmp r → n + 1 ≡ length r → ((d : X) → last ≡ get_or r n d) → c ≡ cmp last x
       → MatchOrdering c (AllByRecursion (λ y. cmp y x ≡ Less) r) (list_any (eq_by_cmp cmp x) r ≡ true) (Unit {0})
   last_stands r x last n Less s end at is = below_all o r x last n s end at (sym is)
   last_stands r x last n Equal s end at is = one_equals o r x last n s end at (sym is)
   last_stands r x last n Greater s end at is = tt
 
-  -- items in order of which those of done were put and the others are left: one more was put
+  -- items in order of which those of done were inserted and the others are left: one more was inserted
   pub kept_more : {Z : Type 0} (all done more : List X) (s t : IntoIter X Z) (x : X) (new : Bool) → IsStrictlySortedBy cmp all → LeftIn all done s → into_iter_steps s (Some x) t → IsPut cmp done x new more → LeftIn all more t
   kept_more all done more s t x new strict h w put =
       left_more all done more s t x h w (put_at_end o done more x new (below_next o done x (into_iter_items t) (subst (IsStrictlySortedBy cmp) (sym (sym (ap (λ l. done ++ l) w.0) ∙ h.split)) strict)) put)
 
-  -- a greater item is put last
+  -- a greater item is appended
   pub kept_last : (run tree more : List X) (x : X) → length tree ≡ 0 → AllByRecursion (λ y. cmp y x ≡ Less) run → more ≡ run ++ x ∷ [] → IsPut cmp (run ++ tree) x true (more ++ tree)
   kept_last run tree more x none below is = put_in_run run tree (run ++ tree) refl o more x none below is
 
@@ -76,18 +76,18 @@ module _ {X : Type 0} (cmp : X → X → Ordering) where
   pub kept_equal : (run tree : List X) (x : X) → length tree ≡ 0 → list_any (eq_by_cmp cmp x) run ≡ true → IsPut cmp (run ++ tree) x false (run ++ tree)
   kept_equal run tree x none has = (ap (list_any (eq_by_cmp cmp x)) (sym (run_is_all run tree (run ++ tree) refl none)) ∙ has, refl)
 
-  -- an item that is put into the tree, where the run is empty
+  -- an item that is inserted into the tree, where the run is empty
   pub kept_in_tree : (run tree after : List X) (x : X) (new : Bool) → (run ≡ []) ⊎ (tree ≡ []) → ¬ (length tree ≡ 0) → IsPut cmp tree x new after → IsPut cmp (run ++ tree) x new (run ++ after)
   kept_in_tree run tree after x new one some h =
       subst (λ l. IsPut cmp (l ++ tree) x new (l ++ after)) (sym (run_is_none run tree (run ++ tree) refl one some)) h
 
-  -- an item that is put into the tree, once the run was moved there
+  -- an item that is inserted into the tree, once the run was moved there
   pub kept_moved : (run tree moved after none : List X) (x : X) (new : Bool) → length tree ≡ 0 → moved ≡ run → none ≡ [] → IsPut cmp moved x new after → IsPut cmp (run ++ tree) x new (none ++ after)
   kept_moved run tree moved after none x new empty same nothing h =
       subst (λ l. IsPut cmp (run ++ tree) x new (l ++ after)) (sym nothing)
       (subst (λ l. IsPut cmp l x new after) (same ∙ run_is_all run tree (run ++ tree) refl empty) h)
 
-  -- the items of a run and a tree, one of which is empty, are strict
+  -- the items of a run and a tree, one of which is empty, are strictly increasing
   pub strict_both : (run tree all : List X) → all ≡ run ++ tree → (run ≡ []) ⊎ (tree ≡ []) → IsStrictlySortedBy cmp run → IsStrictlySortedBy cmp tree → IsStrict cmp all
   strict_both run tree all is one a b =
       strict_from_sorted cmp (run ++ tree) all is

@@ -1,4 +1,4 @@
--- Where an item of a strict list stands that equals the one sought.
+-- The place in a strictly increasing list of the item that equals the one sought.
 use Rattle.std.proofs.Common.{◌≡◌, ℕ, ◌+◌, ◌-◌, ◌*◌, ◌<◌, ◌≤◌, Bool, true, false, List, length, get_or, refl, sym, ◌∙◌, ap, subst, arith, ⊎_elim}
 use Rattle.std.specs.List.{HoldsAt}
 use Rattle.std.proofs.lemmas.List.{get_or_default}
@@ -12,7 +12,7 @@ use Rattle.commonware_ordered.specs.Strict.{IsStrict}
 use Rattle.commonware_ordered.specs.laws.StrictLaws.{level, sorted_from_strict}
 
 module _ {X : Type 0} {cmp : X → X → Ordering} (o : IsTotalOrder cmp) {eq : X → X → Bool} (ties : (x y : X) → eq x y ≡ is_eq (cmp x y)) where
-  -- what x answers to the item at place i, where the item at place k equals x
+  -- how x compares with the item at place i, where the item at place k equals x
   pub at_least_from_place : (xs : List X) (x : X) (i k : ℕ) (d : X) → IsStrict cmp xs → i < length xs → k < length xs → HoldsAt (λ y. eq y x ≡ true) xs k
       → (i ≤ k → is_ge (cmp x (get_or xs i d)) ≡ true) × (k < i → is_ge (cmp x (get_or xs i d)) ≡ false)
   at_least_from_place xs x i k d s here there h =
@@ -73,7 +73,7 @@ halved_within base size window k r more room one low high = ⊎_elim before afte
     after : base + (size - window) ≤ k → Goal r
     after h = subst Goal (sym (one.0 h)) (omega arith, omega arith)
 
--- a sum of three answers times a quarter is at most three quarters
+-- a sum of three comparisons' results times a quarter is at most three quarters
 pub passed_at_most : (q a b c : ℕ) → a ≤ 1 → b ≤ 1 → c ≤ 1 → q * (a + b + c) ≤ q * 3
 passed_at_most q a b c x y z = mul-le q (a + b + c) q 3 (omega arith) (omega arith)
 

@@ -1,4 +1,4 @@
--- Pairs whose keys rise: what stands after all of them, and what equals the last.
+-- Pairs of strictly increasing keys: what comes after all of them, and what equals the last.
 use Rattle.std.proofs.Common.{◌≡◌, ℕ, suc, ◌+◌, ◌<◌, Bool, true, false, ◌||◌, List, [], ◌∷◌, ◌++◌, length, get_or, refl, sym, ◌∙◌, ap, subst, arith, ⊎_elim, length-append}
 use Rattle.std.specs.BTreeSet.{insert_key}
 use Rattle.std.specs.Cmp.{IsTotalOrder, eq_by_cmp_equiv}
@@ -80,16 +80,16 @@ module _ {X : Type 0} {cmp : X → X → Ordering} (o : IsTotalOrder cmp) where
   none_equal [] x a = refl
   none_equal (z ∷ r) x a = ap (λ c. is_eq c || list_any (eq_by_cmp cmp x) r) (o.antisymm x z ∙ ap ordering_reverse a.0) ∙ none_equal r x a.1
 
-  -- what is greater than all is put last
+  -- what is greater than all is appended
   pub put_last : (r s : List X) (x : X) → AllByRecursion (λ y. cmp y x ≡ Less) r → s ≡ r ++ x ∷ [] → IsPut cmp r x true s
   put_last r s x a is = (none_equal r x a, is ∙ sym (insert_last r x a))
 
-  -- and stands there once it is put
+  -- and is there once it is inserted
   pub put_at_end : (r s : List X) (x : X) (new : Bool) → AllByRecursion (λ y. cmp y x ≡ Less) r → IsPut cmp r x new s → s ≡ r ++ x ∷ []
   put_at_end r s x true a h = h.1 ∙ insert_last r x a
   put_at_end r s x false a h = absurd (true≢false (sym h.0 ∙ none_equal r x a))
 
-  -- strict items, and one that is greater than all
+  -- strictly increasing items, and one that is greater than all
   pub strict_more : (r : List X) (x : X) → IsStrictlySortedBy cmp r → AllByRecursion (λ y. cmp y x ≡ Less) r → IsStrictlySortedBy cmp (r ++ x ∷ [])
   unfolding IsStrictlySortedBy
   strict_more [] x s a = (tt, tt)
@@ -125,7 +125,7 @@ module _ {K V : Type 0} {cmp : K → K → Ordering} (o : IsTotalOrder cmp) wher
   unfolding IsStrictlySortedBy
   run_none ks vs no_keys no_values = ((λ j. length (no_values j)) ∙ sym (λ j. length (no_keys j)), subst (IsStrictlySortedBy cmp) (sym no_keys) tt)
 
-  -- how the last key of a run stands to another
+  -- how the last key of a run compares with another
   pub run_last : (ks : List K) (vs : List V) (es : List (K × V)) (k last : K) (n : ℕ) (c : Ordering) → zip ks vs ≡ es → length vs ≡ length ks → IsStrictlySortedBy cmp ks → n + 1 ≡ length ks → ((d : K) → last ≡ get_or ks n d) → c ≡ cmp last k
       → keys_of es ≡ ks → MatchOrdering c (AllByRecursion (λ p. cmp p.0 k ≡ Less) es) (list_any (λ p. is_eq (cmp k p.0)) es ≡ true) (Unit {0})
   run_last ks vs es k last n Less e even s end at is keys = subst (AllByRecursion (λ p. cmp p.0 k ≡ Less)) e (all_beside (λ x. cmp x k ≡ Less) ks vs (below_all o ks k last n s end at (sym is)))
@@ -140,11 +140,11 @@ module _ {K V : Type 0} {cmp : K → K → Ordering} (o : IsTotalOrder cmp) wher
       subst (IsStrictlySortedBy cmp) (sym f) (strict_more o ks k s (all_aside (λ x. cmp x k ≡ Less) ks vs even (subst (AllByRecursion (λ p. cmp p.0 k ≡ Less)) (sym e) a))),
     )
 
-    -- the pair stands last
+    -- the pair is last
     pub run_pairs : zip ls ws ≡ es ++ (k, v) ∷ []
     run_pairs = (λ j. zip (f j) (g j)) ∙ (zip-push ks vs k v even ∙ ap (λ l. l ++ (k, v) ∷ []) e)
 
-  -- pairs in order that are put into a tree in turn
+  -- pairs in order that are inserted into a tree in turn
   pub put_next : (es : List (K × V)) (p : K × V) (fs all gs : List (K × V)) (new : Bool) → es ++ p ∷ fs ≡ all → IsStrictlySortedBy cmp (keys_of all) → IsPut (λ p q. cmp p.0 q.0) es p new gs → gs ≡ es ++ p ∷ []
   put_next es p fs all gs new e s =
       put_at_end (on_total (λ p. p.0) o) es gs p new (all_of_keys (λ x. cmp x p.0 ≡ Less) es (below_next o (keys_of es) p.0 (keys_of fs) (subst (IsStrictlySortedBy cmp) (sym (ap keys_of e) ∙ keys_amidst es p fs) s)))

@@ -1,4 +1,4 @@
--- Strict lists are equal exactly where they hold the same items.
+-- Strictly increasing lists are equal exactly where they hold the same items.
 use Rattle.std.proofs.Common.{◌≡◌, Bool, true, false, ◌||◌, ◌&&◌, List, [], ◌∷◌, refl, sym, ◌∙◌, ap, subst}
 use Rattle.std.specs.Prelude.{Option, Some, None}
 use Rattle.std.specs.List.{AllByRecursion, find, list_any}
@@ -44,7 +44,7 @@ module _ {X : Type 0} {cmp : X → X → Ordering} (o : IsTotalOrder cmp) where
   absent q x f [] a = refl
   absent q x f (y ∷ ys) a = λ i. is_eq (f y a.0 i) || absent q x f ys a.1 i
 
-  -- what is less than the first item of a strict list is not in it
+  -- what is less than the first item of a strictly increasing list is not in it
   absent_below : (q x : X) (xs : List X) → IsStrictlySortedBy cmp (x ∷ xs) → cmp q x ≡ Less → list_any (eq_by_cmp cmp q) (x ∷ xs) ≡ false
   absent_below q x xs s e = λ i. is_eq (e i) || absent q x (λ y. o.trans q x y e) xs (sorted_head cmp x xs s) i
 
@@ -52,7 +52,7 @@ module _ {X : Type 0} {cmp : X → X → Ordering} (o : IsTotalOrder cmp) where
   itself : (x : X) (xs : List X) → list_any (eq_by_cmp cmp x) (x ∷ xs) ≡ true
   itself x xs = ap (λ b. b || list_any (eq_by_cmp cmp x) xs) ((eq_by_cmp_equiv o).refl x)
 
-  -- strict lists of the same items have equal first items
+  -- strictly increasing lists of the same items have equal first items
   same_first : (x y : X) (xs ys : List X) → IsStrictlySortedBy cmp (x ∷ xs) → IsStrictlySortedBy cmp (y ∷ ys) → HaveSameItems (eq_by_cmp cmp) (x ∷ xs) (y ∷ ys) → cmp x y ≡ Equal
   same_first x y xs ys s t h = go (cmp x y) refl
     where
@@ -61,7 +61,7 @@ module _ {X : Type 0} {cmp : X → X → Ordering} (o : IsTotalOrder cmp) where
       go Equal e = refl
       go Greater e = absurd (true≢false (sym (itself y ys) ∙ (sym (h y) ∙ absent_below y x xs s (o.antisymm y x ∙ ap ordering_reverse e))))
 
-  -- without their first items, strict lists of the same items hold the same items
+  -- without their first items, strictly increasing lists of the same items hold the same items
   same_later : (x y : X) (xs ys : List X) → IsStrictlySortedBy cmp (x ∷ xs) → IsStrictlySortedBy cmp (y ∷ ys) → cmp x y ≡ Equal → HaveSameItems (eq_by_cmp cmp) (x ∷ xs) (y ∷ ys) → HaveSameItems (eq_by_cmp cmp) xs ys
   same_later x y xs ys s t level h q = go (cmp q x) refl
     where
@@ -79,7 +79,7 @@ module _ {X : Type 0} {cmp : X → X → Ordering} (o : IsTotalOrder cmp) where
       go Equal e = neither (by_level x e) (by_level y (sym turned ∙ e))
       go Greater e = ap (λ c. is_eq c || list_any (eq_by_cmp cmp q) xs) (sym e) ∙ (h q ∙ ap (λ c. is_eq c || list_any (eq_by_cmp cmp q) ys) (sym turned ∙ e))
 
-  -- strict lists of the same items are equal
+  -- strictly increasing lists of the same items are equal
   equal_from_same_items : (xs ys : List X) → IsStrictlySortedBy cmp xs → IsStrictlySortedBy cmp ys → HaveSameItems (eq_by_cmp cmp) xs ys → pointwise (eq_by_cmp cmp) xs ys ≡ true
   equal_from_same_items [] [] s t h = refl
   equal_from_same_items [] (y ∷ ys) s t h = absurd (true≢false (sym (itself y ys) ∙ sym (h y)))

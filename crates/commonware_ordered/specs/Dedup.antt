@@ -5,11 +5,11 @@ use Rattle.std.specs.List.{AllWithin, Contains, list_any, slice_get}
 use Rattle.std.specs.declared.cmp.Ordering.{Ordering}
 use Rattle.commonware_ordered.specs.Strict.{IsStrict}
 
--- x stands in l at a position where no earlier item equals it
+-- x is in l at a position where no earlier item equals it
 abbrev pub IsKept : {T : Type 0} → (T → T → Bool) → List T → T → Type 0
 IsKept eq l x = (i : ℕ) × (slice_get l i ≡ Some x) × AllWithin (λ y. eq y x ≡ false) l 0 i
 
--- r is strict, so that it has each item once, and its items are exactly those that are kept of l
+-- r is strictly increasing, so that it has each item once, and its items are exactly those that are kept of l
 pub record IsDedup {T : Type 0} (eq : T → T → Bool) (cmp : T → T → Ordering) (l r : List T) : Type 0 where
   pub strict : IsStrict cmp r
   pub kept : (x : T) → Contains r x ↔ IsKept eq l x

@@ -1,11 +1,11 @@
--- Lists in strict order, and the place of an item in a list.
+-- Strictly increasing lists, and the place of an item in a list.
 use Rattle.std.specs.Prelude.{◌≡◌, ◌+◌, ◌<◌, ◌≤◌, ℕ, Bool, false, true, List, length, MatchOption, Option, Some}
 use Rattle.std.specs.Prelude.{slice_get}
 use Rattle.std.specs.List.{All, AllAdjacentBelow, HoldsAt}
 use Rattle.std.specs.declared.cmp.Ordering.{Ordering}
 use Rattle.std.specs.declared.cmp.Ordering.TheVariants.{Less}
 
--- each item is less than the next
+-- strictly increasing: each item is less than the next
 abbrev pub IsStrict : {T : Type 0} → (T → T → Ordering) → List T → Type 0
 IsStrict cmp xs = AllAdjacentBelow (λ x y. cmp x y ≡ Less) xs (length xs)
 
@@ -14,7 +14,7 @@ abbrev pub IsPlaceOf : {T : Type 0} → (T → T → Bool) → List T → T → 
 IsPlaceOf eq xs x place =
     MatchOption place (All (λ y. eq y x ≡ false) xs) (λ i. (i < length xs) × HoldsAt (λ y. eq y x ≡ true) xs i)
 
--- an item that equals x stands at place p
+-- an item that equals x is at place p
 abbrev pub HasEqualAt : {T : Type 0} → (T → T → Bool) → List T → T → ℕ → Type 0
 HasEqualAt {T} eq xs x p = (y : T) × (slice_get xs p ≡ Some y) × (eq y x ≡ true)
 

@@ -1,4 +1,4 @@
--- Lists in which two positions hold equal items, and what the builders answer that refuse these.
+-- Lists in which two positions hold equal items, and what the builders return that refuse these.
 use Rattle.std.specs.Prelude.{◌≡◌, ◌<◌, ℕ, Bool, IsTrue, List, MatchResult, Result, Some}
 use Rattle.std.specs.List.{AllZip, slice_get}
 use Rattle.std.specs.List.Sorted.{IsPermutation}
@@ -13,7 +13,7 @@ HasEqualItems {T} eq l =
     (i : ℕ) × (j : ℕ) × (x : T) × (y : T) × (i < j) × (slice_get l i ≡ Some x) × (slice_get l j ≡ Some y)
     × IsTrue (eq x y)
 
--- Keys at `DuplicateKey`, Values at `DuplicateValue`; of want of memory nothing is said
+-- Keys at `DuplicateKey`, Values at `DuplicateValue`; of an allocation failure nothing is said
 abbrev pub MatchError : Error → Type 0 → Type 0 → Type 0
 MatchError DuplicateKey Keys Values = Keys
 MatchError DuplicateValue Keys Values = Values
@@ -23,7 +23,7 @@ MatchError Memory Keys Values = Unit {0}
 abbrev pub IsSetOfAll : {T : Type 0} → (T → T → Bool) → (T → T → Ordering) → List T → List T → Type 0
 IsSetOfAll eq cmp l set = IsStrict cmp set × IsPermutation l set × (¬ HasEqualItems eq l)
 
--- l is refused as two of its positions hold equal items, or for want of memory
+-- l is refused since two of its positions hold equal items, or since an allocation failed
 abbrev pub IsRefusedFor : {T : Type 0} → (T → T → Bool) → List T → Error → Type 0
 IsRefusedFor eq l error = MatchError error (HasEqualItems eq l) ⊥
 

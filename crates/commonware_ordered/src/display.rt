@@ -1,10 +1,10 @@
-//! Lists as texts.
+//! Lists as they are displayed.
 ghost use Rattle.std.specs.Prelude.{[]};
 ghost use Rattle.std.specs.Fmt.{DisplaysOnOk, debug_items};
 
 use std::fmt;
 
-/// Writes the texts of the items, joined by `, `.
+/// Writes the `Display` texts of the items, joined by `, `.
 pub(crate) fn write_items<T: fmt::Display, W: fmt::Write>(
     items: &[T],
     f: &mut fmt::Formatter<W>,

@@ -1,10 +1,10 @@
-//! Why a collection was refused.
+//! Why no collection was made.
 ghost use Rattle.std.specs.Prelude.{◌≡◌};
 ghost use Rattle.commonware_ordered.specs.declared.error.Error.TheVariants.{Memory};
 
 use std::alloc::{AllocError, AllocFailed};
 
-/// Why a collection was refused.
+/// Why no collection was made.
 #[derive(Debug, PartialEq, Eq, Drop, thiserror::Error)]
 pub enum Error {
     /// Two items or two keys are equal.
@@ -13,7 +13,7 @@ pub enum Error {
     /// Two values are equal, and no two keys.
     #[error("duplicate value")]
     DuplicateValue,
-    /// Memory was refused. It says nothing of the items.
+    /// An allocation failed. It says nothing of the items.
     #[error("out of memory")]
     Memory,
 }
@@ -29,7 +29,7 @@ impl From<AllocError> for Error {
 impl<T: Drop> From<AllocFailed<T>> for Error {
     ghost from_gives = { λ _ error. error ≡ Memory };
 
-    /// What wasn't taken is given up.
+    /// What wasn't taken is dropped.
     fn from(_refused: AllocFailed<T>) -> Error {
         Error::Memory
     }

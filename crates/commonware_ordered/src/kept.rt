@@ -1,4 +1,4 @@
-//! Items that are put one at a time at their places in their order.
+//! Items that are inserted one at a time at their places in their order.
 ghost use Rattle.std.specs.Prelude.{◌≡◌, ◌⊎◌, ◌<◌, ◌++◌, ◌∷◌, [], IfOk, OnOk, true, vec_capacity, vec_len};
 ghost use Rattle.std.specs.List.{AllByRecursion, list_any};
 ghost use Rattle.std.specs.List.Sorted.{IsStrictlySortedBy};
@@ -11,12 +11,12 @@ use std::alloc::{AllocError, Allocator};
 use std::cmp::Ordering;
 use std::collections::BTreeSet;
 
-/// The most items, or pairs, for which room is made before the first has come: a few pages,
+/// The most items, or pairs, for which room is reserved before the first has come: a few pages,
 /// whatever an iterator promises.
 pub(crate) const MOST_ROOM: usize = 4096;
 
-/// Room for some of the items that are to come, for no more than a few pages of them. It takes no
-/// memory where none are.
+/// Returns an empty list with room for some of the items that are to come, for no more than a few
+/// pages of them. Where none are to come it allocates nothing.
 #[inline(always)]
 pub(crate) fn room<T, A: Allocator>(alloc: A, coming: usize) -> Result<Vec<T, A>, AllocError>
     ensures { IfOk result (λ run. run.items ≡ []) }
@@ -24,8 +24,8 @@ pub(crate) fn room<T, A: Allocator>(alloc: A, coming: usize) -> Result<Vec<T, A>
     Vec::with_capacity(alloc, coming.min(MOST_ROOM))
 }
 
-/// Puts an item at its place among those of a run and of a tree, unless an equal one stands there,
-/// and answers whether it did. Items stand in the run while each is greater than the last, which
+/// Inserts an item at its place among those of a run and of a tree, unless an equal one is there,
+/// and returns whether it did. Items are in the run while each is greater than the last, which
 /// takes constant time an item; the first lesser one moves them all into the tree.
 ///
 /// The run goes in and comes back by value, so that a loop keeps its length in a register.
@@ -58,7 +58,7 @@ pub(crate) fn keep<T: Ord + Drop, A: Allocator + Copy>(
     }
 }
 
-/// The items of a run and of a tree in order.
+/// Returns the items of a run and of a tree in order.
 pub(crate) fn all_kept<T: Ord + Drop, A: Allocator + Copy>(
     run: Vec<T, A>,
     tree: BTreeSet<T, A>,
@@ -79,7 +79,7 @@ pub(crate) fn all_kept<T: Ord + Drop, A: Allocator + Copy>(
     Ok(items)
 }
 
-/// How the last item of a run stands to an item; `Less` where there is none.
+/// Compares the last item of a run with an item; `Less` where the run is empty.
 #[inline(always)]
 fn last_to<T: Ord>(run: &[T], item: &T) -> Ordering
     requires { IsStrictlySortedBy T.cmp run.now }
@@ -94,7 +94,7 @@ fn last_to<T: Ord>(run: &[T], item: &T) -> Ordering
     }
 }
 
-/// The run with another item last.
+/// Returns the run with another item last.
 #[inline(always)]
 fn pushed<T: Drop, A: Allocator>(run: Vec<T, A>, item: T) -> Result<Vec<T, A>, AllocError>
     ensures { IfOk result (λ v. v.items ≡ run.items ++ item ∷ []) }
@@ -108,7 +108,7 @@ fn pushed<T: Drop, A: Allocator>(run: Vec<T, A>, item: T) -> Result<Vec<T, A>, A
     Ok(run)
 }
 
-/// The list with room for another item.
+/// Returns the list with room for another item.
 #[cold]
 #[inline(never)]
 fn with_more<T: Drop, A: Allocator>(full: Vec<T, A>) -> Result<Vec<T, A>, AllocError>
@@ -120,7 +120,7 @@ fn with_more<T: Drop, A: Allocator>(full: Vec<T, A>) -> Result<Vec<T, A>, AllocE
     Ok(full)
 }
 
-/// Puts an item at its place unless an equal one stands there, and answers whether it did.
+/// Inserts an item at its place unless an equal one is there, and returns whether it did.
 #[inline(never)]
 fn put<T: Ord + Drop, A: Allocator + Copy>(
     tree: &mut BTreeSet<T, A>,

@@ -9,8 +9,7 @@ use commonware_base::Participant;
 use commonware_faults::Faults;
 use std::alloc::Allocator;
 
-/// A committee: its members in order, each with the index that stands for it, and its numbers under
-/// a fault model.
+/// A committee: its members in order, each with its index, and its numbers under a fault model.
 pub trait Quorum {
     /// What the members are.
     type Item: Ord;
@@ -18,23 +17,25 @@ pub trait Quorum {
     /// The members in order.
     ghost members: { Self → List Self.Item };
 
-    /// How many members make a quorum under the fault model. There are 1 to `u32::MAX` members.
+    /// Returns how many members make a quorum under the fault model. It requires that there are 1
+    /// to `u32::MAX` members.
     fn quorum<M: Faults>(&self) -> u32
         requires { IsCommitteeSize (pos (length (members self.now))) }
         ensures { result + M.faults (length (members self.now)) ≡ length (members self.now) };
 
-    /// How many members may be faulty under the fault model. There are 1 to `u32::MAX` members.
+    /// Returns how many members may be faulty under the fault model. It requires that there are 1
+    /// to `u32::MAX` members.
     fn max_faults<M: Faults>(&self) -> u32
         requires { IsCommitteeSize (pos (length (members self.now))) }
         ensures { result ≡ M.faults (length (members self.now)) };
 
-    /// The member at an index, or `None` past the last.
+    /// Returns the member at an index, or `None` past the last.
     fn key(&self, index: Participant) -> Option<&Self::Item>
         ensures { IsItemAt (members self.now) index result };
 
-    /// The index of the member that equals `key`, or `None` where none does. All indices fit a
-    /// `u32`: there are at most 4294967296 members. The member at an index equals `key` exactly
-    /// where the index is the one answered.
+    /// Returns the index of the member that equals `key`, or `None` where none does. It requires
+    /// that all indices fit a `u32`: there are at most 4294967296 members. The member at an index
+    /// equals `key` exactly where the index is the one returned.
     fn index(&self, key: &Self::Item) -> Option<Participant>
         requires { length (members self.now) ≤ 2 ^ 32 }
         ensures place { IsPlaceOf Self.Item.eq (members self.now) key.now result }

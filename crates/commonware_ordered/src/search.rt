@@ -1,11 +1,12 @@
-//! The place of an item in a strict list, looked up without a branch that hangs on a comparison.
+//! The place of an item in a strictly increasing list, searched branchless: no branch depends on a
+//! comparison.
 ghost use Rattle.std.specs.Prelude.{◌≡◌, ◌≤◌, ◌<◌, ◌+◌, ◌*◌, ℕ, true, length};
 ghost use Rattle.std.specs.List.{HoldsAt};
 ghost use Rattle.commonware_ordered.specs.Strict.{IsPlaceOf, IsStrict, IsWithin};
 
 use std::mem::size_of;
 
-/// 1 where the item at a place is at most the one sought, else 0.
+/// Returns 1 where the item at a place is at most the one sought, else 0.
 #[inline(always)]
 fn reached<T: Ord>(items: &[T], place: usize, item: &T) -> usize
     requires strict { IsStrict T.cmp items.now }
@@ -22,8 +23,9 @@ fn reached<T: Ord>(items: &[T], place: usize, item: &T) -> usize
     }
 }
 
-/// Halves the places from `base` on, of which there are at most twice `window`: where those that
-/// are left begin, and how many they are, at most `window`. It asks the first of the last `window`.
+/// Halves the `size` places from `base` on, which are at most twice `window`. It returns where
+/// those that are left begin, and how many they are, at most `window`. It compares with the first
+/// of the last `window`.
 #[inline(always)]
 fn half<T: Ord>(items: &[T], base: usize, size: usize, window: usize, item: &T) -> (usize, usize)
     requires strict { IsStrict T.cmp items.now }
@@ -41,9 +43,10 @@ fn half<T: Ord>(items: &[T], base: usize, size: usize, window: usize, item: &T) 
     (base + step * reached(items, base + step, item), window)
 }
 
-/// The one place of at most sixteen from `base` on where an item can equal the one sought.
+/// Returns the one place of at most sixteen from `base` on where an item can equal the one sought.
 ///
-/// Four halvings one after the other and no loop, so that a compiler makes no branch of an answer.
+/// Four halvings one after the other and no loop, so that a compiler makes no branch of a
+/// comparison.
 #[inline(always)]
 fn last_steps<T: Ord>(items: &[T], base: usize, size: usize, item: &T) -> usize
     requires strict { IsStrict T.cmp items.now }
@@ -60,14 +63,14 @@ fn last_steps<T: Ord>(items: &[T], base: usize, size: usize, item: &T) -> usize
     place
 }
 
-/// The most items that are halved and not quartered.
+/// The most items for which the search halves rather than quarters.
 const FEW: usize = 16;
 
-/// The place of the item that equals the one sought, or `None` where none does.
+/// Returns the place of the item that equals the one sought, or `None` where none does.
 ///
-/// Each step asks the items at three places, which cut the list in four, and adds up the answers:
-/// a processor need not guess one before the next step. It takes one comparison and a half where
-/// halving takes one, so the last few are halved.
+/// Each step compares with the items at three places, which divide the list in four, and adds up
+/// the results: the next step depends on no branch that a processor could mispredict. It takes one
+/// and a half comparisons where halving takes one, so the last few are halved.
 #[inline(always)]
 fn narrowed<T: Ord>(items: &[T], item: &T) -> Option<usize>
     requires { IsStrict T.cmp items.now }
@@ -94,7 +97,7 @@ fn narrowed<T: Ord>(items: &[T], item: &T) -> Option<usize>
     }
 }
 
-/// The same place, by halving the list.
+/// Returns the same place, by halving the list.
 #[inline]
 fn halved<T: Ord>(items: &[T], item: &T) -> Option<usize>
     requires { IsStrict T.cmp items.now }
@@ -103,23 +106,25 @@ fn halved<T: Ord>(items: &[T], item: &T) -> Option<usize>
     items.binary_search(item).ok()
 }
 
-/// The most bytes of an item whose comparison costs less than a wrong guess.
+/// The most bytes of an item whose comparison costs less than a mispredicted branch.
 const NARROW: usize = 8;
 
-/// The bytes of a public key or of a digest, which is compared by a few words.
+/// The size of a public key or of a digest, which is compared by a few words.
 const KEY: usize = 32;
 
-/// The most keys that are asked three at a time: 65,536 bytes of them. A processor has so many
-/// near, so that three answers come as soon as one.
+/// The most keys that are compared three at a time: 65,536 bytes of them. That many fit a near
+/// cache, so that three comparisons take as long as one.
 const NEAR: usize = 2048;
 
-/// The same place. Of narrow items, and of a few keys, three are asked at a time until few are
-/// left; the list of other ones is halved, since a comparison of these is dear.
+/// Returns the same place. Narrow items, and a few keys, are compared three at a time until few are
+/// left; a list of other items is halved, since each of their comparisons is expensive.
 #[inline(always)]
 pub(crate) fn place_of<T: Ord>(items: &[T], item: &T) -> Option<usize>
     requires { IsStrict T.cmp items.now }
     ensures { IsPlaceOf T.eq items.now item.now result }
 {
+    // The borrow checker takes the size of a type parameter only as a factor. The other factor is 1
+    // but for an empty list, of which either search returns `None`.
     let size = items.len().min(1) * size_of::<T>();
     let are_near_keys = size == KEY && items.len() <= NEAR;
     if size <= NARROW || are_near_keys {

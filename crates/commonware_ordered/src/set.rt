@@ -18,7 +18,8 @@ use std::marker::Model;
 use std::ops::{Index, Range};
 use std::slice;
 
-/// Items in increasing order, each once.
+/// Items in strictly increasing order, so each once. The set of 5, 1, 3, 1 and 9 has the items
+/// `[1, 3, 5, 9]`, and the set of the bytes 1, 2, 3 and 4 is encoded as `04 01 02 03 04`.
 ///
 /// A look-up takes O(log n) comparisons, a builder O(n log n), or O(n) where each item is greater
 /// than the last, and every other call at most linear time. No contract says so.
@@ -39,7 +40,7 @@ impl<T: Ord, A: Allocator> Model for Set<T, A> {
 }
 
 impl<T: Ord, A: Allocator> Set<T, A> {
-    /// The set without items.
+    /// Returns the set without items.
     pub fn empty(alloc: A) -> Self
         ensures { result ≡ [] }
     {
@@ -48,12 +49,12 @@ impl<T: Ord, A: Allocator> Set<T, A> {
         }
     }
 
-    /// The allocator that the set was made on, which holds its items.
+    /// Returns the allocator that the set was made on, which holds its items.
     pub fn allocator(&self) -> &A {
         self.items.allocator()
     }
 
-    /// How many items there are.
+    /// Returns how many items there are.
     pub fn len(&self) -> usize
         ensures { result ≡ length self.now }
     {
@@ -67,14 +68,14 @@ impl<T: Ord, A: Allocator> Set<T, A> {
         self.items.is_empty()
     }
 
-    /// The item at a position, or `None` past the last.
+    /// Returns the item at a position, or `None` past the last.
     pub fn get(&self, index: usize) -> Option<&T>
         ensures { IsItemAt self.now index result }
     {
         self.items.get(index)
     }
 
-    /// The items in order.
+    /// Returns the items in order.
     pub fn as_slice(&self) -> &[T]
         ensures items { result.now ≡ self.now }
         ensures strict { IsStrict T.cmp self.now }
@@ -82,7 +83,7 @@ impl<T: Ord, A: Allocator> Set<T, A> {
         self.items.as_slice()
     }
 
-    /// The items at a range of positions, which is ordered and inside.
+    /// Returns the items at a range of positions. It requires that the range is ordered and inside.
     pub fn slice(&self, range: Range<usize>) -> &[T]
         requires ordered { range.start ≤ range.end }
         requires inside { range.end ≤ length self.now }
@@ -91,7 +92,7 @@ impl<T: Ord, A: Allocator> Set<T, A> {
         &self.items[range.start..range.end]
     }
 
-    /// An iterator over the items in order, from both ends.
+    /// Returns an iterator over the items in order, from both ends.
     pub fn iter(&self) -> slice::Iter<'_, T>
         ensures rest { iter_rest result ≡ self.now }
         ensures bound { length (iter_rest result) < 2 ^ 64 }
@@ -101,7 +102,7 @@ impl<T: Ord, A: Allocator> Set<T, A> {
         self.as_slice().iter()
     }
 
-    /// The place of the item that equals the one asked, or `None` where none does. It takes
+    /// Returns the place of the item that equals the given one, or `None` where none does. It takes
     /// O(log n) comparisons.
     #[inline(always)]
     pub fn position(&self, item: &T) -> Option<usize>
@@ -113,7 +114,8 @@ impl<T: Ord, A: Allocator> Set<T, A> {
 }
 
 impl<T: Ord, A: Allocator> Set<T, A> {
-    /// The set of items each of which has to be less than the next. It takes no memory.
+    /// Returns the set of the items. It requires that they are strictly increasing: each is less
+    /// than the next. It allocates nothing.
     pub fn from_strict(items: Vec<T, A>) -> Self
         requires { IsStrict T.cmp items.items }
         ensures { result ≡ items.items }
@@ -123,7 +125,7 @@ impl<T: Ord, A: Allocator> Set<T, A> {
 }
 
 impl<T: Ord + Drop, A: Allocator> Set<T, A> {
-    /// The first `len` items stay, or all of them where there are no more.
+    /// Keeps the first `len` items, or all of them where there are no more.
     pub fn truncate(&mut self, len: usize)
         ensures { self.new ≡ take len self.old }
     {
@@ -131,7 +133,7 @@ impl<T: Ord + Drop, A: Allocator> Set<T, A> {
     }
 }
 
-/// Whether each item is less than the next.
+/// Whether the items are strictly increasing: each is less than the next.
 pub(crate) fn is_strict<T: Ord>(items: &[T]) -> bool
     ensures { IsTrue result ↔ IsStrict T.cmp items.now }
 {
@@ -145,7 +147,7 @@ impl<T: Ord, A: Allocator> Index<usize> for Set<T, A> {
 
     ghost index_gives = { λ s i x. x ≡ slice_index_or s i x };
 
-    /// The item at a position, which is inside.
+    /// Returns the item at a position. It requires that the position is inside.
     fn index(&self, index: usize) -> &T {
         &self.items[index]
     }

@@ -1,4 +1,4 @@
-//! Pairs that are put one at a time at their places in the order of their keys.
+//! Pairs that are inserted one at a time at their places in the order of their keys.
 ghost use Rattle.std.specs.Prelude.{◌≡◌, [], IfOk, OnErr};
 ghost use Rattle.std.specs.Map.{keys_of, values_of};
 ghost use Rattle.commonware_ordered.specs.Put.{IsPrefix, IsPut};
@@ -15,9 +15,12 @@ use std::collections::BTreeMap;
 use std::marker::Model;
 use tree::put;
 
-/// Pairs in the order of their keys, each key once. They stand in a run while each key is greater
-/// than the last, which takes constant time a pair; the first lesser key moves them all into a
-/// tree.
+/// A builder: pairs in the order of their keys, each key once. They are in a run while each key is
+/// greater than the last, which takes constant time a pair; the first lesser key moves them all
+/// into a tree.
+///
+/// After the keys 1 to 5,000 in order and then 0, `into_columns` returns the keys from 0 to 5,000,
+/// and the value of each at its position.
 #[derive(Drop)]
 pub struct SortedEntries<K: Ord, V, A: Allocator> {
     run: Run<K, V, A>,
@@ -35,7 +38,8 @@ impl<K: Ord, V, A: Allocator> Model for SortedEntries<K, V, A> {
 }
 
 impl<K: Ord + Drop, V: Drop, A: Allocator + Copy> SortedEntries<K, V, A> {
-    /// No pairs, with room for some of those that are to come. It takes no memory where none are.
+    /// Returns an empty builder with room for some of the pairs that are to come. Where none are to
+    /// come it allocates nothing.
     pub fn with_room(alloc: A, coming: usize) -> Result<Self, AllocError>
         ensures { IfOk result (λ entries. entries ≡ []) }
     {
@@ -45,9 +49,9 @@ impl<K: Ord + Drop, V: Drop, A: Allocator + Copy> SortedEntries<K, V, A> {
         })
     }
 
-    /// Puts a pair at its place unless an equal key stands there, and answers whether it did.
-    /// Where a request for memory is refused, a prefix of the pairs is left, and the pair itself
-    /// and the others are dropped.
+    /// Inserts a pair at its place unless an equal key is there, and returns whether it did. After
+    /// an allocation failure a prefix of the pairs is left, and the pair itself and the others are
+    /// dropped.
     #[inline(always)]
     pub fn insert(&mut self, key: K, value: V) -> Result<bool, AllocError>
         ensures put { IfOk result (λ new.
@@ -67,7 +71,7 @@ impl<K: Ord + Drop, V: Drop, A: Allocator + Copy> SortedEntries<K, V, A> {
         put(&mut self.tree, key, value)
     }
 
-    /// The keys in order, and the values at their positions.
+    /// Returns the keys in order, and the values at their positions.
     pub fn into_columns(self) -> Result<(Vec<K, A>, Vec<V, A>), AllocError>
         ensures keys { IfOk result (λ columns. columns.0.items ≡ keys_of self) }
         ensures values { IfOk result (λ columns. columns.1.items ≡ values_of self) }

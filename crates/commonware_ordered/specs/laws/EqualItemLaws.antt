@@ -69,7 +69,7 @@ module _ {X : Type 0} (eq : X → X → Bool) where
 
 module _ {X : Type 0} {cmp : X → X → Ordering} (o : IsTotalOrder cmp) {eq : X → X → Bool}
     (ties : (x y : X) → eq x y ≡ is_eq (cmp x y)) where
-  -- in a strict list no two positions hold equal items
+  -- in a strictly increasing list no two positions hold equal items
   pub none_equal_from_strict : (xs : List X) → IsStrict cmp xs → ¬ HasEqualItems eq xs
   none_equal_from_strict xs s =
       none_equal_from_distinct eq xs

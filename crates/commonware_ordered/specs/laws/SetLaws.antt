@@ -17,7 +17,7 @@ use Rattle.commonware_ordered.specs.laws.StrictLaws.{strict_or_not, strict_same}
 
 module _ {T : Type 0} (enc : T → List ℕ) (Writable : T → Type 0) (cmp : T → T → Ordering)
     (prefix_free : IsPrefixFree enc Writable) where
-  -- no set begins another
+  -- no encoding of a set is a proper prefix of another's
   pub set_prefix_free : IsPrefixFree (list_enc enc) (IsWritableSet Writable cmp)
   set_prefix_free a b x y p q e = list_prefix_free enc Writable prefix_free a b x y p.list q.list e
 
@@ -27,7 +27,7 @@ module _ {T : Type 0} (enc : T → List ℕ) (Writable : T → Type 0) (cmp : T 
     as_lists : CanonicalLaws (list_enc enc) (IsWritableList Writable) (pointwise eq)
     as_lists = list_canonical enc Writable prefix_free eq canonical
 
-    -- sets are equal exactly where their bytes are
+    -- sets are equal exactly where their encodings are
     pub set_canonical : CanonicalLaws (list_enc enc) (IsWritableSet Writable cmp) (pointwise eq)
     set_canonical = record {
       equal_by_bytes = λ a b p q. as_lists.equal_by_bytes a b p.list q.list;
@@ -39,13 +39,13 @@ module _ {T : Type 0} (enc : T → List ℕ) (Writable : T → Type 0) (cmp : T 
 
     module _ (Allowed : T → Type 0) (item_fault : List ℕ → Fault → Type 0) (range : Bounds ℕ)
         (item_laws : ReadLaws enc Writable Allowed item_fault) where
-      -- the laws of the same texts as lists
+      -- the laws of the same encodings as lists
       as_list :
           ReadLaws (list_enc enc) (IsWritableList Writable) (IsAllowedList range Allowed)
           (ListFault enc Writable Allowed item_fault range)
       as_list = list_laws enc Writable prefix_free Allowed item_fault range item_laws
 
-      -- the condition that the items are strict
+      -- the condition that the items are strictly increasing
       strictness :
           Condition (list_enc enc) (IsWritableList Writable) (IsWritableSet Writable cmp) (IsAllowedList range Allowed)
           (ListFault enc Writable Allowed item_fault range) (SetFault enc Writable cmp Allowed item_fault range)
@@ -71,7 +71,7 @@ module _ {T : Type 0} (enc : T → List ℕ) (Writable : T → Type 0) (cmp : T 
         );
       }
 
-      -- two faults of a text are at one cut
+      -- two faults of an input are in one error case
       pub set_one_case :
           (s : List ℕ) (f g : Fault) (v : SetFault enc Writable cmp Allowed item_fault range s f)
           (w : SetFault enc Writable cmp Allowed item_fault range s g) → set_case v ≡ set_case w
@@ -80,7 +80,7 @@ module _ {T : Type 0} (enc : T → List ℕ) (Writable : T → Type 0) (cmp : T 
       set_one_case s f g (bad_order d v) (bad_list w) = absurd (broken_no_fault as_list strictness s g v w)
       set_one_case s f g (bad_order d v) (bad_order e w) = refl
 
-      -- what is promised of the texts of sets
+      -- the laws of the encodings of sets
       pub set_laws :
           ReadLaws (list_enc enc) (IsWritableSet Writable cmp) (IsAllowedList range Allowed)
           (SetFault enc Writable cmp Allowed item_fault range)

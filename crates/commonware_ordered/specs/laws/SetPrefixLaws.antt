@@ -1,4 +1,4 @@
--- The front of a text settles its first fault as a set.
+-- The prefix of an input determines its first fault as a set.
 use Rattle.std.proofs.Common.{ℕ, ◌+◌, ◌*◌, ◌≤◌, List, ◌++◌, length, arith, length-append}
 use Rattle.std.proofs.lemmas.Nat.{mul-le}
 use Rattle.std.specs.List.{flat_map}
@@ -19,7 +19,7 @@ module _ {T : Type 0} (enc : T → List ℕ) (Writable Allowed : T → Type 0) (
     (few : (n : ℕ) → Within range n → n ≤ most)
     (item_determined : (f : Fault) → IsDeterminedBy size (λ s. item_fault s f)) where
   module _ (s more : List ℕ) (h : 5 + most * size ≤ length s) where
-    -- a list that isn't strict
+    -- a list that isn't strictly increasing
     order_on : BeginsUnsorted enc Writable cmp Allowed range s
         → BeginsUnsorted enc Writable cmp Allowed range (s ++ more)
     order_on w = record {

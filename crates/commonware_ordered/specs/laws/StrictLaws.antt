@@ -1,5 +1,5 @@
--- Strict order can be told of every list, lists of equal items share it, and it puts each item below all that follow
--- it.
+-- Whether a list is strictly increasing can be decided, lists of equal items share it, and in such a list each item is
+-- less than all that follow it.
 use Rattle.std.specs.Prelude.{◌≡◌, zero, suc, ◌+◌, ◌⊎◌, Bool, true, List, [], ◌∷◌, refl}
 use Rattle.std.specs.Cmp.{IsTotalOrder, Equal-is}
 use Rattle.std.specs.Cmp.Lexicographic.{pointwise}
@@ -14,14 +14,14 @@ use Rattle.std.proofs.lemmas.Map.Keys.{sorted_from_all_adjacent}
 use Rattle.commonware_ordered.specs.Strict.{IsStrict}
 
 module _ {T : Type 0} (cmp : T → T → Ordering) where
-  -- one more item before a strict list, less than its first
+  -- one more item before a strictly increasing list, less than its first
   strict_cons : (x y : T) (l : List T) → cmp x y ≡ Less → IsStrict cmp (y ∷ l) → IsStrict cmp (x ∷ y ∷ l)
   strict_cons x y l less s zero d high = less
   strict_cons x y l less s (suc k) d high =
       let e : suc (k + 1) ≡ suc k + 1 = omega arith in
       subst (λ n. cmp (get_or (y ∷ l) k d) (get_or (x ∷ y ∷ l) n d) ≡ Less) e (s k d (omega arith))
 
-  -- a strict list without its first item is strict
+  -- a strictly increasing list without its first item is strictly increasing
   strict_tail : (x : T) (l : List T) → IsStrict cmp (x ∷ l) → IsStrict cmp l
   strict_tail x l s k d high =
       let e : suc k + 1 ≡ suc (k + 1) = omega arith in
@@ -33,7 +33,7 @@ module _ {T : Type 0} (cmp : T → T → Ordering) where
   less_or_not Equal = inr (λ e. cc)
   less_or_not Greater = inr (λ e. cc)
 
-  -- every list is strict or not
+  -- every list is strictly increasing or not
   pub strict_or_not : (l : List T) → IsStrict cmp l ⊎ (¬ IsStrict cmp l)
   strict_or_not [] = inl (λ k d high. absurd (omega arith))
   strict_or_not (x ∷ []) = inl (λ k d high. absurd (omega arith))
@@ -48,7 +48,7 @@ module _ {T : Type 0} (cmp : T → T → Ordering) where
     pub level : (x y : T) → eq x y ≡ true → cmp x y ≡ Equal
     level x y e = (Equal-is (cmp x y)).0 (sym (matches_eq x y) ∙ e)
 
-    -- a list whose items equal those of a strict list, each at its place, is strict
+    -- a list whose items equal those of a strictly increasing list, each at its place, is strictly increasing
     pub strict_same : (xs ys : List T) → pointwise eq xs ys ≡ true → IsStrict cmp xs → IsStrict cmp ys
     strict_same [] [] e s = s
     strict_same [] (y ∷ ys) e s = absurd (cc)
@@ -63,7 +63,7 @@ module _ {T : Type 0} (cmp : T → T → Ordering) where
         strict_cons y w ys (sym (alike_right total z w y b) ∙ sym (total.congr x y z a) ∙ s 0 x (omega arith))
         (strict_same (z ∷ xs) (w ∷ ys) p.1 (strict_tail x (z ∷ xs) s))
 
--- each item of a strict list is less than all that follow it
+-- each item of a strictly increasing list is less than all that follow it
 pub sorted_from_strict : {T : Type 0} {cmp : T → T → Ordering} → IsTotalOrder cmp → (xs : List T) → IsStrict cmp xs
     → IsStrictlySortedBy cmp xs
 unfolding IsStrictlySortedBy

@@ -1,6 +1,5 @@
--- What was drawn of an iterator in order stands in the list that it had left. So at such an iterator the builders
--- answer
--- what they answer for that list, however far they read.
+-- What was drawn of an iterator in order is in the list that it had left. So at such an iterator the builders return
+-- what they return for that list, however far they read.
 use Rattle.std.specs.Prelude.{◌≡◌, ◌<◌, ℕ, Bool, Err, IfErr, IfOk, IfSome, List, Ok, Option, Result, Some, length}
 use Rattle.std.specs.Prelude.{slice_get, slice_index_or, true}
 use Rattle.std.specs.Iterator.{Drains, DrainsIf}
@@ -36,7 +35,7 @@ module _ {S A : Type 0} {steps : S → Option A → S → Type 0} (rest : S → 
   unfolding Trigger run_of
   whole_list s xs d = (in_order (run_of s xs true (d.1.0, d.1.1, λ _. (d.0, d.1.2))) tt).4 refl
 
-  -- each item that was drawn stands at its place in that list
+  -- each item that was drawn is at its place in that list
   pub drawn_stays : (s : S) (xs : List A) (ended : Bool) → DrainsIf steps (ended ≡ true) s xs → (k : ℕ) (x : A)
       → slice_get xs k ≡ Some x → slice_get (rest s) k ≡ Some x
   unfolding Trigger run_of
@@ -52,7 +51,7 @@ module _ {S A : Type 0} {steps : S → Option A → S → Type 0} (rest : S → 
   equal_items_stay eq s xs ended d (i, j, x, y, before, at, later, same) =
       (i, j, x, y, before, drawn_stays s xs ended d i x at, drawn_stays s xs ended d j y later, same)
 
--- where each iterator that is made of given is in order and has l left, what is answered for given is answered for l
+-- where each iterator that is made of given is in order and has l left, what is returned for given is returned for l
 pub whole_set_of_list :
     {S A Given : Type 0} {steps : S → Option A → S → Type 0} (rest : S → List A) (becomes : Given → S → Type 0)
     (given : Given) (l : List A) (eq : A → A → Bool) (cmp : A → A → Ordering) (r : Result (List A) Error)

@@ -1,4 +1,4 @@
-//! Sets of many items: of equal ones the first stays, or equal ones are refused.
+//! Builders of sets: of equal items the first stays, or equal items are refused.
 ghost use Rattle.std.specs.Prelude.{IfOk};
 ghost use Rattle.std.specs.Iterator.{IsFiniteIterable};
 ghost use Rattle.commonware_base.specs.Taken.{IsMadeOf};
@@ -13,9 +13,9 @@ use std::alloc::{AllocError, Allocator};
 use std::collections::BTreeSet;
 
 impl<T: Ord + Drop, A: Allocator + Copy> Set<T, A> {
-    /// The set of the items that an iterator gives, where of equal items the first stays. It is
-    /// refused for want of memory alone, and takes memory for the distinct items. It takes O(n log
-    /// n) comparisons.
+    /// Returns the set of the items that an iterator gives, where of equal items the first stays.
+    /// The only error is an allocation failure; it allocates for the distinct items. It takes O(n
+    /// log n) comparisons.
     pub fn from_iter_dedup<I: IntoIterator<Item = T>>(alloc: A, iter: I) -> Result<Self, AllocError>
         requires { IsFiniteIterable I.into_iter_gives I.IntoIter.can_next
             I.IntoIter.remaining iter }
@@ -35,8 +35,9 @@ impl<T: Ord + Drop, A: Allocator + Copy> Set<T, A> {
 }
 
 impl<T: Ord + Drop, A: Allocator + Copy> Set<T, A> {
-    /// The set of all the items, or `DuplicateKey` where two of them are equal. It takes O(n log n)
-    /// comparisons; a list that is strict is taken as it is, without memory.
+    /// Returns the set of all the items, or `DuplicateKey` where two of them are equal. It takes
+    /// O(n log n) comparisons; a list that is strictly increasing is taken as it is, without an
+    /// allocation.
     pub fn try_from_vec(vec: Vec<T, A>) -> Result<Self, Error>
         ensures { IsWholeSet T.eq T.cmp vec.items result }
     {
@@ -55,8 +56,8 @@ impl<T: Ord + Drop, A: Allocator + Copy> TryFromIterator<T, A> for Set<T, A> {
 
     ghost refuses = { λ drawn _ error. IsRefusedFor T.eq drawn error };
 
-    /// The set of all the items, or `DuplicateKey` where two of those that were drawn are equal:
-    /// none is drawn after the first repeat. It takes O(n log n) comparisons.
+    /// Returns the set of all the items, or `DuplicateKey` where two of those that were drawn are
+    /// equal: none is drawn after the first repeat. It takes O(n log n) comparisons.
     fn try_from_iter<I: IntoIterator<Item = T>>(alloc: A, iter: I) -> Result<Self, Error> {
         let rest = iter.into_iter();
         let mut run = room(alloc, rest.size_hint().0)?;
@@ -74,24 +75,24 @@ impl<T: Ord + Drop, A: Allocator + Copy> TryFromIterator<T, A> for Set<T, A> {
 }
 
 impl<T: Ord + EqClone, A: Allocator + Copy> Set<T, A> {
-    /// The set of clones of all the items, or `DuplicateKey` where two of them are equal. It takes
-    /// O(n log n) comparisons.
+    /// Returns the set of clones of all the items, or `DuplicateKey` where two of them are equal.
+    /// It takes O(n log n) comparisons.
     pub fn try_from_slice(alloc: A, items: &[T]) -> Result<Self, Error>
         ensures { IsWholeSetOfClones T.eq T.cmp T.is_clone items.now result }
     {
         Set::try_from_vec(Vec::from_clones(alloc, items)?)
     }
 
-    /// The set of clones of all the items, or `DuplicateKey` where two of them are equal. The array
-    /// is given up. It takes O(n log n) comparisons.
+    /// Returns the set of clones of all the items, or `DuplicateKey` where two of them are equal.
+    /// The array is dropped. It takes O(n log n) comparisons.
     pub fn try_from_array<const N: usize>(alloc: A, items: [T; N]) -> Result<Self, Error>
         ensures { IsWholeSetOfClones T.eq T.cmp T.is_clone items result }
     {
         Set::try_from_slice(alloc, &items)
     }
 
-    /// The set of clones of all the items, or `DuplicateKey` where two of them are equal. It takes
-    /// O(n log n) comparisons.
+    /// Returns the set of clones of all the items, or `DuplicateKey` where two of them are equal.
+    /// It takes O(n log n) comparisons.
     pub fn try_from_array_ref<const N: usize>(alloc: A, items: &[T; N]) -> Result<Self, Error>
         ensures { IsWholeSetOfClones T.eq T.cmp T.is_clone items.now result }
     {

@@ -1,4 +1,4 @@
-//! The byte form of a set, which is that of the list of its items.
+//! The encoding of a set, which is that of the list of its items.
 ghost use Rattle.std.specs.Prelude.{◌≡◌, ◌+◌, ◌*◌, ◌<◌, ◌≤◌, ◌^◌, ℕ, List, OnErr, IfOk, IfErr, length};
 ghost use Rattle.commonware_base.specs.Fault.{Fault};
 ghost use Rattle.commonware_base.specs.Lists.{list_enc, IsAllowedList, IsListMemoryFree};
@@ -63,9 +63,9 @@ impl<T: Ord + Canonical, A: Allocator> Canonical for Set<T, A> {
 }
 
 impl<T: Ord + MaxEncodeSize, A: Allocator> Set<T, A> {
-    /// The number of bytes that a set of at most `len` items can have: the size of `len` as a
-    /// varint, and `len` times the bound of an item. `len` is at most 4294967295, and the result
-    /// fits a `usize`.
+    /// Returns the most bytes that the encoding of a set of at most `len` items can have: the size
+    /// of `len` as a varint, and `len` times the bound of an item. It requires that `len` is at
+    /// most 4294967295, and that the result fits a `usize`.
     pub fn max_encode_size(len: usize) -> usize
         requires short { len < 2 ^ 32 }
         requires fits { varint_size len + len * T.MAX_ENCODE_SIZE < 2 ^ 64 }
@@ -77,8 +77,8 @@ impl<T: Ord + MaxEncodeSize, A: Allocator> Set<T, A> {
     }
 }
 
-/// The cuts at which a text is no set exclude one another: no text has a fault of the list and one
-/// of the order.
+/// The error cases in which an input is no set exclude one another: no input has a fault of the
+/// list and one of the order.
 pub fn set_fault_law<T: Ord + Canonical + Read<A>, A: Allocator>(
     alloc: A,
     range: RangeCfg<usize>,
@@ -89,12 +89,12 @@ pub fn set_fault_law<T: Ord + Canonical + Read<A>, A: Allocator>(
         (w : SetFault T.enc T.writable T.cmp (T.allowed item.now) (T.fault item.now) range s g)
         → set_case v ≡ set_case w }
 {
-    // The contract alone speaks of them.
+    // They are named so that no parameter is unused: only the contract speaks of them.
     let _ = (alloc, range);
 }
 
-/// Reads a set under a range for its length and a configuration for its items. The order is looked
-/// at once the whole list is read, so a fault of a later item comes before that of the order.
+/// Decodes a set under a range for its length and a configuration for its items. The order is
+/// checked once the whole list is read, so a fault of a later item comes before that of the order.
 pub fn read_set<T: Ord + Canonical + Read<A> + Drop, A: Allocator + Copy>(
     alloc: A,
     src: &mut Source<'_>,
@@ -110,14 +110,10 @@ pub fn read_set<T: Ord + Canonical + Read<A> + Drop, A: Allocator + Copy>(
     ensures stays { OnErr result (src.new ≡ src.old) }
 {
     let mut here = *src;
-    match read_list::<T, A>(alloc, &mut here, range, item) {
-        Ok(items) => {
-            if !is_strict(items.as_slice()) {
-                return Err(Error::Invalid("Set", "items must be sorted and unique"));
-            }
-            *src = here;
-            Ok(Set { items })
-        }
-        Err(error) => Err(error),
+    let items = read_list::<T, A>(alloc, &mut here, range, item)?;
+    if !is_strict(items.as_slice()) {
+        return Err(Error::Invalid("Set", "items must be sorted and unique"));
     }
+    *src = here;
+    Ok(Set { items })
 }

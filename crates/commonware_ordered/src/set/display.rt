@@ -1,4 +1,4 @@
-//! Sets as texts.
+//! Sets as they are displayed.
 ghost use Rattle.std.specs.Fmt.{debug_list};
 
 use super::Set;
@@ -9,7 +9,7 @@ use std::fmt;
 impl<T: Ord + fmt::Display, A: Allocator> fmt::Display for Set<T, A> {
     ghost output = { debug_list T.output };
 
-    /// Writes `[`, the texts of the items, joined by `, `, and `]`.
+    /// Writes `[`, the `Display` texts of the items, joined by `, `, and `]`.
     fn fmt<W: fmt::Write>(&self, f: &mut fmt::Formatter<W>) -> fmt::Result {
         f.write_str("[")?;
         write_items(self.as_slice(), f)?;

@@ -1,4 +1,4 @@
-//! Sets that are walked item by item, and given up for the list of their items.
+//! Iterators over sets, and sets that become the list of their items.
 ghost use Rattle.std.specs.Prelude.{◌≡◌};
 ghost use Rattle.commonware_base.specs.Given.{HandsOver, Shows};
 
@@ -13,7 +13,7 @@ impl<T: Ord + Drop, A: Allocator> IntoIterator for Set<T, A> {
 
     ghost into_iter_gives = { λ s it. HandsOver s it };
 
-    /// The items in order, from both ends, with the exact number left.
+    /// Returns the items in order, from both ends, with the exact number left.
     fn into_iter(self) -> vec::IntoIter<T, A> {
         let Set { items } = self;
         items.into_iter()
@@ -27,7 +27,7 @@ impl<'a, T: Ord, A: Allocator> IntoIterator for &'a Set<T, A> {
 
     ghost into_iter_gives = { λ s it. Shows s.now it };
 
-    /// The items in order, from both ends, with the exact number left.
+    /// Returns the items in order, from both ends, with the exact number left.
     fn into_iter(self) -> slice::Iter<'a, T> {
         self.iter()
     }
@@ -36,7 +36,7 @@ impl<'a, T: Ord, A: Allocator> IntoIterator for &'a Set<T, A> {
 impl<T: Ord, A: Allocator> From<Set<T, A>> for Vec<T, A> {
     ghost from_gives = { λ s v. v.items ≡ s };
 
-    /// The items in order. It takes no memory.
+    /// Returns the items in order. It allocates nothing.
     fn from(set: Set<T, A>) -> Vec<T, A> {
         let Set { items } = set;
         items

@@ -1,4 +1,4 @@
-//! Pairs whose keys rise, as they come.
+//! Pairs whose keys are strictly increasing as they come.
 ghost use Rattle.std.specs.Prelude.{◌≡◌, ◌++◌, ◌∷◌, [], IfOk, OnErr, OnOk, true};
 ghost use Rattle.std.specs.List.{AllByRecursion, list_any};
 ghost use Rattle.std.specs.List.Sorted.{IsStrictlySortedBy};
@@ -14,7 +14,7 @@ use std::collections::BTreeMap;
 use std::marker::Model;
 use std::mem;
 
-/// Keys in increasing order, each once, and a value for each.
+/// Strictly increasing keys, and a value for each.
 #[derive(Drop)]
 pub(super) struct Run<K: Ord, V, A: Allocator> {
     keys: Vec<K, A>,
@@ -34,7 +34,7 @@ impl<K: Ord, V, A: Allocator> Model for Run<K, V, A> {
 }
 
 impl<K: Ord + Drop, V: Drop, A: Allocator + Copy> Run<K, V, A> {
-    /// No pairs, with room for as many as are said. It takes no memory where none are.
+    /// Returns a run without pairs, with room for `room` of them. At 0 it allocates nothing.
     pub(super) fn with_room(alloc: A, room: usize) -> Result<Self, AllocError>
         ensures { IfOk result (λ run. run ≡ []) }
     {
@@ -44,7 +44,7 @@ impl<K: Ord + Drop, V: Drop, A: Allocator + Copy> Run<K, V, A> {
         })
     }
 
-    /// No pairs. It takes no memory.
+    /// Returns a run without pairs. It allocates nothing.
     pub(super) fn new(alloc: A) -> Self
         ensures { result ≡ [] }
     {
@@ -54,7 +54,7 @@ impl<K: Ord + Drop, V: Drop, A: Allocator + Copy> Run<K, V, A> {
         }
     }
 
-    /// How the last key stands to a key; `Less` where there is none.
+    /// Compares the last key with a key; `Less` where the run is empty.
     #[inline(always)]
     pub(super) fn last_to(&self, key: &K) -> Ordering
         ensures { MatchOrdering result
@@ -68,7 +68,7 @@ impl<K: Ord + Drop, V: Drop, A: Allocator + Copy> Run<K, V, A> {
         }
     }
 
-    /// Puts a pair last, whose key is greater than all.
+    /// Appends a pair, whose key is greater than all.
     #[inline(always)]
     pub(super) fn push(&mut self, key: K, value: V) -> Result<(), AllocError>
         requires { AllByRecursion (λ p. K.cmp p.0 key ≡ Less) self.old }
@@ -82,7 +82,7 @@ impl<K: Ord + Drop, V: Drop, A: Allocator + Copy> Run<K, V, A> {
         Ok(())
     }
 
-    /// The pairs, of which none stay.
+    /// Returns the pairs, and leaves none.
     pub(super) fn take(&mut self) -> Self
         ensures taken { result ≡ self.old }
         ensures left { self.new ≡ [] }
@@ -91,7 +91,7 @@ impl<K: Ord + Drop, V: Drop, A: Allocator + Copy> Run<K, V, A> {
         mem::replace(self, Run::new(alloc))
     }
 
-    /// The keys, and the values at their positions.
+    /// Returns the keys, and the values at their positions.
     pub(super) fn into_columns(self) -> (Vec<K, A>, Vec<V, A>)
         ensures keys { result.0.items ≡ keys_of self }
         ensures values { result.1.items ≡ values_of self }
@@ -101,8 +101,8 @@ impl<K: Ord + Drop, V: Drop, A: Allocator + Copy> Run<K, V, A> {
         (keys, values)
     }
 
-    /// Moves the pairs into a tree that has none. No pair stays: where a request for memory is
-    /// refused, the tree has a prefix of them, and the others are dropped.
+    /// Moves the pairs into a tree that has none. No pair stays: after an allocation failure the
+    /// tree has a prefix of them, and the others are dropped.
     #[cold]
     #[inline(never)]
     pub(super) fn move_into(&mut self, tree: &mut BTreeMap<K, V, A>) -> Result<(), AllocError>

@@ -6,7 +6,7 @@ use std::alloc::{AllocError, Allocator};
 use std::collections::BTreeMap;
 use std::collections::btree_map::Entry;
 
-/// Puts a pair at its place unless an equal key stands there, and answers whether it did.
+/// Inserts a pair at its place unless an equal key is there, and returns whether it did.
 #[inline(never)]
 pub(super) fn put<K: Ord + Drop, V: Drop, A: Allocator + Copy>(
     tree: &mut BTreeMap<K, V, A>,
