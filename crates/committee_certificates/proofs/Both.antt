@@ -13,8 +13,8 @@ use Rattle.std.specs.Ordering.{nat_cmp}
 use Rattle.commonware_ordered.specs.Strict.{IsStrict}
 use Rattle.commonware_ordered.specs.laws.StrictLaws.{sorted_from_strict}
 use Rattle.committee_certificates.proofs.Members.{has_tells, tells_both}
-use Rattle.committee_certificates.proofs.Rising.{has, has_after, has_first, has_not_below}
-use Rattle.committee_certificates.proofs.Rising.{RisesFrom, rises_from_strict, rises_lower}
+use Rattle.committee_certificates.proofs.IncreasingPositions.{has, has_after, has_first, has_not_below}
+use Rattle.committee_certificates.proofs.IncreasingPositions.{RisesFrom, rises_from_strict, rises_lower}
 use Rattle.committee_certificates.specs.Signers.{AreInBoth}
 
 -- `and` with a test that fails

@@ -16,7 +16,7 @@ use Rattle.commonware_faults.specs.laws.ToleranceLaws.{quorums_share, Greatest-f
 use Rattle.commonware_faults.specs.laws.SubsetSizeLaws.{shared-map, size-agree, length-passing}
 use Rattle.commonware_ordered.specs.Strict.{IsStrict}
 use Rattle.committee_certificates.specs.Signers.{AreInBoth, AreMembers, LeavesOneOutside}
-use Rattle.committee_certificates.proofs.Rising.{has, truths, size-truths}
+use Rattle.committee_certificates.proofs.IncreasingPositions.{has, truths, size-truths}
 
 -- the test tells whether a position is among the signers
 pub has_tells : (xs : List ℕ) (p : ℕ) → Decides (has xs p) (Contains xs p)

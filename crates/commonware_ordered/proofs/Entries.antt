@@ -21,7 +21,7 @@ use Rattle.std.proofs.lemmas.Map.Keys.{sorted_tail}
 use Rattle.std.proofs.lemmas.Map.Made.{is_some-lookup}
 use Rattle.std.proofs.lemmas.Option.{same_Some}
 use Rattle.commonware_ordered.specs.Put.{IsPut}
-use Rattle.commonware_ordered.proofs.Rising.{any_of_keys, put_next}
+use Rattle.commonware_ordered.proofs.IncreasingKeys.{any_of_keys, put_next}
 use Rattle.commonware_ordered.proofs.Zipped.{LeftOf, left_more}
 
 -- `None` is no `Some`

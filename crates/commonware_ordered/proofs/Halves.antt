@@ -10,7 +10,7 @@ use Rattle.std.specs.declared.cmp.Ordering.TheVariants.{Less}
 use Rattle.std.proofs.lemmas.Map.Keys.{Less-from_sorted}
 use Rattle.commonware_ordered.specs.Put.{IsPut}
 use Rattle.commonware_ordered.specs.Strict.{IsStrict}
-use Rattle.commonware_ordered.proofs.Rising.{put_last}
+use Rattle.commonware_ordered.proofs.IncreasingKeys.{put_last}
 
 -- a list of length nothing
 nothing_from_len : {X : Type 0} (xs : List X) → length xs ≡ 0 → xs ≡ []

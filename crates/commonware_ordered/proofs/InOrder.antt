@@ -13,7 +13,7 @@ use Rattle.std.specs.declared.cmp.Ordering.TheVariants.{Less, Equal, Greater}
 use Rattle.commonware_ordered.specs.Put.{IsPut}
 use Rattle.commonware_ordered.specs.Strict.{IsStrict}
 use Rattle.commonware_ordered.proofs.Halves.{put_in_run, run_is_all, run_is_none, strict_from_sorted}
-use Rattle.commonware_ordered.proofs.Rising.{below_all, below_next, one_equals, put_at_end, strict_more}
+use Rattle.commonware_ordered.proofs.IncreasingKeys.{below_all, below_next, one_equals, put_at_end, strict_more}
 use Rattle.commonware_ordered.proofs.Zipped.{empty_from_len}
 
 -- what the tree says of an item that it took in or not is an insertion

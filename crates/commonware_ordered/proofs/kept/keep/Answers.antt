@@ -2,7 +2,7 @@ use Rattle.std.proofs.Common.{◌≡◌, refl, subst}
 use Rattle.std.specs.List.{AllByRecursion}
 use Rattle.std.specs.declared.cmp.Ordering.TheVariants.{Less}
 use Rattle.commonware_ordered.proofs.InOrder.{kept_last, run_grows}
-use Rattle.commonware_ordered.proofs.Rising.{run_none}
+use Rattle.commonware_ordered.proofs.IncreasingKeys.{run_none}
 use Rattle.commonware_ordered.proofs.kept.keep.Goals as goal
 
 pub returns-in_ok-pushed-in-Less-clause-put : goal.returns-in_ok-pushed-in-Less-clause-put

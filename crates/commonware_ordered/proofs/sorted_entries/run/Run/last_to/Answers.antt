@@ -2,7 +2,7 @@ use Rattle.std.proofs.Common.{ap, length, subst, sym, ◌∙◌, ◌-◌, arith}
 use Rattle.std.specs.List.{zip}
 use Rattle.std.specs.List.Sorted.{IsStrictlySortedBy}
 use Rattle.commonware_ordered.proofs.Columns.{opened}
-use Rattle.commonware_ordered.proofs.Rising.{run_last}
+use Rattle.commonware_ordered.proofs.IncreasingKeys.{run_last}
 use Rattle.commonware_ordered.proofs.sorted_entries.run.Run.last_to.Goals as goal
 
 pub returns-in-Some : goal.returns-in-Some

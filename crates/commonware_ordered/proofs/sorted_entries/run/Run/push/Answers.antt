@@ -1,5 +1,5 @@
 use Rattle.std.proofs.Common.{ap, ◌∙◌, ◌++◌, ◌∷◌, []}
-use Rattle.commonware_ordered.proofs.Rising.{run_more, run_pairs}
+use Rattle.commonware_ordered.proofs.IncreasingKeys.{run_more, run_pairs}
 use Rattle.commonware_ordered.proofs.sorted_entries.run.Run.push.Goals as goal
 
 pub invariant_of-self-2 : goal.invariant_of-self-2

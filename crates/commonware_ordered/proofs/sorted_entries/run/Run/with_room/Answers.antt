@@ -1,4 +1,4 @@
-use Rattle.commonware_ordered.proofs.Rising.{run_none}
+use Rattle.commonware_ordered.proofs.IncreasingKeys.{run_none}
 use Rattle.commonware_ordered.proofs.sorted_entries.run.Run.with_room.Goals as goal
 
 pub invariant_of-result : goal.invariant_of-result
