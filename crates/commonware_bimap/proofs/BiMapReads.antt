@@ -11,7 +11,7 @@ use Rattle.commonware_base.specs.Text.{Accepts, ReadLaws}
 use Rattle.commonware_base.specs.Varint.{varint}
 use Rattle.commonware_map.specs.Maps.{map_enc, IsWritableMap, IsAllowedMap}
 
--- a map with pairs is read with memory
+-- reading a map with pairs allocates
 pub pairs_want_memory : {K V : Type 0} (ek : K → List ℕ) (WK AK : K → Type 0) (cmp : K → K → Ordering) (fk : List ℕ → Fault → Type 0) (mk : List ℕ → Type 0) (key_laws : ReadLaws ek WK AK fk)
     (ev : V → List ℕ) (WV AV : V → Type 0) (range : Bounds ℕ) (s r : List ℕ) (m : List (K × V)) → Accepts (map_enc ek ev) (IsWritableMap WK cmp WV) (IsAllowedMap range AK AV) s m r → ¬ (m ≡ []) → ¬ IsListMemoryFree fk mk range s
 pairs_want_memory ek WK AK cmp fk mk key_laws ev WV AV range s r [] a some = absurd (some refl)

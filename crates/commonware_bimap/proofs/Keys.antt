@@ -12,12 +12,12 @@ use Rattle.commonware_ordered.specs.laws.EqualItemLaws.{none_equal_from_strict}
 use Rattle.commonware_ordered.specs.Whole.{HasEqualItems}
 use Rattle.commonware_bimap.specs.Swapped.{swapped}
 
--- values stand where keys stood
+-- values are where keys were
 pub keys_of-swapped : {K V : Type 0} (es : List (K × V)) → keys_of (swapped es) ≡ values_of es
 keys_of-swapped [] = refl
 keys_of-swapped (e ∷ es) = ap (λ l. e.1 ∷ l) (keys_of-swapped es)
 
--- and keys where values stood
+-- and keys where values were
 pub values_of-swapped : {K V : Type 0} (es : List (K × V)) → values_of (swapped es) ≡ keys_of es
 values_of-swapped [] = refl
 values_of-swapped (e ∷ es) = ap (λ l. e.0 ∷ l) (values_of-swapped es)
@@ -43,12 +43,12 @@ lookup_has test Q [] h = absurd h
 lookup_has test Q (e ∷ es) h = has_first test Q e es (test e.0) refl h (lookup_has test Q es)
 
 module _ {X Y : Type 0} (eq : X → X → Bool) (laws : IsEquivalence eq) where
-  -- no key before one that equals the one asked does
+  -- no key before one that equals the given one does
   later_only : (e : X × Y) (es : List (X × Y)) → ¬ HasEqualItems eq (keys_of (e ∷ es)) → (key : X) (i : ℕ) (x : X) → slice_get (keys_of es) i ≡ Some x → eq x key ≡ true → (b : Bool) → eq e.0 key ≡ b → b ≡ false
   later_only e es none key i x at same false other = refl
   later_only e es none key i x at same true first = absurd (none (0, suc i, e.0, x, omega arith, refl, at, laws.congr e.0 key x first ∙ laws.symm key x ∙ same))
 
-  -- where no two keys are equal, the value beside a key that equals the one asked is what the look-up finds
+  -- where no two keys are equal, the value beside a key that equals the given one is what the look-up finds
   pub lookup_is : (es : List (X × Y)) → ¬ HasEqualItems eq (keys_of es) → (key : X) (i : ℕ) (x : X) (y : Y) → slice_get (keys_of es) i ≡ Some x → slice_get (values_of es) i ≡ Some y → eq x key ≡ true → Some y ≡ lookup (λ z. eq z key) es
   lookup_is [] none key i x y at beside same = cc
   lookup_is (e ∷ es) none key zero x y at beside same =
@@ -74,7 +74,7 @@ key_at value_eq laws es none value i k place is =
     (subst (λ l. slice_get l i ≡ Some v) (sym (keys_of-swapped es)) (slice_get-get_or (values_of es) i value place.0))
     (subst (λ l. slice_get l i ≡ Some k) (sym (values_of-swapped es)) (slice_get-get_or (keys_of es) i k inside ∙ ap Some (sym is))) (place.1 value)
 
--- where the keys are strict and no two values are equal, the key of a value equals a key exactly where the value of that key equals the value
+-- where the keys are strictly increasing and no two values are equal, the key of a value equals a key exactly where the value of that key equals the value
 pub found_both_ways : {K V : Type 0} {cmp : K → K → Ordering} {key_eq : K → K → Bool} → IsTotalOrder cmp → ((x y : K) → key_eq x y ≡ is_eq (cmp x y)) → IsEquivalence key_eq → (value_eq : V → V → Bool) → IsEquivalence value_eq
     → (es : List (K × V)) → IsStrict cmp (keys_of es) → ¬ HasEqualItems value_eq (values_of es) → (value : V) (found : Option K) → found ≡ lookup (λ v. value_eq v value) (swapped es) → (key : K)
     → IsSomeAnd found (λ q. key_eq q key ≡ true) ↔ IsSomeAnd (lookup (λ q. key_eq q key) es) (λ v. value_eq v value ≡ true)

@@ -1,4 +1,4 @@
--- Equal items of a list that is read from the front.
+-- Equal items of a list that is read from its start.
 use Rattle.std.specs.Prelude.{◌≡◌, Bool, true, false, List, Some, length, refl, slice_get}
 use Rattle.std.specs.List.{list_any}
 use Rattle.std.proofs.Common.{inl, inr, sym, ap, ◌∙◌, arith, take, get_or, ℕ, ◌<◌, ◌+◌}
@@ -10,7 +10,7 @@ use mathlib.Core.Bool.{true≢false}
 use Rattle.commonware_ordered.specs.Whole.{HasEqualItems}
 
 module _ {X : Type 0} where
-  -- an item of the front of a list is that item of the list
+  -- an item of a prefix of a list is that item of the list
   in_front : (xs : List X) (n k : ℕ) (x : X) → slice_get (take n xs) k ≡ Some x → (k < n) × (k < length xs) × (x ≡ get_or xs k x)
   in_front xs n k x at =
       let within : k < length (take n xs) = slice_get_within (take n xs) k x at in
@@ -23,7 +23,7 @@ module _ {X : Type 0} where
       slice_get_read (take n xs) (length (take n xs)) k x refl (omega (arith, length-take n xs)) (is ∙ sym (get_or-take n xs k x front))
 
   module _ (eq : X → X → Bool) where
-    -- where no two items of the front of a list are equal, and none of them equals the next item, no two are equal with that item
+    -- where no two items of a prefix of a list are equal, and none of them equals the next item, no two are equal with that item
     pub none_equal_more : (xs : List X) (i : ℕ) (x : X) → i < length xs → x ≡ get_or xs i x → ¬ HasEqualItems eq (take i xs) → list_any (λ y. eq y x) (take i xs) ≡ false → ¬ HasEqualItems eq (take (i + 1) xs)
     none_equal_more xs i x inside is none apart (a, b, y, z, before, at, later, same) =
         let p = in_front xs (i + 1) a y at in

@@ -1,4 +1,4 @@
--- What is answered for the values of a map is answered for the pairs that it was made of.
+-- What is returned for the values of a map is returned for the pairs that it was made of.
 use Rattle.std.proofs.Common.{◌≡◌, Bool, List, Option, inl, inr, refl, subst, sym}
 use Rattle.std.specs.Prelude.{Err, IfErr, IfOk, MatchResult, Ok, Result, true}
 use Rattle.std.specs.Cmp.{IsEquivalence}
@@ -17,7 +17,7 @@ use Rattle.commonware_bimap.specs.laws.BiMapLaws.{repeated_back, repeated_togeth
 use Rattle.commonware_bimap.specs.WholeBiMaps.{HasEqualValues, IsBiMapOfAll, IsRefusedBiMap, IsWholeBiMapOfClones}
 
 module _ {K V : Type 0} (key_eq : K → K → Bool) (key_cmp : K → K → Ordering) (value_eq : V → V → Bool) (value_laws : IsEquivalence value_eq) where
-  -- what is answered for a map: the same pairs, of which no two values are equal; or that two are
+  -- what is returned for a map: the same pairs, of which no two values are equal; or that two are
   abbrev IsChecked : List (K × V) → Result (List (K × V)) Error → Type 0
   IsChecked m r = MatchResult r (λ b. (b ≡ m) × (¬ HasEqualValues value_eq m)) (λ e. MatchError e ⊥ (HasEqualValues value_eq m))
 
@@ -29,7 +29,7 @@ module _ {K V : Type 0} (key_eq : K → K → Bool) (key_cmp : K → K → Order
   values_kept : (l m : List (K × V)) → IsPermutation l m → HasEqualValues value_eq m → HasEqualValues value_eq l
   values_kept l m p twice = elim (equal_items_or_none value_eq (values_of l)) [ inl h ↦ h | inr none ↦ absurd (values_moved l m p none twice) ]
 
-  -- what is answered for the map of all pairs is answered for the pairs
+  -- what is returned for the map of all pairs is returned for the pairs
   pub whole_bimap : (Whole : Type 0) → Whole → (l m : List (K × V)) → IsSetOfAll (λ p q. key_eq p.0 q.0) (λ p q. key_cmp p.0 q.0) l m → (r : Result (List (K × V)) Error) → IsChecked m r
       → MatchResult r (IsBiMapOfAll key_eq key_cmp value_eq l) (IsRefusedBiMap key_eq value_eq Whole l)
   whole_bimap Whole whole l m set (Ok b) h =
@@ -39,7 +39,7 @@ module _ {K V : Type 0} (key_eq : K → K → Bool) (key_cmp : K → K → Order
   whole_bimap Whole whole l m set (Err Memory) h = tt
 
   module _ (Clone : K × V → K × V → Type 0) (each : (p q : K × V) → Clone p q → is_equal_pair key_eq value_eq p q ≡ true) where
-    -- what is answered for the map of clones of all pairs is answered for the pairs
+    -- what is returned for the map of clones of all pairs is returned for the pairs
     pub whole_bimap_of_clones : (l m : List (K × V)) → IsSetOfClones (λ p q. key_eq p.0 q.0) (λ p q. key_cmp p.0 q.0) Clone l m → (r : Result (List (K × V)) Error) → IsChecked m r → IsWholeBiMapOfClones key_eq key_cmp value_eq Clone l r
     whole_bimap_of_clones l m set (Ok b) h =
         let equal = equal_from_all_zip Clone each l set.0 set.1 in (
@@ -51,7 +51,7 @@ module _ {K V : Type 0} (key_eq : K → K → Bool) (key_cmp : K → K → Order
     whole_bimap_of_clones l m set (Err Memory) h = tt
 
   module _ {Given State : Type 0} (becomes : Given → State → Type 0) (steps : State → Option (K × V) → State → Type 0) (given : Given) where
-    -- what is answered for the map of all that an iterator gave is answered for what it gave
+    -- what is returned for the map of all that an iterator gave is returned for what it gave
     pub whole_from_iter : (m : List (K × V)) → TakesAll becomes steps given (λ xs. IsSetOfAll (λ p q. key_eq p.0 q.0) (λ p q. key_cmp p.0 q.0) xs m) → (r : Result (List (K × V)) Error) → IsChecked m r
         → IfOk r (λ b. TakesAll becomes steps given (λ xs. IsBiMapOfAll key_eq key_cmp value_eq xs b)) × IfErr r (λ e. TakesSome becomes steps given (λ xs ended. IsRefusedBiMap key_eq value_eq (ended ≡ true) xs e))
     whole_from_iter m (s, xs, made, d, set) (Ok b) h = ((s, xs, made, d, whole_bimap (Unit {0}) tt xs m set (Ok b) h), tt)

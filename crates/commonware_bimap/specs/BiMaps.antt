@@ -1,4 +1,4 @@
--- The byte form of a bimap, which is that of the map of its pairs.
+-- The encoding of a bimap, which is that of the map of its pairs.
 use Rattle.std.specs.Prelude.{◌≡◌, ℕ, Bool, List, ◌++◌, codes}
 use Rattle.std.specs.Map.{values_of}
 use Rattle.std.specs.declared.cmp.Ordering.{Ordering}
@@ -13,7 +13,7 @@ pub record IsWritableBiMap {K V : Type 0} (KeyWritable : K → Type 0) (cmp : K 
   pub map : IsWritableMap KeyWritable cmp ValueWritable m
   pub distinct : ¬ HasEqualItems value_eq (values_of m)
 
--- The text begins with a writable, allowed map of which two values are equal.
+-- The input begins with a writable, allowed map of which two values are equal.
 pub record BeginsRepeated {K V : Type 0} (key_enc : K → List ℕ) (KeyWritable : K → Type 0) (cmp : K → K → Ordering)
     (KeyAllowed : K → Type 0)
     (value_enc : V → List ℕ) (ValueWritable ValueAllowed : V → Type 0) (value_eq : V → V → Bool) (range : Bounds ℕ)
@@ -25,12 +25,12 @@ pub record BeginsRepeated {K V : Type 0} (key_enc : K → List ℕ) (KeyWritable
   pub allowed : IsAllowedMap range KeyAllowed ValueAllowed pairs
   pub repeated : HasEqualItems value_eq (values_of pairs)
 
--- what is said of a map of which two values are equal
+-- the words of the fault of a map of which two values are equal
 abbrev pub repeated_fault : Fault
 repeated_fault = Invalid (codes "BiMap") (codes "duplicate value detected during deserialization")
 
--- The first fault of a text that should begin with a bimap: that of the map; then, where there is none, that two values
--- are equal.
+-- The first fault of an input that should begin with a bimap: that of the map; then, where there is none, that two
+-- values are equal.
 pub data BiMapFault {K V : Type 0} (key_enc : K → List ℕ) (KeyWritable : K → Type 0) (cmp : K → K → Ordering)
     (KeyAllowed : K → Type 0) (key_fault : List ℕ → Fault → Type 0)
     (value_enc : V → List ℕ) (ValueWritable ValueAllowed : V → Type 0) (value_fault : List ℕ → Fault → Type 0)
@@ -46,12 +46,12 @@ pub data BiMapFault {K V : Type 0} (key_enc : K → List ℕ) (KeyWritable : K �
       → BiMapFault key_enc KeyWritable cmp KeyAllowed key_fault value_enc ValueWritable ValueAllowed value_fault
       value_eq range text fault
 
--- The cuts at which a text that should begin with a bimap can be faulty.
+-- The error cases of an input that should begin with a bimap.
 pub data BiMapCase : Type 0 where
   at_map : BiMapCase
   at_values : BiMapCase
 
--- the cut of a fault
+-- the error case of a fault
 abbrev pub bimap_case :
     {K V : Type 0} {key_enc : K → List ℕ} {KeyWritable : K → Type 0} {cmp : K → K → Ordering} {KeyAllowed : K → Type 0}
     {key_fault : List ℕ → Fault → Type 0}

@@ -1,4 +1,4 @@
--- What the builders of bimaps answer: all pairs in the order of their keys, or why there are none. Keys come before
+-- What the builders of bimaps return: all pairs in the order of their keys, or why there are none. Keys come before
 -- values.
 use Rattle.std.specs.Prelude.{Bool, List, MatchResult, Result}
 use Rattle.std.specs.Map.{values_of}
@@ -21,8 +21,8 @@ abbrev pub IsBiMapOfAll : {K V : Type 0} → (K → K → Bool) → (K → K →
 IsBiMapOfAll key_eq key_cmp value_eq l m =
     IsSetOfAll (on_keys key_eq) (on_keys key_cmp) l m × (¬ HasEqualValues value_eq l)
 
--- l is refused as two of its positions hold equal keys; or as none do, Whole holds, and two positions hold equal
--- values; or for want of memory
+-- l is refused since two of its positions hold equal keys; or since none do, Whole holds, and two positions hold equal
+-- values; or since an allocation failed
 abbrev pub IsRefusedBiMap : {K V : Type 0} → (K → K → Bool) → (V → V → Bool) → Type 0 → List (K × V) → Error → Type 0
 IsRefusedBiMap key_eq value_eq Whole l error =
     MatchError error (HasEqualKeys key_eq l) (HasEqualValues value_eq l × (¬ HasEqualKeys key_eq l) × Whole)

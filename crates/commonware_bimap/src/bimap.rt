@@ -27,7 +27,10 @@ use std::hash::Hash;
 use std::marker::Model;
 use std::slice;
 
-/// Keys in increasing order, each once, and a value for each, no two of which are equal.
+/// Strictly increasing keys, so each once, and a value for each, no two of which are equal.
+///
+/// The bimap of the pairs `(2, 10)` and `(1, 20)` has the key 2 for the value 10. Of bytes, it is
+/// encoded as `02 01 02 02 14 0a`.
 #[derive(Drop)]
 pub struct BiMap<K: Ord, V: Eq + Hash, A: Allocator> {
     map: Map<K, V, A>,
@@ -46,7 +49,7 @@ impl<K: Ord, V: Eq + Hash, A: Allocator> Model for BiMap<K, V, A> {
 }
 
 impl<K: Ord, V: Eq + Hash, A: Allocator + Copy> BiMap<K, V, A> {
-    /// The bimap without pairs. It takes no memory.
+    /// Returns the bimap without pairs. It allocates nothing.
     pub fn empty(alloc: A) -> Self
         ensures { result ≡ [] }
     {
@@ -57,10 +60,10 @@ impl<K: Ord, V: Eq + Hash, A: Allocator + Copy> BiMap<K, V, A> {
 }
 
 impl<K: Ord + Drop, V: Eq + Hash + Drop, A: Allocator + Copy> BiMap<K, V, A> {
-    /// The bimap of the pairs of a map, or `DuplicateValue` where two of its values are equal. Each
-    /// value is looked up among those before it in a hash set: linear time, unless hashes collide,
-    /// and memory for a reference to each value, without which the answer is `Memory`. A map
-    /// without pairs takes none and is never refused.
+    /// Returns the bimap of the pairs of a map, or `DuplicateValue` where two of its values are
+    /// equal. Each value is looked up among those before it in a hash set: linear time, unless
+    /// hashes collide, and memory for a reference to each value. After an allocation failure it
+    /// returns `Memory`. For a map without pairs it allocates nothing and returns no error.
     pub fn try_from_map(map: Map<K, V, A>) -> Result<Self, Error>
         ensures whole { MatchResult result
             (λ b. (b ≡ map) × (¬ HasEqualValues V.eq map))
@@ -75,8 +78,8 @@ impl<K: Ord + Drop, V: Eq + Hash + Drop, A: Allocator + Copy> BiMap<K, V, A> {
     }
 }
 
-/// Whether two positions hold equal values. It takes memory for as many references, and none for no
-/// values.
+/// Whether two positions hold equal values. It allocates for as many references, and for no values
+/// nothing.
 fn has_equal_values<V: Eq + Hash, A: Allocator + Copy>(
     alloc: A,
     values: &[V],
@@ -95,7 +98,7 @@ fn has_equal_values<V: Eq + Hash, A: Allocator + Copy>(
 }
 
 impl<K: Ord, V: Eq + Hash, A: Allocator> BiMap<K, V, A> {
-    /// How many pairs there are.
+    /// Returns how many pairs there are.
     pub fn len(&self) -> usize
         ensures len { result ≡ length self.now }
         ensures strict { IsStrict K.cmp (keys_of self.now) }
@@ -111,14 +114,14 @@ impl<K: Ord, V: Eq + Hash, A: Allocator> BiMap<K, V, A> {
         self.map.is_empty()
     }
 
-    /// The keys.
+    /// Returns the keys.
     pub fn keys(&self) -> &Set<K, A>
         ensures { result.now ≡ keys_of self.now }
     {
         self.map.keys()
     }
 
-    /// The values in the order of their keys. No two are equal.
+    /// Returns the values in the order of their keys. No two are equal.
     pub fn values(&self) -> &[V]
         ensures values { result.now ≡ values_of self.now }
         ensures distinct { ¬ HasEqualValues V.eq self.now }
@@ -126,14 +129,14 @@ impl<K: Ord, V: Eq + Hash, A: Allocator> BiMap<K, V, A> {
         self.map.values()
     }
 
-    /// The key at a position, or `None` past the last.
+    /// Returns the key at a position, or `None` past the last.
     pub fn get(&self, index: usize) -> Option<&K>
         ensures { IsItemAt (keys_of self.now) index result }
     {
         self.map.get(index)
     }
 
-    /// An iterator over the keys in order, from both ends.
+    /// Returns an iterator over the keys in order, from both ends.
     pub fn iter(&self) -> slice::Iter<'_, K>
         ensures rest { iter_rest result ≡ keys_of self.now }
         ensures bound { length (iter_rest result) < 2 ^ 64 }
@@ -143,7 +146,7 @@ impl<K: Ord, V: Eq + Hash, A: Allocator> BiMap<K, V, A> {
         self.map.iter()
     }
 
-    /// The pairs in the order of their keys, from both ends, with the exact number left.
+    /// Returns the pairs in the order of their keys, from both ends, with the exact number left.
     pub fn iter_pairs(&self) -> Pairs<'_, K, V>
         ensures pairs { result ≡ self.now }
         ensures bound { length self.now < 2 ^ 64 }
@@ -153,7 +156,7 @@ impl<K: Ord, V: Eq + Hash, A: Allocator> BiMap<K, V, A> {
         self.map.iter_pairs()
     }
 
-    /// The place of the key that equals the one asked, or `None` where none does. It takes
+    /// Returns the place of the key that equals the given one, or `None` where none does. It takes
     /// O(log n) comparisons.
     pub fn position(&self, key: &K) -> Option<usize>
         ensures place { IsPlaceOf K.eq (keys_of self.now) key.now result }
@@ -162,14 +165,14 @@ impl<K: Ord, V: Eq + Hash, A: Allocator> BiMap<K, V, A> {
         self.map.position(key)
     }
 
-    /// The value at a position, or `None` past the last.
+    /// Returns the value at a position, or `None` past the last.
     pub fn value(&self, index: usize) -> Option<&V>
         ensures { IsItemAt (values_of self.now) index result }
     {
         self.map.value(index)
     }
 
-    /// The value of the key that equals the one asked, or `None` where none does. It takes
+    /// Returns the value of the key that equals the given one, or `None` where none does. It takes
     /// O(log n) comparisons.
     pub fn get_value(&self, key: &K) -> Option<&V>
         ensures { option_copied result ≡ lookup (λ k. K.eq k key.now) self.now }
@@ -177,8 +180,8 @@ impl<K: Ord, V: Eq + Hash, A: Allocator> BiMap<K, V, A> {
         self.map.get_value(key)
     }
 
-    /// The key whose value equals the one asked, or `None` where none does. It equals a key exactly
-    /// where that key's value equals the one asked. The values are compared one by one.
+    /// Returns the key whose value equals the given one, or `None` where none does. It equals a key
+    /// exactly where that key's value equals the given one. The values are compared one by one.
     pub fn get_key(&self, value: &V) -> Option<&K>
         ensures key { option_copied result ≡ lookup (λ v. V.eq v value.now) (swapped self.now) }
         ensures law { (k : K) → IsSomeAnd (option_copied result) (λ q. K.eq q k ≡ true)
@@ -190,7 +193,7 @@ impl<K: Ord, V: Eq + Hash, A: Allocator> BiMap<K, V, A> {
     }
 }
 
-/// The place of a value that equals the one asked, or `None` where none does.
+/// Returns the place of a value that equals the given one, or `None` where none does.
 fn place_of<V: Eq>(values: &[V], value: &V) -> Option<usize>
     ensures { IsPlaceOf V.eq values.now value.now result }
 {
@@ -198,7 +201,7 @@ fn place_of<V: Eq>(values: &[V], value: &V) -> Option<usize>
 }
 
 impl<K: Ord, V: Eq + Hash + Drop, A: Allocator> BiMap<K, V, A> {
-    /// The keys. The values are given up. It takes no memory.
+    /// Returns the keys. The values are dropped. It allocates nothing.
     pub fn into_keys(self) -> Set<K, A>
         ensures { result ≡ keys_of self }
     {
@@ -208,7 +211,7 @@ impl<K: Ord, V: Eq + Hash + Drop, A: Allocator> BiMap<K, V, A> {
 }
 
 impl<K: Ord + Drop, V: Eq + Hash + Drop, A: Allocator + Copy> BiMap<K, V, A> {
-    /// All pairs in the order of their keys.
+    /// Returns all pairs in the order of their keys.
     pub fn into_pairs(self) -> Result<Vec<(K, V), A>, AllocError>
         ensures { IfOk result (λ pairs. pairs.items ≡ self) }
     {

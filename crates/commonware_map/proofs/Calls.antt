@@ -1,4 +1,4 @@
--- Calls along the pairs of a map, and the keys beside their answers.
+-- Calls along the pairs of a map, and the keys beside their results.
 use Rattle.std.proofs.Common.{◌≡◌, List, [], ◌∷◌, ◌++◌, length, refl, ap, sym, subst, ◌∙◌}
 use Rattle.std.specs.Prelude.{Ok, Err, Some, slice_get}
 use Rattle.std.specs.Borrow.{Bor}
@@ -41,7 +41,7 @@ module _ {F K V R : Type 0} (calls : Mut F (Bor K × (Bor V × Unit {0})) R) whe
   ready step f pairs answers now (pair ∷ rest) callable h key value e =
       subst (TakesRefs calls now) (same_Some pair (key.now, value.now) e) (takes_next step (TakesRefs calls) f pairs answers now (pair ∷ rest) pair rest callable h refl) key value refl refl
 
--- such answers beside as many keys
+-- such results beside as many keys
 module _ {F K V R : Type 0} (step : F → K × V → R → F → Type 0) (f : F) (pairs : List (K × V)) (keys : List K) (answers : List R) (calls : CallsGiveAll step f pairs answers) (long : length keys ≡ length pairs) where
   -- there are as many
   pub as_many : length answers ≡ length keys
@@ -52,7 +52,7 @@ module _ {F K V R : Type 0} (step : F → K × V → R → F → Type 0) (f : F)
     pub keys_are : keys_of m ≡ keys
     keys_are = ap keys_of is ∙ keys_of-zip keys answers as_many
 
-    -- the values are the answers
+    -- the values are the results
     pub values_are : CallsGiveAll step f pairs (values_of m)
     values_are = subst (CallsGiveAll step f pairs) (sym (ap values_of is ∙ values_of-zip keys answers as_many)) calls
 

@@ -27,7 +27,7 @@ rest_bytes s h = bytes_right (take s.position s.bytes.now) (rest_of s) (subst Ar
 pub columns-zip : {K V : Type 0} (ks : List K) (vs : List V) → length vs ≡ length ks → columns (zip ks vs) ≡ (ks, vs)
 columns-zip ks vs even = λ j. (keys_of-zip ks vs even j, values_of-zip ks vs even j)
 
--- where exactly so many are allowed, there are so many
+-- where exactly n are allowed, there are n
 pub as_many : {V : Type 0} (Allowed : V → Type 0) (n : ℕ) (vs : List V) → IsAllowedList (exactly n) Allowed vs → length vs ≡ n
 as_many Allowed n vs a = omega (arith, a.in_range.above, a.in_range.below)
 
@@ -48,7 +48,7 @@ module _ {K V : Type 0} (ek : K → List ℕ) (ev : V → List ℕ) where
           begins = e ∙ ap (λ u. list_enc ek ks ++ u) f ∙ sym (append_assoc (list_enc ek ks) (list_enc ev vs) r) ∙ ap (λ h. sequence_enc (list_enc ek) (list_enc ev) h ++ r) cols;
         }
 
--- no values under exactly 0 are read or refused with no memory
+-- no values under exactly 0 are decoded or refused without an allocation
 free_of_none : {V : Type 0} (ev : V → List ℕ) (WV AV : V → Type 0) (fv : List ℕ → Fault → Type 0) (mv : List ℕ → Type 0) (t : List ℕ) → IsPrefixFree ev WV → ReadLaws ev WV AV fv → AreBytes t → IsListMemoryFree fv mv (exactly zero) t
 free_of_none {V} ev WV AV fv mv t value_prefix_free value_laws bytes = elim ((list_laws ev WV value_prefix_free AV fv (exactly zero) value_laws).accepted_or_faulty t bytes) [
   | inl a ↦ accepted a.0 a.1 (as_many AV zero a.0 a.2.allowed) a.2.begins
@@ -66,7 +66,7 @@ free_of_none {V} ev WV AV fv mv t value_prefix_free value_laws bytes = elim ((li
 
 module _ {K V : Type 0} (ek : K → List ℕ) (WK AK : K → Type 0) (fk : List ℕ → Fault → Type 0) (mk : List ℕ → Type 0) (key_laws : ReadLaws ek WK AK fk) (range : Bounds ℕ)
     (ev : V → List ℕ) (WV AV : V → Type 0) (fv : List ℕ → Fault → Type 0) (mv : List ℕ → Type 0) (value_prefix_free : IsPrefixFree ev WV) (value_laws : ReadLaws ev WV AV fv) where
-  -- where the values want memory, so do the keys
+  -- where reading the values allocates, so does reading the keys
   pub keys_want_memory : (s t : List ℕ) (ks : List K) → IsWritableList WK ks → IsAllowedList range AK ks → s ≡ list_enc ek ks ++ t → AreBytes t → ¬ IsListMemoryFree fv mv (exactly (length ks)) t → ¬ IsListMemoryFree fk mk range s
   keys_want_memory s t [] w a e bytes wants = absurd (wants (free_of_none ev WV AV fv mv t value_prefix_free value_laws bytes))
   keys_want_memory s t (k ∷ ks) w a e bytes wants =

@@ -35,11 +35,11 @@ pub one_less : {K V : Type 0} (before : List (K × V)) (left : List (K × V)) (p
 one_less before left pair e = omega (arith, ap length e, length_push left pair)
 
 module _ {K V : Type 0} where
-  -- a run from the front lends what was left
+  -- a run from the front borrows what was left
   pub lent_in_order : LendsInOrder K V
   lent_in_order = from_front pairs_mut_steps deref_pair_mut pairs_mut_left (λ s t h. ap length h.0.0) (λ s x t h. h.0)
 
-  -- a run from the back lends it in reverse
+  -- a run from the back borrows it in reverse
   pub lent_in_reverse : LendsInReverse K V
   lent_in_reverse = from_back pairs_mut_steps_back deref_pair_mut pairs_mut_left (λ s t h. ap length h.0.0) (λ s x t h. h.0)
 

@@ -1,4 +1,4 @@
--- A walk over keys that are lent, beside values that are given.
+-- A walk over keys that are borrowed, beside values that are taken.
 use Rattle.std.proofs.Common.{◌≡◌, List, [], ◌∷◌, length, sym, subst, ap, ◌∙◌, arith, ⊎_elim}
 use Rattle.std.specs.Prelude.{None, Some}
 use Rattle.std.specs.Borrow.{Bor}

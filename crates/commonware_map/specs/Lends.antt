@@ -1,4 +1,4 @@
--- What a map is once a loan of its values has ended.
+-- What a map is once a mutable borrow of its values has ended.
 use Rattle.std.specs.Prelude.{ℕ, zero, suc, Bool, Option, List, [], ◌∷◌, length, zip}
 use Rattle.std.specs.Borrow.{Fml, GName, RattleType, MutBor, Array, Lends, LendsIf, follows}
 use Rattle.std.specs.List.{refill}
@@ -37,6 +37,6 @@ module _ (K V A : RattleType) (cmp : K.Denot → K.Denot → Ordering) (eq : K.D
     abbrev pub LendsValues : MutBor (List V.Denot) → Fml
     LendsValues r = Lends map_row (Array V 0) m r (λ ws. set_values m.now ws)
 
-    -- the same of the loan with this name
+    -- the same of the mutable borrow with this name
     abbrev pub LendsValuesTo : GName → Fml
     LendsValuesTo name = follows map_row (Array V 0) m.ghost_name name (λ ws. set_values m.now ws)

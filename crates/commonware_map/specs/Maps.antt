@@ -1,4 +1,4 @@
--- The byte form of a map: the list of its keys, and then the list of its values, each with its count.
+-- The encoding of a map: the list of its keys, and then the list of its values, each with its length.
 use Rattle.std.specs.Prelude.{ℕ, ◌+◌, ◌*◌, List, length}
 use Rattle.std.specs.Map.{keys_of, values_of}
 use Rattle.std.specs.declared.cmp.Ordering.{Ordering}
@@ -35,8 +35,8 @@ abbrev pub IsAllowedMap : {K V : Type 0} → Bounds ℕ → (K → Type 0) → (
 IsAllowedMap range KeyAllowed ValueAllowed m =
     IsAllowedSequence (IsAllowedList range KeyAllowed) (AreAllowedValues ValueAllowed) (columns m)
 
--- The first fault of a text that should begin with a map: that of the keys as a set; then, where there is none, that of
--- the values as a list of as many.
+-- The first fault of an input that should begin with a map: that of the keys as a set; then, where there is none, that
+-- of the values as a list of as many.
 abbrev pub MapFault :
     {K V : Type 0} (key_enc : K → List ℕ) (KeyWritable : K → Type 0) (cmp : K → K → Ordering) (KeyAllowed : K → Type 0)
     (key_fault : List ℕ → Fault → Type 0)

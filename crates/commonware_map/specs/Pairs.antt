@@ -4,7 +4,6 @@ use Rattle.std.specs.Prelude.{◌≡◌, ◌<◌, ◌^◌, ℕ, Bool, ◌&&◌, 
 use Rattle.std.specs.Cmp.Lexicographic.{pointwise}
 use Rattle.std.specs.Fmt.{◌++?◌}
 use Rattle.std.specs.Map.Iter.{GivesInOrder, GivesInReverse, ShowsInOrder, ShowsInReverse, deref_pair}
-use Rattle.std.proofs.Common.{◌++◌}
 
 -- what is said of two keys, said of two pairs by their keys
 abbrev pub on_keys : {K V R : Type 0} → (K → K → R) → K × V → K × V → R

@@ -1,4 +1,4 @@
--- What a map of the values calls, and what it answers.
+-- What a map of the values calls, and what it returns.
 use Rattle.std.specs.Prelude.{◌≡◌, List, ◌∷◌, ◌++◌, Ok, Err}
 use Rattle.std.specs.Borrow.{Bor}
 use Rattle.std.specs.Fn.{Called, Mut, Takes}
@@ -7,7 +7,7 @@ use Rattle.commonware_base.specs.Calls.{CallsGive}
 use Rattle.commonware_map.specs.declared.map_error.MapError.{MapError}
 use Rattle.commonware_map.specs.declared.map_error.MapError.TheVariants.{Memory, Closure}
 
--- A call of f at references to the key and the value of a pair answered r and left f'.
+-- A call of f at references to the key and the value of a pair returned r and left f'.
 pub record CalledAtRefs {F K V R : Type 0} (calls : Mut F (Bor K × (Bor V × Unit {0})) R) (f : F) (pair : K × V) (r : R)
     (f' : F) : Type 0 where
   pub key : Bor K
@@ -16,7 +16,7 @@ pub record CalledAtRefs {F K V R : Type 0} (calls : Mut F (Bor K × (Bor V × Un
   pub value_is : value.now ≡ pair.1
   pub called : Called calls f (key, (value, tt)) r f'
 
--- A call of f at a reference to the key of a pair and at its value answered r and left f'.
+-- A call of f at a reference to the key of a pair and at its value returned r and left f'.
 pub record CalledAtPair {F K V R : Type 0} (calls : Mut F (Bor K × (V × Unit {0})) R) (f : F) (pair : K × V) (r : R)
     (f' : F) : Type 0 where
   pub key : Bor K
@@ -32,11 +32,11 @@ TakesRefs {F} {K} {V} calls f pair = (key : Bor K) → (value : Bor V) → key.n
 abbrev pub TakesPair : {F K V R : Type 0} → Mut F (Bor K × (V × Unit {0})) R → F → K × V → Type 0
 TakesPair {F} {K} calls f pair = (key : Bor K) → key.now ≡ pair.0 → Takes calls f (key, (pair.1, tt))
 
--- The step from f to f' answered `Ok r`.
+-- The step from f to f' returned `Ok r`.
 abbrev pub Succeeds : {F X R E : Type 0} → (F → X → Result R E → F → Type 0) → F → X → R → F → Type 0
 Succeeds step f x r f' = step f x (Ok r) f'
 
--- The calls at the first of xs answered `Ok`, and the one after them answered the error e.
+-- The calls at the first of xs returned `Ok`, and the one after them returned the error e.
 pub record IsFirstError {F X R E : Type 0} (step : F → X → Result R E → F → Type 0) (f : F) (xs : List X) (e : E) :
     Type 0 where
   pub before : List X

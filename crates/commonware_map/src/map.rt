@@ -24,7 +24,10 @@ use std::alloc::{AllocError, Allocator};
 use std::marker::Model;
 use std::slice;
 
-/// Keys in increasing order, each once, and a value for each.
+/// Strictly increasing keys, so each once, and a value for each.
+///
+/// The map of the pairs `(2, 20)` and `(1, 10)` has the keys `[1, 2]` and the values `[10, 20]`. Of
+/// bytes, it is encoded as `02 01 02 02 0a 14`.
 #[derive(Drop)]
 pub struct Map<K: Ord, V, A: Allocator> {
     keys: Set<K, A>,
@@ -42,7 +45,7 @@ impl<K: Ord, V, A: Allocator> Model for Map<K, V, A> {
 }
 
 impl<K: Ord, V, A: Allocator + Copy> Map<K, V, A> {
-    /// The map without pairs. It takes no memory.
+    /// Returns the map without pairs. It allocates nothing.
     pub fn empty(alloc: A) -> Self
         ensures { result ≡ [] }
     {
@@ -54,7 +57,8 @@ impl<K: Ord, V, A: Allocator + Copy> Map<K, V, A> {
 }
 
 impl<K: Ord, V, A: Allocator> Map<K, V, A> {
-    /// The map of keys and of the values at their positions, of which there are as many.
+    /// Returns the map of keys and of the values at their positions. It requires that there are as
+    /// many values as keys.
     pub(crate) fn from_columns(keys: Set<K, A>, values: Vec<V, A>) -> Self
         requires { length values.items ≡ length keys }
         ensures { result ≡ zip keys values.items }
@@ -62,7 +66,7 @@ impl<K: Ord, V, A: Allocator> Map<K, V, A> {
         Map { keys, values }
     }
 
-    /// The keys, and the values at their positions.
+    /// Returns the keys, and the values at their positions.
     pub(crate) fn into_columns(self) -> (Set<K, A>, Vec<V, A>)
         ensures { (result.0 ≡ keys_of self) × (result.1.items ≡ values_of self) }
     {
@@ -70,13 +74,13 @@ impl<K: Ord, V, A: Allocator> Map<K, V, A> {
         (keys, values)
     }
 
-    /// The allocator of the map, which is that of its keys. The values of a map that `from_parts`
-    /// made may lie on another.
+    /// Returns the allocator of the map, which is that of its keys. The values of a map that
+    /// `from_parts` made may be on another.
     pub fn allocator(&self) -> &A {
         self.keys.allocator()
     }
 
-    /// How many pairs there are.
+    /// Returns how many pairs there are.
     pub fn len(&self) -> usize
         ensures len { result ≡ length self.now }
         ensures strict { IsStrict K.cmp (keys_of self.now) }
@@ -91,28 +95,28 @@ impl<K: Ord, V, A: Allocator> Map<K, V, A> {
         self.len() == 0
     }
 
-    /// The keys.
+    /// Returns the keys.
     pub fn keys(&self) -> &Set<K, A>
         ensures { result.now ≡ keys_of self.now }
     {
         &self.keys
     }
 
-    /// The values in the order of their keys.
+    /// Returns the values in the order of their keys.
     pub fn values(&self) -> &[V]
         ensures { result.now ≡ values_of self.now }
     {
         self.values.as_slice()
     }
 
-    /// The key at a position, or `None` past the last.
+    /// Returns the key at a position, or `None` past the last.
     pub fn get(&self, index: usize) -> Option<&K>
         ensures { IsItemAt (keys_of self.now) index result }
     {
         self.keys().get(index)
     }
 
-    /// An iterator over the keys in order, from both ends.
+    /// Returns an iterator over the keys in order, from both ends.
     pub fn iter(&self) -> slice::Iter<'_, K>
         ensures rest { iter_rest result ≡ keys_of self.now }
         ensures bound { length (iter_rest result) < 2 ^ 64 }
@@ -122,7 +126,7 @@ impl<K: Ord, V, A: Allocator> Map<K, V, A> {
         self.keys().iter()
     }
 
-    /// The place of the key that equals the one asked, or `None` where none does. It takes
+    /// Returns the place of the key that equals the given one, or `None` where none does. It takes
     /// O(log n) comparisons.
     #[inline]
     pub fn position(&self, key: &K) -> Option<usize>
@@ -132,14 +136,14 @@ impl<K: Ord, V, A: Allocator> Map<K, V, A> {
         self.keys().position(key)
     }
 
-    /// The value at a position, or `None` past the last.
+    /// Returns the value at a position, or `None` past the last.
     pub fn value(&self, index: usize) -> Option<&V>
         ensures { IsItemAt (values_of self.now) index result }
     {
         self.values().get(index)
     }
 
-    /// The value of the key that equals the one asked, or `None` where none does. It takes
+    /// Returns the value of the key that equals the given one, or `None` where none does. It takes
     /// O(log n) comparisons.
     #[inline]
     pub fn get_value(&self, key: &K) -> Option<&V>
@@ -151,8 +155,8 @@ impl<K: Ord, V, A: Allocator> Map<K, V, A> {
 }
 
 impl<K: Ord + Drop, V: Drop, A: Allocator> Map<K, V, A> {
-    /// The map of the keys, each with the value at its position, or `None` where there are not as
-    /// many values as keys. It takes no memory.
+    /// Returns the map of the keys, each with the value at its position, or `None` where there are
+    /// not as many values as keys. It allocates nothing.
     pub fn from_parts(keys: Set<K, A>, values: Vec<V, A>) -> Option<Self>
         ensures whole { IsSome result ↔ (length values.items ≡ length keys) }
         ensures pairs { IfSome result (λ m. m ≡ zip keys values.items) }
@@ -164,7 +168,7 @@ impl<K: Ord + Drop, V: Drop, A: Allocator> Map<K, V, A> {
         }
     }
 
-    /// The first `len` pairs stay, or all of them where there are no more.
+    /// Keeps the first `len` pairs, or all of them where there are no more.
     pub fn truncate(&mut self, len: usize)
         ensures { self.new ≡ take len self.old }
     {
@@ -174,7 +178,7 @@ impl<K: Ord + Drop, V: Drop, A: Allocator> Map<K, V, A> {
 }
 
 impl<K: Ord, V: Drop, A: Allocator> Map<K, V, A> {
-    /// The keys. The values are given up. It takes no memory.
+    /// Returns the keys. The values are dropped. It allocates nothing.
     pub fn into_keys(self) -> Set<K, A>
         ensures { result ≡ keys_of self }
     {
@@ -184,7 +188,7 @@ impl<K: Ord, V: Drop, A: Allocator> Map<K, V, A> {
 }
 
 impl<K: Ord + Drop, V: Drop, A: Allocator + Copy> Map<K, V, A> {
-    /// All pairs in the order of their keys.
+    /// Returns all pairs in the order of their keys.
     pub fn into_pairs(self) -> Result<Vec<(K, V), A>, AllocError>
         ensures { IfOk result (λ pairs. pairs.items ≡ self) }
     {

@@ -1,12 +1,12 @@
-//! Why a map of new values was refused.
+//! Why no map of new values was made.
 ghost use Rattle.std.specs.Prelude.{◌≡◌};
 
 use std::alloc::AllocError;
 
-/// Why a map of new values was refused.
+/// Why no map of new values was made.
 #[derive(Debug, PartialEq, Eq, Drop, thiserror::Error)]
 pub enum MapError<E> {
-    /// Memory was refused. It says nothing of the values.
+    /// An allocation failed. It says nothing of the values.
     #[error("out of memory")]
     Memory,
     /// The first error of the closure.

@@ -1,4 +1,4 @@
--- Memory that was wanted for what was drawn from an iterator that is handed in.
+-- An allocation failure for what was drawn from an iterator that is handed in.
 use Rattle.std.proofs.Common.{◌≡◌, ◌≤◌, ◌++◌, ◌∷◌, [], arith, false, length, List, Option, Some, subst, sym}
 use Rattle.std.proofs.lemmas.List.{length-append}
 use Rattle.std.specs.Prelude.{Err, IfErr, IsErrAnd, Ok, Result}
@@ -10,7 +10,7 @@ use Rattle.commonware_vec.specs.declared.error.Error.{Error}
 use Rattle.commonware_vec.specs.declared.error.Error.TheVariants.{Memory}
 use mathlib.Core.Bool.{true≢false}
 
--- want of memory refuses what was drawn, of which the last item is one
+-- an allocation failure refuses what was drawn, of which the last item is one
 pub memory_for_drawn : {Given State Item Made : Type 0} (becomes : Given → State → Type 0) (steps : State → Option Item → State → Type 0) (given : Given) (s t u : State) (xs : List Item) (x : Item) (r : Result Made Error)
     → becomes given s → Yields steps s xs t → steps t (Some x) u → IsErrAnd r (λ e. e ≡ Memory) → IfErr r (λ e. TakesSome becomes steps given (λ ys ended. IsRefusedForDrawn ys ended e))
 memory_for_drawn becomes steps given s t u xs x (Ok made) made_of yields last memory = tt

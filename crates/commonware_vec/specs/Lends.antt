@@ -1,4 +1,4 @@
--- What a list that is never empty is once a loan of its items has ended.
+-- What a list that is never empty is once a mutable borrow of its items has ended.
 use Rattle.std.specs.Prelude.{ℕ, List, length, slice_set}
 use Rattle.std.specs.Borrow.{Fml, GName, RattleType, MutBor, Array, Lends, follows}
 use Rattle.std.specs.List.{refill}
@@ -14,6 +14,6 @@ module _ (T A : RattleType) (heap : alloc.Ghosts A.Denot) (v : MutBor (List T.De
   abbrev pub LendsItems : MutBor (List T.Denot) → Fml
   LendsItems r = Lends (the_row T A heap) (Array T 0) v r (λ ws. refill (length v.now) v.now ws)
 
-  -- the same of the loan with this name
+  -- the same of the mutable borrow with this name
   abbrev pub LendsItemsTo : GName → Fml
   LendsItemsTo name = follows (the_row T A heap) (Array T 0) v.ghost_name name (λ ws. refill (length v.now) v.now ws)

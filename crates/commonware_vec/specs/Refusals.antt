@@ -1,10 +1,10 @@
--- Why a list that is never empty was refused.
+-- Why no list that is never empty was made.
 use Rattle.std.specs.Prelude.{◌≡◌, ◌≤◌, Bool, List, MatchResult, Result, [], length, true}
 use Rattle.std.specs.List.{AllZip}
 use Rattle.commonware_vec.specs.declared.error.Error.{Error}
 use Rattle.commonware_vec.specs.declared.error.Error.TheVariants.{Empty, Memory}
 
--- There is nothing at `Empty`, and something at `Memory`: where there are no items, no memory is wanted.
+-- There is nothing at `Empty`, and something at `Memory`: where there are no items, nothing is allocated.
 abbrev pub EmptyOrMemory : Error → Type 0 → Type 0 → Type 0
 EmptyOrMemory Empty Nothing Something = Nothing
 EmptyOrMemory Memory Nothing Something = Something
@@ -13,11 +13,11 @@ EmptyOrMemory Memory Nothing Something = Something
 abbrev pub IsAll : {T : Type 0} → List T → List T → Type 0
 IsAll l v = (v ≡ l) × (1 ≤ length l)
 
--- drawn is refused as there was nothing to draw, or for want of memory once an item was drawn
+-- drawn is refused since there was nothing to draw, or since an allocation failed once an item was drawn
 abbrev pub IsRefusedForDrawn : {T : Type 0} → List T → Bool → Error → Type 0
 IsRefusedForDrawn drawn ended error = EmptyOrMemory error ((drawn ≡ []) × (ended ≡ true)) (1 ≤ length drawn)
 
--- clones of all of l, which has an item, or why there are none; memory is wanted only where l has an item
+-- clones of all of l, which has an item, or why there are none; an allocation can fail only where l has an item
 abbrev pub IsWholeOfClones : {T : Type 0} → (T → T → Type 0) → List T → Result (List T) Error → Type 0
 IsWholeOfClones Clone l result =
     MatchResult result (λ v. AllZip Clone l v × (1 ≤ length l)) (λ error. EmptyOrMemory error (l ≡ []) (1 ≤ length l))

@@ -1,4 +1,4 @@
-//! A queue of at most so many items: where it is full, the oldest one makes room for a new one.
+//! A queue of at most `capacity` items: where it is full, the oldest one makes room for a new one.
 ghost use Rattle.std.specs.Prelude.{◌≡◌, ◌<◌, ◌≤◌, ◌++◌, ◌∷◌, ◌&&◌, ◌==◌, [], MatchOption, MatchResult, None, drop, length, slice_get};
 ghost use Rattle.std.specs.Cmp.{and_equiv, and_per, on_equiv, on_per, partial_equiv_from_equiv};
 ghost use Rattle.std.specs.Cmp.Lexicographic.{lists_equiv, lists_per, pointwise};
@@ -20,6 +20,8 @@ use std::{fmt, mem};
 
 /// A queue that holds at most `capacity` items. An item that is pushed where it is full takes the
 /// place of the oldest.
+///
+/// A queue of capacity 3, after the items 1, 2, 3 and 4 were pushed, holds 2, 3 and 4.
 #[derive(Drop)]
 pub struct Bounded<T, A: Allocator> {
     deque: VecDeque<T, A>,
@@ -40,7 +42,7 @@ impl<T, A: Allocator> Model for Bounded<T, A> {
 }
 
 impl<T, A: Allocator> Bounded<T, A> {
-    /// A queue without items that holds at most `capacity`. It takes no memory.
+    /// Returns a queue without items that holds at most `capacity`. It allocates nothing.
     pub fn new(alloc: A, capacity: NonZeroUsize) -> Self
         ensures items { result.items ≡ [] }
         ensures capacity { result.capacity ≡ non_zero_usize_get capacity }
@@ -51,7 +53,7 @@ impl<T, A: Allocator> Bounded<T, A> {
         }
     }
 
-    /// How many items it holds at most.
+    /// Returns how many items it holds at most.
     pub fn capacity(&self) -> NonZeroUsize
         ensures capacity { non_zero_usize_get result ≡ self.now.capacity }
         ensures bound { length self.now.items ≤ self.now.capacity }
@@ -59,8 +61,8 @@ impl<T, A: Allocator> Bounded<T, A> {
         self.capacity
     }
 
-    /// Puts an item last. Where the queue is full, the oldest item comes out and is answered, and
-    /// no memory is taken. Where memory is refused, the item comes back, and the queue is as it
+    /// Appends an item. Where the queue is full, it returns the oldest item, which it removes, and
+    /// allocates nothing. After an allocation failure it returns the item, and the queue is as it
     /// was.
     pub fn push(&mut self, value: T) -> Result<Option<T>, T>
         ensures capacity { self.new.capacity ≡ self.old.capacity }
@@ -83,7 +85,7 @@ impl<T, A: Allocator> Bounded<T, A> {
         Ok(Some(mem::replace(&mut self.deque[len - 1], value)))
     }
 
-    /// Takes the oldest item out, or answers `None` where there is none.
+    /// Removes the oldest item and returns it, or `None` where there is none.
     pub fn pop_front(&mut self) -> Option<T>
         ensures capacity { self.new.capacity ≡ self.old.capacity }
         ensures items { MatchOption result
@@ -93,7 +95,7 @@ impl<T, A: Allocator> Bounded<T, A> {
         self.deque.pop_front()
     }
 
-    /// The items, the oldest first. It takes no memory.
+    /// Returns the items, the oldest first. It allocates nothing.
     pub fn into_inner(self) -> VecDeque<T, A>
         ensures { result.items ≡ self.items }
     {
@@ -107,14 +109,14 @@ impl<T, A: Allocator> Deref for Bounded<T, A> {
 
     ghost deref_gives = { λ b deque. deque.items ≡ b.items };
 
-    /// The items, the oldest first.
+    /// Returns the items, the oldest first.
     fn deref(&self) -> &VecDeque<T, A> {
         &self.deque
     }
 }
 
 impl<T, A: Allocator> AsRef<VecDeque<T, A>> for Bounded<T, A> {
-    /// The items, the oldest first.
+    /// Returns the items, the oldest first.
     fn as_ref(&self) -> &VecDeque<T, A>
         ensures { result.now.items ≡ self.now.items }
     {
@@ -125,7 +127,7 @@ impl<T, A: Allocator> AsRef<VecDeque<T, A>> for Bounded<T, A> {
 impl<T, A: Allocator> From<Bounded<T, A>> for VecDeque<T, A> {
     ghost from_gives = { λ b deque. deque.items ≡ b.items };
 
-    /// The items, the oldest first. It takes no memory.
+    /// Returns the items, the oldest first. It allocates nothing.
     fn from(bounded: Bounded<T, A>) -> VecDeque<T, A> {
         bounded.into_inner()
     }

@@ -1,16 +1,16 @@
-//! Why a list that is never empty was refused.
+//! Why no list that is never empty was made.
 ghost use Rattle.std.specs.Prelude.{◌≡◌};
 ghost use Rattle.commonware_vec.specs.declared.error.Error.TheVariants.{Memory};
 
 use std::alloc::{AllocError, AllocFailed};
 
-/// Why a list that is never empty was refused.
+/// Why no list that is never empty was made.
 #[derive(Debug, PartialEq, Eq, Drop, thiserror::Error)]
 pub enum Error {
     /// There are no items.
     #[error("cannot create NonEmptyVec from empty collection")]
     Empty,
-    /// Memory was refused. Where there are no items, the answer is `Empty`.
+    /// An allocation failed. Where there are no items, the error is `Empty`.
     #[error("out of memory")]
     Memory,
 }
@@ -26,7 +26,7 @@ impl From<AllocError> for Error {
 impl<T: Drop> From<AllocFailed<T>> for Error {
     ghost from_gives = { λ _ error. error ≡ Memory };
 
-    /// What wasn't taken is given up.
+    /// What wasn't taken is dropped.
     fn from(_refused: AllocFailed<T>) -> Error {
         Error::Memory
     }

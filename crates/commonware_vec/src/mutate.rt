@@ -1,4 +1,4 @@
-//! The vector inside a list that is never empty, lent to be changed as a whole.
+//! The vector inside a list that is never empty, mutably borrowed as a whole.
 ghost use Rattle.std.specs.Prelude.{◌≡◌, ◌≤◌, length};
 ghost use Rattle.commonware_vec.specs.Mutate.{LeavesSome, ReturnsAtItems, TakesItems};
 
@@ -21,18 +21,19 @@ pub trait Mutate: Sized {
     /// The items of what holds them.
     ghost items_of: { Self.Inner → List Self.Item };
 
-    /// What holds the items.
+    /// Returns what holds the items.
     fn open(self) -> Self::Inner
         ensures items { items_of result ≡ items self }
         ensures some { 1 ≤ length (items_of result) };
 
-    /// The value of these items, of which there is one at least.
+    /// Returns the value of these items. It requires that there is at least one.
     fn close(inner: Self::Inner) -> Self
         requires { 1 ≤ length (items_of inner) }
         ensures items { items result ≡ items_of inner }
         ensures some { 1 ≤ length (items result) };
 
-    /// Calls `f` at what holds the items, and answers what it answers. `f` leaves an item.
+    /// Calls `f` with what holds the items, and returns what it returns. It requires that `f`
+    /// leaves an item.
     final fn mutate<R, F: FnOnce(&mut Self::Inner) -> R>(&mut self, f: F) -> R
         requires callable { TakesItems items_of F.FnOnce f (items self.old) }
         requires leaves { LeavesSome items_of F.FnOnce f (items self.old) }

@@ -19,7 +19,7 @@ use std::marker::Model;
 use std::num::NonZeroUsize;
 use std::ops::Index;
 
-/// A list with at least one item.
+/// A list with at least one item. The list of the bytes 1, 2 and 3 is encoded as `03 01 02 03`.
 #[derive(Drop)]
 pub struct NonEmptyVec<T, A: Allocator> {
     items: Vec<T, A>,
@@ -36,7 +36,8 @@ impl<T, A: Allocator> Model for NonEmptyVec<T, A> {
 }
 
 impl<T, A: Allocator> NonEmptyVec<T, A> {
-    /// The list of the items of a vector, which isn't empty. It takes no memory.
+    /// Returns the list of the items of a vector. It requires that the vector isn't empty, and
+    /// allocates nothing.
     pub fn from_unchecked(items: Vec<T, A>) -> Self
         requires { 1 ≤ length items.items }
         ensures { result ≡ items.items }
@@ -44,21 +45,21 @@ impl<T, A: Allocator> NonEmptyVec<T, A> {
         NonEmptyVec { items }
     }
 
-    /// How many items there are.
+    /// Returns how many items there are.
     pub fn len(&self) -> NonZeroUsize
         ensures { non_zero_usize_get result ≡ length self.now }
     {
         NonZeroUsize::new(self.items.len()).unwrap()
     }
 
-    /// Whether there is one item alone.
+    /// Whether there is exactly one item.
     pub fn is_singleton(&self) -> bool
         ensures { result ≡ (length self.now == 1) }
     {
         self.items.len() == 1
     }
 
-    /// The items in order.
+    /// Returns the items in order.
     pub fn as_slice(&self) -> &[T]
         ensures items { result.now ≡ self.now }
         ensures some { 1 ≤ length self.now }
@@ -66,7 +67,7 @@ impl<T, A: Allocator> NonEmptyVec<T, A> {
         self.items.as_slice()
     }
 
-    /// The items in order, to be written.
+    /// Returns a mutable borrow of the items in order.
     pub fn as_mut_slice(&mut self) -> &mut [T]
         ensures* writes_back { sem 𝓛 (LendsItems T.row A.row A.Allocator self.entry result) }
         ensures items { result.now ≡ self.old }
@@ -75,21 +76,21 @@ impl<T, A: Allocator> NonEmptyVec<T, A> {
         self.items.as_mut_slice()
     }
 
-    /// The first item.
+    /// Returns the first item.
     pub fn first(&self) -> &T
         ensures { slice_get self.now 0 ≡ Some result.now }
     {
         &self.items[0]
     }
 
-    /// The last item.
+    /// Returns the last item.
     pub fn last(&self) -> &T
         ensures { slice_get self.now (length self.now - 1) ≡ Some result.now }
     {
         &self.items[self.items.len() - 1]
     }
 
-    /// The first item, to be written.
+    /// Returns a mutable borrow of the first item.
     pub fn first_mut(&mut self) -> &mut T
         ensures* writes_back { sem 𝓛 (LendsItemAt T.row A.row A.Allocator self.entry 0 result) }
         ensures value { slice_get self.old 0 ≡ Some result.now }
@@ -97,7 +98,7 @@ impl<T, A: Allocator> NonEmptyVec<T, A> {
         &mut self.items[0]
     }
 
-    /// The last item, to be written.
+    /// Returns a mutable borrow of the last item.
     pub fn last_mut(&mut self) -> &mut T
         ensures* writes_back { sem 𝓛
             (LendsItemAt T.row A.row A.Allocator self.entry (length self.old - 1) result) }
@@ -107,7 +108,7 @@ impl<T, A: Allocator> NonEmptyVec<T, A> {
         &mut self.items[last]
     }
 
-    /// Puts an item last. Where memory is refused, the item comes back, and the list is as it was.
+    /// Appends an item. After an allocation failure it returns the item, and the list is as it was.
     pub fn push(&mut self, value: T) -> Result<(), T>
         ensures { MatchResult result
             (λ _. self.new ≡ self.old ++ value ∷ [])
@@ -119,8 +120,9 @@ impl<T, A: Allocator> NonEmptyVec<T, A> {
         }
     }
 
-    /// Puts an item before the one at a position, which is at most the length; there it comes last.
-    /// Where memory is refused, the item comes back, and the list is as it was.
+    /// Inserts an item before the one at a position; at the length, it comes last. It requires that
+    /// the position is at most the length. After an allocation failure it returns the item, and the
+    /// list is as it was.
     pub fn insert(&mut self, index: usize, value: T) -> Result<(), T>
         requires { index ≤ length self.old }
         ensures { MatchResult result
@@ -133,7 +135,8 @@ impl<T, A: Allocator> NonEmptyVec<T, A> {
         }
     }
 
-    /// Takes the last item out, or answers `None` where it is the only one, which stays.
+    /// Removes the last item and returns it, or returns `None` where it is the only one, which
+    /// stays.
     pub fn pop(&mut self) -> Option<T>
         ensures last { MatchOption result
             ((length self.old ≡ 1) × (self.new ≡ self.old))
@@ -147,8 +150,8 @@ impl<T, A: Allocator> NonEmptyVec<T, A> {
         }
     }
 
-    /// Takes the item at a position out, which is inside, or answers `None` where it is the only
-    /// one, which stays.
+    /// Removes the item at a position and returns it, or returns `None` where it is the only one,
+    /// which stays. It requires that the position is inside.
     pub fn remove(&mut self, index: usize) -> Option<T>
         requires { index < length self.old }
         ensures item { MatchOption result
@@ -164,7 +167,7 @@ impl<T, A: Allocator> NonEmptyVec<T, A> {
         }
     }
 
-    /// The vector of the items. It takes no memory.
+    /// Returns the vector of the items. It allocates nothing.
     pub fn into_vec(self) -> Vec<T, A>
         ensures items { result.items ≡ self }
         ensures some { 1 ≤ length self }
@@ -175,7 +178,7 @@ impl<T, A: Allocator> NonEmptyVec<T, A> {
 }
 
 impl<T, A: Allocator> AsRef<Vec<T, A>> for NonEmptyVec<T, A> {
-    /// The vector of the items.
+    /// Returns the vector of the items.
     fn as_ref(&self) -> &Vec<T, A>
         ensures items { result.now.items ≡ self.now }
         ensures some { 1 ≤ length self.now }
@@ -187,7 +190,7 @@ impl<T, A: Allocator> AsRef<Vec<T, A>> for NonEmptyVec<T, A> {
 impl<T, A: Allocator> From<NonEmptyVec<T, A>> for Vec<T, A> {
     ghost from_gives = { λ v items. (items.items ≡ v) × (1 ≤ length v) };
 
-    /// The vector of the items. It takes no memory.
+    /// Returns the vector of the items. It allocates nothing.
     fn from(list: NonEmptyVec<T, A>) -> Vec<T, A> {
         list.into_vec()
     }
@@ -200,7 +203,7 @@ impl<T, A: Allocator> Index<usize> for NonEmptyVec<T, A> {
 
     ghost index_gives = { λ v i item. item ≡ slice_index_or v i item };
 
-    /// The item at a position, which is inside.
+    /// Returns the item at a position. It requires that the position is inside.
     fn index(&self, index: usize) -> &T {
         &self.items[index]
     }

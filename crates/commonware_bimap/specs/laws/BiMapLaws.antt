@@ -42,7 +42,7 @@ module _ {K V : Type 0} (key_eq : K → K → Bool) (value_eq : V → V → Bool
 module _ {K V : Type 0} (ek : K → List ℕ) (WK : K → Type 0) (cmp : K → K → Ordering)
     (key_prefix_free : IsPrefixFree ek WK) (ev : V → List ℕ) (WV : V → Type 0)
     (value_prefix_free : IsPrefixFree ev WV) where
-  -- no bimap begins another
+  -- no encoding of a bimap is a proper prefix of another's
   pub bimap_prefix_free : (value_eq : V → V → Bool) → IsPrefixFree (map_enc ek ev) (IsWritableBiMap WK cmp WV value_eq)
   bimap_prefix_free value_eq m n x y v w e =
       map_prefix_free ek WK cmp key_prefix_free ev WV value_prefix_free m n x y v.map w.map e
@@ -57,7 +57,7 @@ module _ {K V : Type 0} (ek : K → List ℕ) (WK : K → Type 0) (cmp : K → K
         map_canonical ek WK cmp key_prefix_free ev WV value_prefix_free key_eq total matches_eq key_canonical value_eq
         value_canonical
 
-    -- bimaps are equal exactly where their bytes are
+    -- bimaps are equal exactly where their encodings are
     pub bimap_canonical :
         CanonicalLaws (map_enc ek ev) (IsWritableBiMap WK cmp WV value_eq) (are_equal_pairs key_eq value_eq)
     bimap_canonical = record {
@@ -71,7 +71,7 @@ module _ {K V : Type 0} (ek : K → List ℕ) (WK : K → Type 0) (cmp : K → K
 
     module _ (range : Bounds ℕ) (AK : K → Type 0) (fk : List ℕ → Fault → Type 0) (AV : V → Type 0)
         (fv : List ℕ → Fault → Type 0) (key_laws : ReadLaws ek WK AK fk) (value_laws : ReadLaws ev WV AV fv) where
-      -- the laws of the same texts as maps
+      -- the laws of the same encodings as maps
       as_map : ReadLaws (map_enc ek ev) (IsWritableMap WK cmp WV) (IsAllowedMap range AK AV)
           (MapFault ek WK cmp AK fk ev WV AV fv range)
       as_map = map_laws ek WK cmp key_prefix_free ev WV value_prefix_free key_eq total matches_eq key_canonical range AK
@@ -104,7 +104,7 @@ module _ {K V : Type 0} (ek : K → List ℕ) (WK : K → Type 0) (cmp : K → K
         );
       }
 
-      -- two faults of a text are at one cut
+      -- two faults of an input are in one error case
       pub bimap_one_case :
           (s : List ℕ) (f g : Fault) (v : BiMapFault ek WK cmp AK fk ev WV AV fv value_eq range s f)
           (w : BiMapFault ek WK cmp AK fk ev WV AV fv value_eq range s g) → bimap_case v ≡ bimap_case w
@@ -113,7 +113,7 @@ module _ {K V : Type 0} (ek : K → List ℕ) (WK : K → Type 0) (cmp : K → K
       bimap_one_case s f g (bad_values d v) (bad_map w) = absurd (broken_no_fault as_map distinctness s g v w)
       bimap_one_case s f g (bad_values d v) (bad_values e w) = refl
 
-      -- what is promised of the texts of bimaps
+      -- the laws of the encodings of bimaps
       pub bimap_laws :
           ReadLaws (map_enc ek ev) (IsWritableBiMap WK cmp WV value_eq) (IsAllowedMap range AK AV)
           (BiMapFault ek WK cmp AK fk ev WV AV fv value_eq range)

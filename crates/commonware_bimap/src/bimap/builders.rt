@@ -1,5 +1,5 @@
-//! Bimaps of many pairs: equal keys are refused, and then equal values. Each builder makes the map
-//! of the pairs, and takes the time and the memory of `try_from_map` for its values.
+//! Builders of bimaps: equal keys are refused, and then equal values. Each builder makes the map of
+//! the pairs, and takes the time and the memory of `try_from_map` for its values.
 ghost use Rattle.commonware_bimap.specs.WholeBiMaps.{IsBiMapOfAll, IsRefusedBiMap, IsWholeBiMap, IsWholeBiMapOfClones};
 ghost use Rattle.commonware_map.specs.Pairs.{on_both};
 ghost use Rattle.std.specs.Prelude.{◌≡◌, true};
@@ -12,7 +12,7 @@ use std::alloc::Allocator;
 use std::hash::Hash;
 
 impl<K: Ord + Drop, V: Eq + Hash + Drop, A: Allocator + Copy> BiMap<K, V, A> {
-    /// The bimap of all the pairs; `DuplicateKey` where two of their keys are equal; else
+    /// Returns the bimap of all the pairs; `DuplicateKey` where two of their keys are equal; else
     /// `DuplicateValue` where two of their values are, which are looked up in a hash set.
     pub fn try_from_vec(vec: Vec<(K, V), A>) -> Result<Self, Error>
         ensures { IsWholeBiMap K.eq K.cmp V.eq vec.items result }
@@ -29,17 +29,18 @@ impl<K: Ord + Drop, V: Eq + Hash + Drop, A: Allocator + Copy> TryFromIterator<(K
 
     ghost refuses = { λ drawn ended error. IsRefusedBiMap K.eq V.eq (ended ≡ true) drawn error };
 
-    /// The bimap of all the pairs; `DuplicateKey` where two keys of those that were drawn are
-    /// equal; else `DuplicateValue` where two values are, which are looked up in a hash set, and
-    /// then all were drawn.
+    /// Returns the bimap of all the pairs; `DuplicateKey` where two keys of those that were drawn
+    /// are equal; else `DuplicateValue` where two values are, which are looked up in a hash set,
+    /// and then all were drawn.
     fn try_from_iter<I: IntoIterator<Item = (K, V)>>(alloc: A, iter: I) -> Result<Self, Error> {
         BiMap::try_from_map(Map::try_from_iter(alloc, iter)?)
     }
 }
 
 impl<K: Ord + EqClone, V: EqClone + Hash, A: Allocator + Copy> BiMap<K, V, A> {
-    /// The bimap of clones of all the pairs; `DuplicateKey` where two of their keys are equal; else
-    /// `DuplicateValue` where two of their values are, which are looked up in a hash set.
+    /// Returns the bimap of clones of all the pairs; `DuplicateKey` where two of their keys are
+    /// equal; else `DuplicateValue` where two of their values are, which are looked up in a hash
+    /// set.
     pub fn try_from_slice(alloc: A, pairs: &[(K, V)]) -> Result<Self, Error>
         ensures { IsWholeBiMapOfClones K.eq K.cmp V.eq
             (on_both K.is_clone V.is_clone) pairs.now result }
@@ -47,9 +48,9 @@ impl<K: Ord + EqClone, V: EqClone + Hash, A: Allocator + Copy> BiMap<K, V, A> {
         BiMap::try_from_map(Map::try_from_slice(alloc, pairs)?)
     }
 
-    /// The bimap of clones of all the pairs; `DuplicateKey` where two of their keys are equal; else
-    /// `DuplicateValue` where two of their values are, which are looked up in a hash set. The array
-    /// is given up.
+    /// Returns the bimap of clones of all the pairs; `DuplicateKey` where two of their keys are
+    /// equal; else `DuplicateValue` where two of their values are, which are looked up in a hash
+    /// set. The array is dropped.
     pub fn try_from_array<const N: usize>(alloc: A, pairs: [(K, V); N]) -> Result<Self, Error>
         ensures { IsWholeBiMapOfClones K.eq K.cmp V.eq
             (on_both K.is_clone V.is_clone) pairs result }
@@ -57,8 +58,9 @@ impl<K: Ord + EqClone, V: EqClone + Hash, A: Allocator + Copy> BiMap<K, V, A> {
         BiMap::try_from_slice(alloc, &pairs)
     }
 
-    /// The bimap of clones of all the pairs; `DuplicateKey` where two of their keys are equal; else
-    /// `DuplicateValue` where two of their values are, which are looked up in a hash set.
+    /// Returns the bimap of clones of all the pairs; `DuplicateKey` where two of their keys are
+    /// equal; else `DuplicateValue` where two of their values are, which are looked up in a hash
+    /// set.
     pub fn try_from_array_ref<const N: usize>(alloc: A, pairs: &[(K, V); N]) -> Result<Self, Error>
         ensures { IsWholeBiMapOfClones K.eq K.cmp V.eq
             (on_both K.is_clone V.is_clone) pairs.now result }

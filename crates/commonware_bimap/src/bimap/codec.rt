@@ -1,4 +1,4 @@
-//! The byte form of a bimap, which is that of the map of its pairs.
+//! The encoding of a bimap, which is that of the map of its pairs.
 ghost use Rattle.std.specs.Prelude.{◌≡◌, ℕ, List};
 ghost use Rattle.commonware_base.specs.Fault.{Fault};
 ghost use Rattle.commonware_base.specs.Lists.{IsListMemoryFree};
@@ -59,14 +59,11 @@ impl<
         V.eq V.Eq.laws V.canonical c.0 (K.allowed c.1) (K.fault c.1) (V.allowed c.2) (V.fault c.2)
         (K.read_laws alloc c.1) (V.read_laws alloc c.2) };
 
-    /// Reads a map, and then looks for equal values, in a hash set on the same allocator: a fault
+    /// Decodes a map, and then looks for equal values, in a hash set on the same allocator: a fault
     /// of any byte of the map comes before equal values.
     fn read_cfg(alloc: A, src: &mut Source<'_>, cfg: &Self::Cfg) -> Result<BiMap<K, V, A>, Error> {
         let mut here = *src;
-        let map = match Map::<K, V, A>::read_cfg(alloc, &mut here, cfg) {
-            Ok(map) => map,
-            Err(error) => return Err(error),
-        };
+        let map = Map::<K, V, A>::read_cfg(alloc, &mut here, cfg)?;
         match BiMap::try_from_map(map) {
             Ok(bimap) => {
                 *src = here;
@@ -76,7 +73,7 @@ impl<
                 "BiMap",
                 "duplicate value detected during deserialization",
             )),
-            // The keys of a map are never equal, so only want of memory is left.
+            // The keys of a map are never equal, so only an allocation failure is left.
             Err(_) => Err(Error::Memory),
         }
     }
@@ -88,8 +85,8 @@ impl<K: Ord + Canonical, V: Canonical + Hash, A: Allocator> Canonical for BiMap<
         V.eq V.Eq.laws V.canonical };
 }
 
-/// The cuts at which a text is no bimap exclude one another: no text has a fault of the map and one
-/// of equal values.
+/// The error cases in which an input is no bimap exclude one another: no input has a fault of the
+/// map and one of equal values.
 pub fn bimap_fault_law<K: Ord + Canonical + Read<A>, V: Canonical + Read<A>, A: Allocator>(
     alloc: A,
     range: RangeCfg<usize>,
@@ -103,6 +100,6 @@ pub fn bimap_fault_law<K: Ord + Canonical + Read<A>, V: Canonical + Read<A>, A: 
         V.enc V.writable (V.allowed value.now) (V.fault value.now) V.eq range s g)
         → bimap_case v ≡ bimap_case w }
 {
-    // The contract alone speaks of them.
+    // They are named so that no parameter is unused: only the contract speaks of them.
     let _ = (alloc, range);
 }

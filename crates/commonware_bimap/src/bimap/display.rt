@@ -1,4 +1,4 @@
-//! Bimaps as texts.
+//! Bimaps as they are displayed.
 ghost use Rattle.std.specs.Fmt.{debug_list};
 ghost use Rattle.commonware_map.specs.Pairs.{pair_text};
 
@@ -12,7 +12,7 @@ impl<K: Ord + fmt::Display, V: Eq + Hash + fmt::Display, A: Allocator> fmt::Disp
     for BiMap<K, V, A> {
     ghost output = { debug_list (λ p. pair_text (K.output p.0) (V.output p.1)) };
 
-    /// Writes `[`, the texts `(k, v)` of the pairs, joined by `, `, and `]`.
+    /// Writes `[`, the pairs as `(k, v)`, joined by `, `, and `]`.
     fn fmt<W: fmt::Write>(&self, f: &mut fmt::Formatter<W>) -> fmt::Result {
         write!(f, "{}", self.map)
     }

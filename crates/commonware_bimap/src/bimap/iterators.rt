@@ -1,4 +1,4 @@
-//! The pairs of a bimap, lent or given, one by one.
+//! The pairs of a bimap, borrowed or by value, one by one.
 ghost use Rattle.commonware_map.specs.Pairs.{GivesPairsOf, ShowsPairsOf};
 
 use super::BiMap;
@@ -13,8 +13,8 @@ impl<K: Ord + Drop, V: Eq + Hash + Drop, A: Allocator> IntoIterator for BiMap<K,
 
     ghost into_iter_gives = { GivesPairsOf };
 
-    /// The pairs in the order of their keys, from both ends, with the exact number left. It takes
-    /// no memory.
+    /// Returns the pairs in the order of their keys, from both ends, with the exact number left. It
+    /// allocates nothing.
     fn into_iter(self) -> MapIntoIter<K, V, A> {
         let BiMap { map } = self;
         map.into_iter()
@@ -28,7 +28,7 @@ impl<'a, K: Ord, V: Eq + Hash, A: Allocator> IntoIterator for &'a BiMap<K, V, A>
 
     ghost into_iter_gives = { λ map left. ShowsPairsOf map.now left };
 
-    /// The pairs in the order of their keys, from both ends, with the exact number left.
+    /// Returns the pairs in the order of their keys, from both ends, with the exact number left.
     fn into_iter(self) -> Pairs<'a, K, V> {
         self.iter_pairs()
     }

@@ -1,4 +1,4 @@
-//! Bimaps where the set of their keys is asked for.
+//! Bimaps where the set of their keys is expected.
 ghost use Rattle.std.specs.Prelude.{◌≡◌};
 ghost use Rattle.std.specs.Map.{keys_of};
 
@@ -14,14 +14,14 @@ impl<K: Ord, V: Eq + Hash, A: Allocator> Deref for BiMap<K, V, A> {
 
     ghost deref_gives = { λ m keys. keys ≡ keys_of m };
 
-    /// The keys.
+    /// Returns the keys.
     fn deref(&self) -> &Set<K, A> {
         self.keys()
     }
 }
 
 impl<K: Ord, V: Eq + Hash, A: Allocator> AsRef<Set<K, A>> for BiMap<K, V, A> {
-    /// The keys.
+    /// Returns the keys.
     fn as_ref(&self) -> &Set<K, A>
         ensures { result.now ≡ keys_of self.now }
     {

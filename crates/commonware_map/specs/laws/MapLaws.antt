@@ -33,7 +33,7 @@ paired (k ∷ ks) (v ∷ vs) e =
 
 module _ {K V : Type 0} (ek : K → List ℕ) (WK : K → Type 0) (cmp : K → K → Ordering)
     (key_prefix_free : IsPrefixFree ek WK) (ev : V → List ℕ) (WV : V → Type 0) where
-  -- what is written are bytes
+  -- what is written is bytes
   pub map_bytes : ((k : K) → WK k → AreBytes (ek k)) → ((v : V) → WV v → AreBytes (ev v)) → (m : List (K × V))
       → IsWritableMap WK cmp WV m → AreBytes (map_enc ek ev m)
   map_bytes each_key each_value m w =
@@ -41,7 +41,7 @@ module _ {K V : Type 0} (ek : K → List ℕ) (WK : K → Type 0) (cmp : K → K
       (IsWritableList WV) (λ ks h. list_bytes ek WK each_key ks h.list) (list_bytes ev WV each_value) (columns m) w
 
   module _ (value_prefix_free : IsPrefixFree ev WV) where
-    -- no map begins another
+    -- no encoding of a map is a proper prefix of another's
     pub map_prefix_free : IsPrefixFree (map_enc ek ev) (IsWritableMap WK cmp WV)
     map_prefix_free =
         prefix_free_on columns (sequence_enc (list_enc ek) (list_enc ev))
@@ -49,14 +49,14 @@ module _ {K V : Type 0} (ek : K → List ℕ) (WK : K → Type 0) (cmp : K → K
         (sequence_prefix_free (list_enc ek) (IsWritableSet WK cmp) (set_prefix_free ek WK cmp key_prefix_free)
         (list_enc ev) (IsWritableList WV) (list_prefix_free ev WV value_prefix_free))
 
-    -- sets of keys of one text are of one length
+    -- sets of keys of one encoding are of one length
     same_length : (x z : List K) → IsWritableSet WK cmp x → IsWritableSet WK cmp z → list_enc ek x ≡ list_enc ek z
         → length x ≡ length z
     same_length x z p q e = (split_count ek WK key_prefix_free x z [] [] p.list q.list (ap (λ u. u ++ []) e)).0
 
     module _ (eq : K → K → Bool) (total : IsTotalOrder cmp) (matches_eq : (x y : K) → eq x y ≡ is_eq (cmp x y))
         (key_canonical : CanonicalLaws ek WK eq) where
-      -- maps are equal exactly where their bytes are, if the values are
+      -- maps are equal exactly where their encodings are, if the values are
       pub map_canonical : (value_eq : V → V → Bool) → CanonicalLaws ev WV value_eq
           → CanonicalLaws (map_enc ek ev) (IsWritableMap WK cmp WV) (are_equal_pairs eq value_eq)
       map_canonical value_eq value_canonical =
@@ -79,7 +79,7 @@ module _ {K V : Type 0} (ek : K → List ℕ) (WK : K → Type 0) (cmp : K → K
 
       module _ (range : Bounds ℕ) (AK : K → Type 0) (fk : List ℕ → Fault → Type 0) (AV : V → Type 0)
           (fv : List ℕ → Fault → Type 0) (key_laws : ReadLaws ek WK AK fk) (value_laws : ReadLaws ev WV AV fv) where
-        -- the limits of the values go by the number of keys
+        -- the limits of the values depend on the number of keys
         same_allowed : (x z : List K) (y : List V) → IsWritableSet WK cmp x → IsWritableSet WK cmp z
             → list_enc ek x ≡ list_enc ek z → AreAllowedValues AV x y → AreAllowedValues AV z y
         same_allowed x z y p q e h = subst (λ n. IsAllowedList (exactly n) AV y) (same_length x z p q e) h
@@ -90,7 +90,7 @@ module _ {K V : Type 0} (ek : K → List ℕ) (WK : K → Type 0) (cmp : K → K
             → ListFault ev WV AV fv (exactly (length z)) s f
         same_fault x z s f p q e w = subst (λ n. ListFault ev WV AV fv (exactly n) s f) (same_length x z p q e) w
 
-        -- what is promised of the texts of maps
+        -- the laws of the encodings of maps
         pub map_laws :
             ReadLaws (map_enc ek ev) (IsWritableMap WK cmp WV) (IsAllowedMap range AK AV)
             (MapFault ek WK cmp AK fk ev WV AV fv range)
@@ -108,7 +108,7 @@ module _ {K V : Type 0} (ek : K → List ℕ) (WK : K → Type 0) (cmp : K → K
             (λ ks. list_laws ev WV value_prefix_free AV fv (exactly (length ks)) value_laws) same_allowed
             same_fault)
 
-        -- two faults of a text are at one cut
+        -- two faults of an input are in one error case
         pub map_one_case :
             (s : List ℕ) (f g : Fault) (v : MapFault ek WK cmp AK fk ev WV AV fv range s f)
             (w : MapFault ek WK cmp AK fk ev WV AV fv range s g) → sequence_case v ≡ sequence_case w

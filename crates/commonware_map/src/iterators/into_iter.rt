@@ -1,4 +1,4 @@
-//! Pairs of keys and values that are given up, one by one.
+//! Pairs of keys and values, by value, one by one.
 ghost use Rattle.std.specs.Prelude.{◌≡◌, IfSome, Some, length, zip};
 ghost use Rattle.std.specs.Iterator.{UpTo, at_most};
 ghost use Rattle.std.specs.Iterator.SizeHint.{IsWithinCount};
@@ -10,6 +10,9 @@ use std::vec;
 
 /// The pairs of keys and the values beside them, as a map has them in the order of its keys, from
 /// both ends. It is seen as the list of the pairs that are left.
+///
+/// Over the map `{1: 10, 2: 20}`, `next_back` returns `(2, 20)`, then `next` returns `(1, 10)`, and
+/// no pair is left.
 #[derive(Drop)]
 pub struct MapIntoIter<K, V, A: Allocator> {
     keys: vec::IntoIter<K, A>,
@@ -29,8 +32,8 @@ impl<K, V, A: Allocator> Model for MapIntoIter<K, V, A> {
 }
 
 impl<K, V, A: Allocator> MapIntoIter<K, V, A> {
-    /// The pairs of keys and of the values at their positions, of which there have to be as many.
-    /// It takes no memory.
+    /// Returns the pairs of keys and of the values at their positions. It requires that there are
+    /// as many values as keys, and allocates nothing.
     pub(crate) fn new(keys: Vec<K, A>, values: Vec<V, A>) -> Self
         requires { length values.items ≡ length keys.items }
         ensures { result ≡ zip keys.items values.items }
@@ -49,14 +52,14 @@ impl<K: Drop, V: Drop, A: Allocator> Iterator for MapIntoIter<K, V, A> {
 
     ghost remaining = { λ left. at_most (length left) };
 
-    /// The first pair that is left, or `None` where none is.
+    /// Returns the first pair that is left, or `None` where none is.
     fn next(&mut self) -> Option<(K, V)> {
         let key = self.keys.next()?;
         let value = self.values.next()?;
         Some((key, value))
     }
 
-    /// The exact number of pairs that are left, twice.
+    /// Returns the exact number of pairs that are left, twice.
     fn size_hint(&self) -> (usize, Option<usize>)
         ensures lower { IsWithinCount result.0 (at_most (length self.now)) }
         ensures upper { IfSome result.1 (UpTo (at_most (length self.now))) }
@@ -70,7 +73,7 @@ impl<K: Drop, V: Drop, A: Allocator> Iterator for MapIntoIter<K, V, A> {
 impl<K: Drop, V: Drop, A: Allocator> DoubleEndedIterator for MapIntoIter<K, V, A> {
     ghost next_back_gives = { TakesLast (λ pair. pair) };
 
-    /// The last pair that is left, or `None` where none is.
+    /// Returns the last pair that is left, or `None` where none is.
     fn next_back(&mut self) -> Option<(K, V)> {
         let key = self.keys.next_back()?;
         let value = self.values.next_back()?;
@@ -79,7 +82,7 @@ impl<K: Drop, V: Drop, A: Allocator> DoubleEndedIterator for MapIntoIter<K, V, A
 }
 
 impl<K: Drop, V: Drop, A: Allocator> ExactSizeIterator for MapIntoIter<K, V, A> {
-    /// The exact number of pairs that are left.
+    /// Returns the exact number of pairs that are left.
     fn len(&self) -> usize {
         self.keys.len()
     }

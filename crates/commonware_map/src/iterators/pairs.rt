@@ -1,4 +1,4 @@
-//! Pairs of keys and values, lent one by one.
+//! Pairs of keys and values, borrowed one by one.
 ghost use Rattle.std.specs.Prelude.{◌≡◌, IfSome, Some, length, zip};
 ghost use Rattle.std.specs.Iterator.{UpTo, at_most};
 ghost use Rattle.std.specs.Iterator.SizeHint.{IsWithinCount};
@@ -10,6 +10,9 @@ use std::slice;
 /// The pairs of keys and the values beside them, as a map has them in the order of its keys, from
 /// both ends, each as a reference to the key and one to the value. It is seen as the list of the
 /// pairs that are left.
+///
+/// Over the map `{1: 10, 2: 20, 3: 30}`, `next` returns `(&1, &10)`, then `next_back` returns
+/// `(&3, &30)`, and 1 pair is left.
 #[derive(Drop)]
 pub struct Pairs<'a, K, V> {
     keys: slice::Iter<'a, K>,
@@ -28,7 +31,8 @@ impl<'a, K, V> Model for Pairs<'a, K, V> {
 }
 
 impl<'a, K, V> Pairs<'a, K, V> {
-    /// The pairs of keys and of the values at their positions, of which there have to be as many.
+    /// Returns the pairs of keys and of the values at their positions. It requires that there are
+    /// as many values as keys.
     pub(crate) fn new(keys: &'a [K], values: &'a [V]) -> Self
         requires { length values.now ≡ length keys.now }
         ensures { result ≡ zip keys.now values.now }
@@ -47,14 +51,14 @@ impl<'a, K, V> Iterator for Pairs<'a, K, V> {
 
     ghost remaining = { λ left. at_most (length left) };
 
-    /// The first pair that is left, or `None` where none is.
+    /// Returns the first pair that is left, or `None` where none is.
     fn next(&mut self) -> Option<(&'a K, &'a V)> {
         let key = self.keys.next()?;
         let value = self.values.next()?;
         Some((key, value))
     }
 
-    /// The exact number of pairs that are left, twice.
+    /// Returns the exact number of pairs that are left, twice.
     fn size_hint(&self) -> (usize, Option<usize>)
         ensures lower { IsWithinCount result.0 (at_most (length self.now)) }
         ensures upper { IfSome result.1 (UpTo (at_most (length self.now))) }
@@ -68,7 +72,7 @@ impl<'a, K, V> Iterator for Pairs<'a, K, V> {
 impl<'a, K, V> DoubleEndedIterator for Pairs<'a, K, V> {
     ghost next_back_gives = { TakesLast deref_pair };
 
-    /// The last pair that is left, or `None` where none is.
+    /// Returns the last pair that is left, or `None` where none is.
     fn next_back(&mut self) -> Option<(&'a K, &'a V)> {
         let key = self.keys.next_back()?;
         let value = self.values.next_back()?;
@@ -77,7 +81,7 @@ impl<'a, K, V> DoubleEndedIterator for Pairs<'a, K, V> {
 }
 
 impl<'a, K, V> ExactSizeIterator for Pairs<'a, K, V> {
-    /// The exact number of pairs that are left.
+    /// Returns the exact number of pairs that are left.
     fn len(&self) -> usize {
         self.keys.len()
     }

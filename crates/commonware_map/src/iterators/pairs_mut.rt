@@ -1,4 +1,4 @@
-//! Pairs of keys and values, the values lent to be written.
+//! Pairs of keys and values, the values mutably borrowed.
 ghost use Rattle.std.specs.Prelude.{◌≡◌, IfSome, Some, length, zip};
 ghost use Rattle.std.specs.Iterator.{UpTo, at_most};
 ghost use Rattle.std.specs.Iterator.SizeHint.{IsWithinCount};
@@ -7,8 +7,10 @@ ghost use Rattle.commonware_map.specs.PairsMut.{CanStep, pairs_mut_left, pairs_m
 use std::slice;
 
 /// The pairs of keys and the values beside them, as a map has them in the order of its keys, from
-/// both ends, each as a reference to the key and one to the value, through which the value is
-/// written. Keys stay as they are.
+/// both ends, each as a reference to the key and a mutable one to the value. Keys stay as they are.
+///
+/// A loop over the map `{1: 10, 2: 20, 3: 30}` that adds each key to its value leaves the values
+/// `[11, 22, 33]`.
 #[derive(Drop)]
 pub struct PairsMut<'a, K, V> {
     keys: slice::Iter<'a, K>,
@@ -16,7 +18,8 @@ pub struct PairsMut<'a, K, V> {
 }
 
 impl<'a, K, V> PairsMut<'a, K, V> {
-    /// The pairs of keys and of the values at their positions, of which there have to be as many.
+    /// Returns the pairs of keys and of the values at their positions. It requires that there are
+    /// as many values as keys.
     pub(crate) fn new(keys: &'a [K], values: &'a mut [V]) -> Self
         requires { length values.old ≡ length keys.now }
         ensures ready { CanStep result }
@@ -39,14 +42,14 @@ impl<'a, K, V> Iterator for PairsMut<'a, K, V> {
 
     ghost remaining = { λ pairs. at_most (length (pairs_mut_left pairs)) };
 
-    /// The first pair that is left, or `None` where none is.
+    /// Returns the first pair that is left, or `None` where none is.
     fn next(&mut self) -> Option<(&'a K, &'a mut V)> {
         let key = self.keys.next()?;
         let value = self.values.next()?;
         Some((key, value))
     }
 
-    /// The exact number of pairs that are left, twice.
+    /// Returns the exact number of pairs that are left, twice.
     fn size_hint(&self) -> (usize, Option<usize>)
         ensures lower { IsWithinCount result.0 (at_most (length (pairs_mut_left self.now))) }
         ensures upper { IfSome result.1 (UpTo (at_most (length (pairs_mut_left self.now)))) }
@@ -62,7 +65,7 @@ impl<'a, K, V> DoubleEndedIterator for PairsMut<'a, K, V> {
 
     ghost next_back_gives = { pairs_mut_steps_back };
 
-    /// The last pair that is left, or `None` where none is.
+    /// Returns the last pair that is left, or `None` where none is.
     fn next_back(&mut self) -> Option<(&'a K, &'a mut V)> {
         let key = self.keys.next_back()?;
         let value = self.values.next_back()?;
@@ -71,7 +74,7 @@ impl<'a, K, V> DoubleEndedIterator for PairsMut<'a, K, V> {
 }
 
 impl<'a, K, V> ExactSizeIterator for PairsMut<'a, K, V> {
-    /// The exact number of pairs that are left.
+    /// Returns the exact number of pairs that are left.
     fn len(&self) -> usize {
         self.keys.len().min(self.values.len())
     }

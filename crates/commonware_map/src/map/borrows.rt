@@ -1,4 +1,4 @@
-//! Loans of a map's values: what is written through one is all that changes.
+//! Mutable borrows of a map's values: what is written through one is all that changes.
 ghost use Rattle.std.specs.Prelude.{◌≡◌, ◌<◌, length, slice_index_or};
 ghost use Rattle.std.specs.Borrow.{sem};
 ghost use Rattle.std.specs.Map.{lookup, values_of};
@@ -9,8 +9,8 @@ use super::Map;
 use std::alloc::Allocator;
 
 impl<K: Ord, V, A: Allocator> Map<K, V, A> {
-    /// The value of the key that equals the one asked, to be written, or `None` where none does.
-    /// It takes O(log n) comparisons.
+    /// Returns a mutable borrow of the value of the key that equals the given one, or `None` where
+    /// none does. It takes O(log n) comparisons.
     pub fn get_value_mut(&mut self, key: &K) -> Option<&mut V>
         ensures* writes_back { sem 𝓛 (LendsValueOf K.row V.row A.row
             K.cmp K.eq K.partial_cmp A.Allocator self.entry (λ k. K.eq k key.now) result) }
@@ -22,7 +22,7 @@ impl<K: Ord, V, A: Allocator> Map<K, V, A> {
         }
     }
 
-    /// The values in the order of their keys, to be written.
+    /// Returns a mutable borrow of the values in the order of their keys.
     pub fn values_mut(&mut self) -> &mut [V]
         ensures* writes_back { sem 𝓛 (LendsValues K.row V.row A.row
             K.cmp K.eq K.partial_cmp A.Allocator self.entry result) }
@@ -31,7 +31,8 @@ impl<K: Ord, V, A: Allocator> Map<K, V, A> {
         self.values.as_mut_slice()
     }
 
-    /// The value at a position, which is inside, to be written.
+    /// Returns a mutable borrow of the value at a position. It requires that the position is
+    /// inside.
     fn value_mut(&mut self, index: usize) -> &mut V
         requires { index < length self.old }
         ensures* writes_back { sem 𝓛 (LendsValueAt K.row V.row A.row

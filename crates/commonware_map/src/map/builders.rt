@@ -1,4 +1,4 @@
-//! Maps of many pairs: of equal keys the first pair stays, or equal keys are refused.
+//! Builders of maps: of equal keys the first pair stays, or equal keys are refused.
 ghost use Rattle.std.specs.Prelude.{◌≡◌, IfOk};
 ghost use Rattle.std.specs.Iterator.{IsFiniteIterable};
 ghost use Rattle.std.specs.Map.{keys_of, values_of};
@@ -14,9 +14,9 @@ use commonware_ordered::{Error, Set, SortedEntries};
 use std::alloc::{AllocError, Allocator};
 
 impl<K: Ord + Drop, V: Drop, A: Allocator + Copy> Map<K, V, A> {
-    /// The map of the pairs that an iterator gives, where of equal keys the first pair stays. It is
-    /// refused for want of memory alone, and takes memory for the pairs that stay. It takes O(n log
-    /// n) comparisons.
+    /// Returns the map of the pairs that an iterator gives, where of equal keys the first pair
+    /// stays. The only error is an allocation failure; it allocates for the pairs that stay. It
+    /// takes O(n log n) comparisons.
     pub fn from_iter_dedup<I: IntoIterator<Item = (K, V)>>(
         alloc: A,
         iter: I,
@@ -34,8 +34,8 @@ impl<K: Ord + Drop, V: Drop, A: Allocator + Copy> Map<K, V, A> {
         map_of(entries)
     }
 
-    /// The map of all the pairs, or `DuplicateKey` where two of their keys are equal. It takes O(n
-    /// log n) comparisons.
+    /// Returns the map of all the pairs, or `DuplicateKey` where two of their keys are equal. It
+    /// takes O(n log n) comparisons.
     pub fn try_from_vec(vec: Vec<(K, V), A>) -> Result<Self, Error>
         ensures { IsWholeSet (on_keys K.eq) (on_keys K.cmp) vec.items result }
     {
@@ -51,8 +51,8 @@ impl<K: Ord + Drop, V: Drop, A: Allocator + Copy> TryFromIterator<(K, V), A> for
 
     ghost refuses = { λ drawn _ error. IsRefusedFor (on_keys K.eq) drawn error };
 
-    /// The map of all the pairs, or `DuplicateKey` where two keys of those that were drawn are
-    /// equal: none is drawn after the first repeat. It takes O(n log n) comparisons.
+    /// Returns the map of all the pairs, or `DuplicateKey` where two keys of those that were drawn
+    /// are equal: none is drawn after the first repeat. It takes O(n log n) comparisons.
     fn try_from_iter<I: IntoIterator<Item = (K, V)>>(alloc: A, iter: I) -> Result<Self, Error> {
         let rest = iter.into_iter();
         let mut entries = SortedEntries::with_room(alloc, rest.size_hint().0)?;
@@ -66,8 +66,8 @@ impl<K: Ord + Drop, V: Drop, A: Allocator + Copy> TryFromIterator<(K, V), A> for
 }
 
 impl<K: Ord + EqClone, V: Clone, A: Allocator + Copy> Map<K, V, A> {
-    /// The map of clones of all the pairs, or `DuplicateKey` where two of their keys are equal. It
-    /// takes O(n log n) comparisons.
+    /// Returns the map of clones of all the pairs, or `DuplicateKey` where two of their keys are
+    /// equal. It takes O(n log n) comparisons.
     pub fn try_from_slice(alloc: A, pairs: &[(K, V)]) -> Result<Self, Error>
         ensures { IsWholeSetOfClones (on_keys K.eq) (on_keys K.cmp)
             (on_both K.is_clone V.is_clone) pairs.now result }
@@ -75,8 +75,8 @@ impl<K: Ord + EqClone, V: Clone, A: Allocator + Copy> Map<K, V, A> {
         Map::try_from_vec(Vec::from_clones(alloc, pairs)?)
     }
 
-    /// The map of clones of all the pairs, or `DuplicateKey` where two of their keys are equal. The
-    /// array is given up. It takes O(n log n) comparisons.
+    /// Returns the map of clones of all the pairs, or `DuplicateKey` where two of their keys are
+    /// equal. The array is dropped. It takes O(n log n) comparisons.
     pub fn try_from_array<const N: usize>(alloc: A, pairs: [(K, V); N]) -> Result<Self, Error>
         ensures { IsWholeSetOfClones (on_keys K.eq) (on_keys K.cmp)
             (on_both K.is_clone V.is_clone) pairs result }
@@ -84,8 +84,8 @@ impl<K: Ord + EqClone, V: Clone, A: Allocator + Copy> Map<K, V, A> {
         Map::try_from_slice(alloc, &pairs)
     }
 
-    /// The map of clones of all the pairs, or `DuplicateKey` where two of their keys are equal. It
-    /// takes O(n log n) comparisons.
+    /// Returns the map of clones of all the pairs, or `DuplicateKey` where two of their keys are
+    /// equal. It takes O(n log n) comparisons.
     pub fn try_from_array_ref<const N: usize>(alloc: A, pairs: &[(K, V); N]) -> Result<Self, Error>
         ensures { IsWholeSetOfClones (on_keys K.eq) (on_keys K.cmp)
             (on_both K.is_clone V.is_clone) pairs.now result }
@@ -94,7 +94,7 @@ impl<K: Ord + EqClone, V: Clone, A: Allocator + Copy> Map<K, V, A> {
     }
 }
 
-/// The map of pairs that were entries.
+/// Returns the map of the pairs of a builder.
 fn map_of<K: Ord + Drop, V: Drop, A: Allocator + Copy>(
     entries: SortedEntries<K, V, A>,
 ) -> Result<Map<K, V, A>, AllocError>

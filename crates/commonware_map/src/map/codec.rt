@@ -1,5 +1,5 @@
-//! The byte form of a map: the list of its keys, and then the list of its values, each with its
-//! count.
+//! The encoding of a map: the list of its keys, and then the list of its values, each with its
+//! length.
 ghost use Rattle.std.specs.Prelude.{◌≡◌, ◌<◌, ◌≤◌, ◌^◌, ℕ, List, length};
 ghost use Rattle.std.specs.List.{AllByRecursion};
 ghost use Rattle.std.specs.Map.{keys_of, values_of};
@@ -67,20 +67,13 @@ impl<K: Ord + Canonical + Read<A> + Drop, V: Read<A> + Drop, A: Allocator + Copy
         c.0 (K.allowed c.1) (K.fault c.1) (V.allowed c.2) (V.fault c.2)
         (K.read_laws alloc c.1) (V.read_laws alloc c.2) };
 
-    /// Reads the keys as a set, and then the values as a list of as many.
+    /// Decodes the keys as a set, and then the values as a list of as many.
     fn read_cfg(alloc: A, src: &mut Source<'_>, cfg: &Self::Cfg) -> Result<Map<K, V, A>, Error> {
         let mut here = *src;
-        let keys = match read_set::<K, A>(alloc, &mut here, cfg.0, &cfg.1) {
-            Ok(keys) => keys,
-            Err(error) => return Err(error),
-        };
-        match read_list::<V, A>(alloc, &mut here, RangeCfg::exact(keys.len()), &cfg.2) {
-            Ok(values) => {
-                *src = here;
-                Ok(Map { keys, values })
-            }
-            Err(error) => Err(error),
-        }
+        let keys = read_set::<K, A>(alloc, &mut here, cfg.0, &cfg.1)?;
+        let values = read_list::<V, A>(alloc, &mut here, RangeCfg::exact(keys.len()), &cfg.2)?;
+        *src = here;
+        Ok(Map { keys, values })
     }
 }
 
@@ -91,9 +84,10 @@ impl<K: Ord + Canonical, V: Canonical, A: Allocator> Canonical for Map<K, V, A> 
 }
 
 impl<K: Ord + MaxEncodeSize, V, A: Allocator> Map<K, V, A> {
-    /// The number of bytes that a map of at most `len` pairs can have, where each value takes at
-    /// most `value` bytes: the size of `len` as a varint, twice, and `len` times the bound of a key
-    /// and that of a value. `len` is at most 4294967295, and the result fits a `usize`.
+    /// Returns the most bytes that the encoding of a map of at most `len` pairs can have, where
+    /// each value takes at most `value` bytes: the size of `len` as a varint, twice, and `len`
+    /// times the bound of a key and that of a value. It requires that `len` is at most 4294967295,
+    /// and that the result fits a `usize`.
     pub fn max_encode_size(len: usize, value: usize) -> usize
         requires short { len < 2 ^ 32 }
         requires fits { map_size_bound len K.MAX_ENCODE_SIZE value < 2 ^ 64 }
@@ -107,8 +101,8 @@ impl<K: Ord + MaxEncodeSize, V, A: Allocator> Map<K, V, A> {
     }
 }
 
-/// The cuts at which a text is no map exclude one another: no text has a fault of the keys and one
-/// of the values.
+/// The error cases in which an input is no map exclude one another: no input has a fault of the
+/// keys and one of the values.
 pub fn map_fault_law<K: Ord + Canonical + Read<A>, V: Read<A>, A: Allocator>(
     alloc: A,
     range: RangeCfg<usize>,
@@ -122,6 +116,6 @@ pub fn map_fault_law<K: Ord + Canonical + Read<A>, V: Read<A>, A: Allocator>(
         V.enc V.writable (V.allowed value.now) (V.fault value.now) range s g)
         → sequence_case v ≡ sequence_case w }
 {
-    // The contract alone speaks of them.
+    // They are named so that no parameter is unused: only the contract speaks of them.
     let _ = (alloc, range);
 }

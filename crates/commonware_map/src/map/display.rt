@@ -1,4 +1,4 @@
-//! Maps as texts.
+//! Maps as they are displayed.
 ghost use Rattle.std.specs.Prelude.{[]};
 ghost use Rattle.std.specs.Fmt.{DisplaysOnOk, debug_items, debug_list};
 ghost use Rattle.commonware_map.specs.Pairs.{pair_text};
@@ -10,7 +10,7 @@ use std::fmt;
 impl<K: Ord + fmt::Display, V: fmt::Display, A: Allocator> fmt::Display for Map<K, V, A> {
     ghost output = { debug_list (λ p. pair_text (K.output p.0) (V.output p.1)) };
 
-    /// Writes `[`, the texts `(k, v)` of the pairs, joined by `, `, and `]`.
+    /// Writes `[`, the pairs as `(k, v)`, joined by `, `, and `]`.
     fn fmt<W: fmt::Write>(&self, f: &mut fmt::Formatter<W>) -> fmt::Result {
         f.write_str("[")?;
         write_pairs(self, f)?;
@@ -18,7 +18,7 @@ impl<K: Ord + fmt::Display, V: fmt::Display, A: Allocator> fmt::Display for Map<
     }
 }
 
-/// Writes the texts `(k, v)` of the pairs, joined by `, `.
+/// Writes the pairs as `(k, v)`, joined by `, `.
 fn write_pairs<K: Ord + fmt::Display, V: fmt::Display, A: Allocator, W: fmt::Write>(
     map: &Map<K, V, A>,
     f: &mut fmt::Formatter<W>,

@@ -1,4 +1,4 @@
-//! The pairs of a map that is given up, one by one.
+//! The pairs of a map that is consumed, one by one.
 ghost use Rattle.commonware_map.specs.Pairs.{GivesPairsOf};
 
 use super::Map;
@@ -12,8 +12,8 @@ impl<K: Ord + Drop, V: Drop, A: Allocator> IntoIterator for Map<K, V, A> {
 
     ghost into_iter_gives = { GivesPairsOf };
 
-    /// The pairs in the order of their keys, from both ends, with the exact number left. It takes
-    /// no memory.
+    /// Returns the pairs in the order of their keys, from both ends, with the exact number left. It
+    /// allocates nothing.
     fn into_iter(self) -> MapIntoIter<K, V, A> {
         let (keys, values) = self.into_columns();
         MapIntoIter::new(keys.into(), values)

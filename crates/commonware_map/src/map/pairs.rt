@@ -1,4 +1,4 @@
-//! The pairs of a map, lent one by one.
+//! The pairs of a map, borrowed one by one.
 ghost use Rattle.std.specs.Prelude.{◌≡◌, ◌<◌, ◌^◌, length};
 ghost use Rattle.std.specs.Map.Iter.{ShowsInOrder, ShowsInReverse, deref_pair};
 ghost use Rattle.commonware_map.specs.Pairs.{ShowsPairsOf};
@@ -8,7 +8,7 @@ use crate::iterators::Pairs;
 use std::alloc::Allocator;
 
 impl<K: Ord, V, A: Allocator> Map<K, V, A> {
-    /// The pairs in the order of their keys, from both ends, with the exact number left.
+    /// Returns the pairs in the order of their keys, from both ends, with the exact number left.
     pub fn iter_pairs(&self) -> Pairs<'_, K, V>
         ensures pairs { result ≡ self.now }
         ensures bound { length self.now < 2 ^ 64 }
@@ -26,7 +26,7 @@ impl<'a, K: Ord, V, A: Allocator> IntoIterator for &'a Map<K, V, A> {
 
     ghost into_iter_gives = { λ map left. ShowsPairsOf map.now left };
 
-    /// The pairs in the order of their keys, from both ends, with the exact number left.
+    /// Returns the pairs in the order of their keys, from both ends, with the exact number left.
     fn into_iter(self) -> Pairs<'a, K, V> {
         self.iter_pairs()
     }

@@ -1,4 +1,4 @@
-//! The pairs of a map, whose values are lent to be written.
+//! The pairs of a map, whose values are mutably borrowed.
 ghost use Rattle.std.specs.Prelude.{◌≡◌, ◌<◌, ◌^◌, length};
 ghost use Rattle.std.specs.Borrow.{sem};
 ghost use Rattle.commonware_map.specs.Lends.{LendsValuesTo};
@@ -9,8 +9,8 @@ use crate::iterators::PairsMut;
 use std::alloc::Allocator;
 
 impl<K: Ord, V, A: Allocator> Map<K, V, A> {
-    /// The pairs in the order of their keys, from both ends, with the exact number left. Each value
-    /// may be written; keys and their number stay.
+    /// Returns the pairs in the order of their keys, from both ends, with the exact number left.
+    /// Each value may be written; keys and their number stay.
     pub fn iter_pairs_mut(&mut self) -> PairsMut<'_, K, V>
         ensures* writes_back { sem 𝓛 (LendsValuesTo K.row V.row A.row
             K.cmp K.eq K.partial_cmp A.Allocator self.entry (pairs_mut_name result)) }

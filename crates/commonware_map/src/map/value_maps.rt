@@ -11,9 +11,9 @@ use commonware_base::EqClone;
 use std::alloc::{AllocError, Allocator};
 
 impl<K: Ord + EqClone, V, A: Allocator + Copy> Map<K, V, A> {
-    /// The map with the same keys, each with what `f` answers for its pair, in the order of the
-    /// keys. There is room for all values before the first call, and the keys are cloned after the
-    /// last one.
+    /// Returns the map with the same keys, each with what `f` returns for its pair, in the order of
+    /// the keys. Room for all values is reserved before the first call, and the keys are cloned
+    /// after the last one.
     pub fn map_values<'a, U: Drop, F: FnMut(&'a K, &'a V) -> U>(
         &'a self,
         mut f: F,
@@ -31,9 +31,10 @@ impl<K: Ord + EqClone, V, A: Allocator + Copy> Map<K, V, A> {
         Ok(Map::from_columns(keys, answers))
     }
 
-    /// The map with the same keys, each with what `f` answers for its pair, in the order of the
-    /// keys, or the first error of `f`. There is room for all values before the first call, and the
-    /// keys are cloned after the last one. After an error `f` isn't called, and no key is cloned.
+    /// Returns the map with the same keys, each with what `f` returns for its pair, in the order of
+    /// the keys, or the first error of `f`. Room for all values is reserved before the first call,
+    /// and the keys are cloned after the last one. After an error `f` isn't called, and no key is
+    /// cloned.
     pub fn try_map_values<'a, U: Drop, E, F: FnMut(&'a K, &'a V) -> Result<U, E>>(
         &'a self,
         mut f: F,
@@ -58,8 +59,8 @@ impl<K: Ord + EqClone, V, A: Allocator + Copy> Map<K, V, A> {
 }
 
 impl<K: Ord + Drop, V: Drop, A: Allocator + Copy> Map<K, V, A> {
-    /// The map with these keys, each with what `f` answers for its pair, in the order of the keys.
-    /// There is room for all values before the first call.
+    /// Returns the map with these keys, each with what `f` returns for its pair, in the order of
+    /// the keys. Room for all values is reserved before the first call.
     pub fn map_values_into<U: Drop, F: FnMut(&K, V) -> U>(
         self,
         mut f: F,
@@ -77,9 +78,9 @@ impl<K: Ord + Drop, V: Drop, A: Allocator + Copy> Map<K, V, A> {
         Ok(Map::from_columns(keys, mapped))
     }
 
-    /// The map with these keys, each with what `f` answers for its pair, in the order of the keys,
-    /// or the first error of `f`. There is room for all values before the first call. After an
-    /// error `f` isn't called.
+    /// Returns the map with these keys, each with what `f` returns for its pair, in the order of
+    /// the keys, or the first error of `f`. Room for all values is reserved before the first call.
+    /// After an error `f` isn't called.
     pub fn try_map_values_into<U: Drop, E, F: FnMut(&K, V) -> Result<U, E>>(
         self,
         mut f: F,

@@ -23,23 +23,23 @@ empty_writable : {T : Type 0} (Writable : T → Type 0) → IsWritableList Writa
 empty_writable Writable = record { short = omega arith; each = tt }
 
 module _ {T : Type 0} (enc : T → List ℕ) where
-  -- a text that begins with a byte 0 begins with the empty list
+  -- an input that begins with a byte 0 begins with the empty list
   empty_begins : (rest : List ℕ) → 0 ∷ rest ≡ list_enc enc [] ++ rest
   unfolding varint
   empty_begins rest = refl
 
-  -- a text that begins with an empty list begins with a byte 0
+  -- an input that begins with an empty list begins with a byte 0
   pub begins_empty : (range : Bounds ℕ) (s : List ℕ) (v : List T) (r : List ℕ) → length v ≡ 0 → s ≡ list_enc enc v ++ r
       → Within range (length v) → BeginsEmpty range s
   begins_empty range s [] r none e within = record { rest = r; begins = e ∙ sym (empty_begins r); in_range = within }
   begins_empty range s (x ∷ v) r none e within = absurd (omega (arith, none))
 
 module _ {T : Type 0} (enc : T → List ℕ) (Writable : T → Type 0) (prefix_free : IsPrefixFree enc Writable) where
-  -- no list that isn't empty begins another
+  -- no encoding of a list that isn't empty is a proper prefix of another's
   pub non_empty_prefix_free : IsPrefixFree (list_enc enc) (IsWritableNonEmpty Writable)
   non_empty_prefix_free a b x y p q e = list_prefix_free enc Writable prefix_free a b x y p.list q.list e
 
-  -- they are equal exactly where their bytes are
+  -- they are equal exactly where their encodings are
   pub non_empty_canonical : (eq : T → T → Bool) → CanonicalLaws enc Writable eq
       → CanonicalLaws (list_enc enc) (IsWritableNonEmpty Writable) (pointwise eq)
   non_empty_canonical eq canonical =
@@ -54,7 +54,7 @@ module _ {T : Type 0} (enc : T → List ℕ) (Writable : T → Type 0) (prefix_f
             };
       }
 
-  -- a list with an item isn't spelled as the empty one
+  -- a list with an item isn't encoded as the empty one
   not_spelled_empty : (v : List T) → IsWritableNonEmpty Writable v → list_enc enc v ≡ list_enc enc [] → ⊥
   not_spelled_empty v p e =
       let none : length v ≡ 0 =
@@ -63,7 +63,7 @@ module _ {T : Type 0} (enc : T → List ℕ) (Writable : T → Type 0) (prefix_f
 
   module _ (Allowed : T → Type 0) (item_fault : List ℕ → Fault → Type 0) (range : Bounds ℕ)
       (item_laws : ReadLaws enc Writable Allowed item_fault) where
-    -- the laws of the same texts as lists
+    -- the laws of the same encodings as lists
     as_list :
         ReadLaws (list_enc enc) (IsWritableList Writable) (IsAllowedList range Allowed)
         (ListFault enc Writable Allowed item_fault range)
@@ -96,7 +96,7 @@ module _ {T : Type 0} (enc : T → List ℕ) (Writable : T → Type 0) (prefix_f
       );
     }
 
-    -- two faults of a text are at one cut
+    -- two faults of an input are in one error case
     pub non_empty_one_case :
         (s : List ℕ) (f g : Fault) (v : NonEmptyFault enc Writable Allowed item_fault range s f)
         (w : NonEmptyFault enc Writable Allowed item_fault range s g) → non_empty_case v ≡ non_empty_case w
@@ -105,7 +105,7 @@ module _ {T : Type 0} (enc : T → List ℕ) (Writable : T → Type 0) (prefix_f
     non_empty_one_case s f g (no_items d v) (bad_list w) = absurd (broken_no_fault as_list non_emptiness s g v w)
     non_empty_one_case s f g (no_items d v) (no_items e w) = refl
 
-    -- what is promised of the texts of lists that are never empty
+    -- the laws of the encodings of lists that are never empty
     pub non_empty_laws :
         ReadLaws (list_enc enc) (IsWritableNonEmpty Writable) (IsAllowedList range Allowed)
         (NonEmptyFault enc Writable Allowed item_fault range)

@@ -1,4 +1,4 @@
--- What is proved of queues of at most so many items.
+-- What is proved of queues of at most `capacity` items.
 use Rattle.std.specs.Prelude.{◌==◌}
 use Rattle.std.proofs.Common.{ap}
 use Rattle.std.proofs.lemmas.Bool.{eqb-true}

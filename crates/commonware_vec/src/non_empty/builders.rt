@@ -1,4 +1,4 @@
-//! Lists that are never empty, made of many items, or refused.
+//! Builders of lists that are never empty.
 ghost use Rattle.std.specs.Prelude.{◌≡◌, ◌∷◌, [], MatchResult};
 ghost use Rattle.commonware_vec.specs.Refusals.{IsAll, IsRefusedForDrawn, IsWholeOfClones};
 ghost use Rattle.commonware_vec.specs.declared.error.Error.TheVariants.{Empty, Memory};
@@ -9,7 +9,7 @@ use commonware_base::TryFromIterator;
 use std::alloc::Allocator;
 
 impl<T: Drop, A: Allocator> NonEmptyVec<T, A> {
-    /// The list of one item. It is refused for want of memory alone.
+    /// Returns the list of one item. The only error is an allocation failure.
     pub fn new(alloc: A, first: T) -> Result<Self, Error>
         ensures { MatchResult result (λ v. v ≡ first ∷ []) (λ error. error ≡ Memory) }
     {
@@ -26,7 +26,8 @@ impl<T, A: Allocator> TryFrom<Vec<T, A>> for NonEmptyVec<T, A> {
         (λ v. v ≡ vec.items)
         (λ error. (error ≡ Empty) × (vec.items ≡ [])) };
 
-    /// The list of the items of a vector, or `Empty` where it is empty. It takes no memory.
+    /// Returns the list of the items of a vector, or `Empty` where it is empty. It allocates
+    /// nothing.
     fn try_from(vec: Vec<T, A>) -> Result<Self, Error> {
         if vec.is_empty() {
             vec.destroy_empty();
@@ -43,8 +44,8 @@ impl<T: Drop, A: Allocator> TryFromIterator<T, A> for NonEmptyVec<T, A> {
 
     ghost refuses = { IsRefusedForDrawn };
 
-    /// The list of all the items, or `Empty` where there are none. Memory is wanted only once an
-    /// item was drawn.
+    /// Returns the list of all the items, or `Empty` where there are none. It allocates only once
+    /// an item was drawn.
     fn try_from_iter<I: IntoIterator<Item = T>>(alloc: A, iter: I) -> Result<Self, Error> {
         let mut items = Vec::new(alloc);
         for item in iter {
@@ -55,8 +56,8 @@ impl<T: Drop, A: Allocator> TryFromIterator<T, A> for NonEmptyVec<T, A> {
 }
 
 impl<T: Clone, A: Allocator> NonEmptyVec<T, A> {
-    /// The list of clones of all the items, or `Empty` where there are none, and then no memory is
-    /// wanted.
+    /// Returns the list of clones of all the items, or `Empty` where there are none, and then it
+    /// allocates nothing.
     pub fn try_from_slice(alloc: A, items: &[T]) -> Result<Self, Error>
         ensures { IsWholeOfClones T.is_clone items.now result }
     {
@@ -67,16 +68,16 @@ impl<T: Clone, A: Allocator> NonEmptyVec<T, A> {
         }
     }
 
-    /// The list of clones of all the items, or `Empty` where there are none, and then no memory is
-    /// wanted. The array is given up.
+    /// Returns the list of clones of all the items, or `Empty` where there are none, and then it
+    /// allocates nothing. The array is dropped.
     pub fn try_from_array<const N: usize>(alloc: A, items: [T; N]) -> Result<Self, Error>
         ensures { IsWholeOfClones T.is_clone items result }
     {
         NonEmptyVec::try_from_slice(alloc, &items)
     }
 
-    /// The list of clones of all the items, or `Empty` where there are none, and then no memory is
-    /// wanted.
+    /// Returns the list of clones of all the items, or `Empty` where there are none, and then it
+    /// allocates nothing.
     pub fn try_from_array_ref<const N: usize>(alloc: A, items: &[T; N]) -> Result<Self, Error>
         ensures { IsWholeOfClones T.is_clone items.now result }
     {

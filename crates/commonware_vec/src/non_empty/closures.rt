@@ -13,8 +13,9 @@ use std::alloc::Allocator;
 use std::num::NonZeroUsize;
 
 impl<T, A: Allocator + Copy> NonEmptyVec<T, A> {
-    /// The list of what `f` answers for each item, in order. There is room for all answers before
-    /// the first call. It is refused for want of memory alone, and then nothing was called.
+    /// Returns the list of what `f` returns for each item, in order. Room for all results is
+    /// reserved before the first call. The only error is an allocation failure, and then nothing
+    /// was called.
     pub fn map<U, F: FnMut(&T) -> U>(&self, mut f: F) -> Result<NonEmptyVec<U, A>, Error>
         requires { CallableAlong (CalledAt F.FnMut) (TakesAt F.FnMut) f self.now }
         ensures items { IfOk result (λ v. CallsGiveAll (CalledAt F.FnMut) f self.now v) }
@@ -27,9 +28,9 @@ impl<T, A: Allocator + Copy> NonEmptyVec<T, A> {
         Ok(NonEmptyVec { items: answers })
     }
 
-    /// The list of what `f` answers for each item, in order. There is room for all answers before
-    /// the first call. It is refused for want of memory alone, and then nothing was called, and the
-    /// items are given up.
+    /// Returns the list of what `f` returns for each item, in order. Room for all results is
+    /// reserved before the first call. The only error is an allocation failure, and then nothing
+    /// was called, and the items are dropped.
     pub fn map_into<U, F: FnMut(T) -> U>(self, mut f: F) -> Result<NonEmptyVec<U, A>, Error>
     where
         T: Drop,
@@ -47,10 +48,10 @@ impl<T, A: Allocator + Copy> NonEmptyVec<T, A> {
 }
 
 impl<T: Drop, A: Allocator> NonEmptyVec<T, A> {
-    /// Makes the list `len` items long: the first ones stay, and what `f` answers, called once for
-    /// each place that is new, comes after them. Where it gets no longer, nothing is called, and it
-    /// isn't refused; else there is room for all answers before the first call. It is refused for
-    /// want of memory alone, and then nothing was called, and the list is as it was.
+    /// Makes the list `len` items long: the first ones stay, and what `f` returns, called once for
+    /// each place that is new, comes after them. Where it gets no longer, nothing is called, and
+    /// there is no error; else room for all results is reserved before the first call. The only
+    /// error is an allocation failure, and then nothing was called, and the list is as it was.
     pub fn resize_with<F: FnMut() -> T>(&mut self, len: NonZeroUsize, f: F) -> Result<(), Error>
         requires { CallableTimes F.FnMut f (non_zero_usize_get len - length self.old) }
         ensures items { let size = non_zero_usize_get len in OnOk result
@@ -71,7 +72,7 @@ impl<T: Drop, A: Allocator> NonEmptyVec<T, A> {
     }
 }
 
-/// Puts what `f` answers last, called so many times. There is room.
+/// Appends what `f` returns, called `count` times. It requires that there is room.
 fn push_answers<T, A: Allocator, F: FnMut() -> T>(items: &mut Vec<T, A>, count: usize, mut f: F)
     requires room { vec_len items.old + count ≤ vec_capacity items.old }
     requires callable { CallableTimes F.FnMut f count }

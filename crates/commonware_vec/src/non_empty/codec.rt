@@ -1,4 +1,4 @@
-//! The byte form of a list that is never empty, which is that of the list of its items.
+//! The encoding of a list that is never empty, which is that of the list of its items.
 ghost use Rattle.std.specs.Prelude.{◌≡◌, ℕ, List};
 ghost use Rattle.commonware_base.specs.Fault.{Fault};
 ghost use Rattle.commonware_base.specs.laws.ListLaws.{list_bytes};
@@ -52,7 +52,7 @@ impl<T: Read<A> + Drop, A: Allocator + Copy> Read<A> for NonEmptyVec<T, A> {
     ghost read_laws = { λ alloc c. non_empty_laws T.enc T.writable T.prefix_free (T.allowed c.1)
         (T.fault c.1) (as_numbers c.0) (T.read_laws alloc c.1) };
 
-    /// Reads a list, which must have an item.
+    /// Decodes a list, which must have an item.
     fn read_cfg(
         alloc: A,
         src: &mut Source<'_>,
@@ -60,16 +60,12 @@ impl<T: Read<A> + Drop, A: Allocator + Copy> Read<A> for NonEmptyVec<T, A> {
     ) -> Result<NonEmptyVec<T, A>, Error> {
         let mut here = *src;
         let range = RangeCfg::<usize>::from(cfg.0);
-        match read_list::<T, A>(alloc, &mut here, range, &cfg.1) {
-            Ok(items) => {
-                if items.is_empty() {
-                    return Err(Error::Invalid("NonEmptyVec", "cannot decode empty vector"));
-                }
-                *src = here;
-                Ok(NonEmptyVec { items })
-            }
-            Err(error) => Err(error),
+        let items = read_list::<T, A>(alloc, &mut here, range, &cfg.1)?;
+        if items.is_empty() {
+            return Err(Error::Invalid("NonEmptyVec", "cannot decode empty vector"));
         }
+        *src = here;
+        Ok(NonEmptyVec { items })
     }
 }
 
@@ -77,8 +73,8 @@ impl<T: Canonical, A: Allocator> Canonical for NonEmptyVec<T, A> {
     ghost canonical = { non_empty_canonical T.enc T.writable T.prefix_free T.eq T.canonical };
 }
 
-/// The cuts at which a text is no list that has an item exclude one another: no text has a fault of
-/// the list and is empty.
+/// The error cases in which an input is no list that has an item exclude one another: no input has
+/// a fault of the list and is an empty list.
 pub fn non_empty_fault_law<T: Read<A>, A: Allocator>(
     alloc: A,
     range: RangeCfg<NonZeroUsize>,
@@ -89,6 +85,6 @@ pub fn non_empty_fault_law<T: Read<A>, A: Allocator>(
         (w : NonEmptyFault T.enc T.writable (T.allowed item.now) (T.fault item.now) numbers s g)
         → non_empty_case v ≡ non_empty_case w }
 {
-    // The contract alone speaks of them.
+    // They are named so that no parameter is unused: only the contract speaks of them.
     let _ = (alloc, range);
 }

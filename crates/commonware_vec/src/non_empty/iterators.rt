@@ -1,4 +1,4 @@
-//! Lists that are never empty, walked item by item.
+//! Iterators over lists that are never empty.
 ghost use Rattle.std.specs.Prelude.{◌≤◌, length};
 ghost use Rattle.std.specs.Borrow.{sem};
 ghost use Rattle.std.specs.Slice.Iter.{iter_mut_name};
@@ -16,7 +16,7 @@ impl<T: Drop, A: Allocator> IntoIterator for NonEmptyVec<T, A> {
 
     ghost into_iter_gives = { λ v it. HandsOver v it × (1 ≤ length v) };
 
-    /// The items in order, from both ends, with the exact number left.
+    /// Returns the items in order, from both ends, with the exact number left.
     fn into_iter(self) -> vec::IntoIter<T, A> {
         let NonEmptyVec { items } = self;
         items.into_iter()
@@ -30,7 +30,7 @@ impl<'a, T, A: Allocator> IntoIterator for &'a NonEmptyVec<T, A> {
 
     ghost into_iter_gives = { λ v it. Shows v.now it × (1 ≤ length v.now) };
 
-    /// The items in order, from both ends, with the exact number left.
+    /// Returns the items in order, from both ends, with the exact number left.
     fn into_iter(self) -> slice::Iter<'a, T> {
         self.as_slice().iter()
     }
@@ -43,7 +43,7 @@ impl<'a, T, A: Allocator> IntoIterator for &'a mut NonEmptyVec<T, A> {
 
     ghost into_iter_gives = { λ v it. LetsWrite v.now it × (1 ≤ length v.now) };
 
-    /// The items in order, to be written, from both ends, with the exact number left.
+    /// Returns mutable borrows of the items in order, from both ends, with the exact number left.
     fn into_iter(self) -> slice::IterMut<'a, T>
         ensures* writes_back { sem 𝓛
             (LendsItemsTo T.row A.row A.Allocator self.entry (iter_mut_name result)) }

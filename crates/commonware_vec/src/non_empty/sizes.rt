@@ -13,7 +13,7 @@ use std::num::NonZeroUsize;
 use std::vec::VecCloneMethods;
 
 impl<T: Drop, A: Allocator> NonEmptyVec<T, A> {
-    /// Puts the items that an iterator gives last. It is refused for want of memory alone, and then
+    /// Appends the items that an iterator gives. The only error is an allocation failure, and then
     /// the list is as it was.
     pub fn extend<I: IntoIterator<Item = T>>(&mut self, iter: I) -> Result<(), Error>
         requires { IsFiniteIterable I.into_iter_gives I.IntoIter.can_next
@@ -35,8 +35,8 @@ impl<T: Drop, A: Allocator> NonEmptyVec<T, A> {
 
 impl<T: Clone, A: Allocator> NonEmptyVec<T, A> {
     /// Makes the list `len` items long: the first ones stay, and clones of `value` come after them,
-    /// or `value` itself. Where it gets no longer, it isn't refused. It is refused for want of
-    /// memory alone, and then the list is as it was.
+    /// or `value` itself. Where it gets no longer, there is no error. The only error is an
+    /// allocation failure, and then the list is as it was.
     pub fn resize(&mut self, len: NonZeroUsize, value: T) -> Result<(), Error>
         ensures items { let size = non_zero_usize_get len in OnOk result
             (AppendsClonesOf T.is_clone (take size self.old) self.new value) }
