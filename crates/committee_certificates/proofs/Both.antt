@@ -1,4 +1,4 @@
--- What a walk along two rising lists keeps: those of the first that are among the second.
+-- What a walk along two strictly increasing lists keeps: those of the first that are among the second.
 use Rattle.std.proofs.Common.{◌≡◌, ◌≢◌, ◌⊎◌, ◌||◌, inl, inr, eqb, ℕ, suc, ◌+◌, ◌<◌, ◌≤◌, Bool, true, false, cond, ◌&&◌}
 use Rattle.std.proofs.Common.{List, [], ◌∷◌, ◌++◌, append-nil, append_assoc, drop, filter, length, get_or}
 use Rattle.std.proofs.Common.{refl, ap, subst, sym, ◌∙◌, arith}
@@ -26,7 +26,7 @@ and_false false = refl
 abbrev pub common : List ℕ → List ℕ → List ℕ
 common xs ys = filter (has ys) xs
 
--- tests that agree from low on keep the same of numbers that rise from low on
+-- tests that agree from low on keep the same of numbers that strictly increase from low on
 filter_agree : (p q : ℕ → Bool) (low : ℕ) (xs : List ℕ) → RisesFrom low xs → ((k : ℕ) → low ≤ k → p k ≡ q k)
     → filter p xs ≡ filter q xs
 filter_agree p q low [] r same = refl
@@ -103,11 +103,11 @@ module _ {first second kept : List ℕ} {i j x y : ℕ} (x_in : i < length first
   others : drop j second ≡ y ∷ drop (j + 1) second
   others = opened second j y y_in y_is
 
-  -- the numbers left rise
+  -- the numbers left are strictly increasing
   left_rises : RisesFrom 0 (x ∷ drop (i + 1) first)
   left_rises = subst (RisesFrom 0) left w.first_rises
 
-  -- and so do the others
+  -- and so are the others
   others_rise : RisesFrom 0 (y ∷ drop (j + 1) second)
   others_rise = subst (RisesFrom 0) others w.second_rises
 
@@ -166,7 +166,7 @@ has-filter test (x ∷ xs) p = step (test x) refl (eqb_tells p x) (has-filter te
     step false e (inl same) h = let t = subst (λ y. test y ≡ false) (sym same.1) e in simp (h, t, and_false)
     step false e (inr other) h = simp other.0 h
 
--- what both of two strict lists have is strict, and exactly what is in both
+-- what both of two strictly increasing lists have is strictly increasing, and exactly what is in both
 pub AreInBoth-common : (first second : List ℕ) → IsStrict nat_cmp first → AreInBoth first second (common first second)
 AreInBoth-common first second strict = record {
   strict =

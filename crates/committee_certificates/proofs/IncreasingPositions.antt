@@ -1,4 +1,4 @@
--- Rising numbers, and how many of n positions they are.
+-- Strictly increasing numbers, and how many of n positions they are.
 use Rattle.std.proofs.Common.{◌≡◌, ℕ, zero, suc, ◌+◌, ◌<◌, ◌≤◌, Bool, true, false, cond, List, [], ◌∷◌, length, map}
 use Rattle.std.proofs.Common.{get_or, refl, ap, subst, sym, ◌∙◌, arith, inl, inr, add-one}
 use Rattle.std.specs.Prelude.{nat_eq}
@@ -8,7 +8,7 @@ use Rattle.std.specs.List.Sorted.{IsStrictlyIncreasing}
 use Rattle.std.specs.Ordering.{nat_cmp}
 use Rattle.std.proofs.lemmas.Bool.Decides.{nat_tests}
 use Rattle.std.proofs.lemmas.Cmp.{nat_cmp_total}
-use Rattle.std.proofs.lemmas.List.Elements.{All-head, All-tail}
+use Rattle.std.proofs.lemmas.List.Elements.{All-cons, All-head, All-tail}
 use Rattle.std.proofs.lemmas.Map.Keys.{IsStrictlyIncreasing-from_sorted}
 use Rattle.commonware_faults.specs.Subsets.{size, passing}
 use Rattle.commonware_faults.specs.laws.SubsetSizeLaws.{size-cons}
@@ -43,7 +43,7 @@ rises_from_increasing low (x ∷ xs) above h =
     (λ k below. let next = h (suc k) (omega arith) in simp add-one (simp add-one at next)) in
     (above (omega arith), rest)
 
--- strict numbers rise
+-- strictly increasing numbers rise
 pub rises_from_strict : (xs : List ℕ) → IsStrict nat_cmp xs → RisesFrom 0 xs
 rises_from_strict xs h =
     let increasing = IsStrictlyIncreasing-from_sorted xs (sorted_from_strict nat_cmp_total xs h) in
@@ -58,6 +58,28 @@ AllBelow n (x ∷ xs) = (x < n) × AllBelow n xs
 below_from_members : (n : ℕ) (xs : List ℕ) → AreMembers n xs → AllBelow n xs
 below_from_members n [] h = tt
 below_from_members n (x ∷ xs) h = (All-head (λ y. y < n) x xs h, below_from_members n xs (All-tail (λ y. y < n) x xs h))
+
+-- where the last of numbers that rise is below n, all are
+below_from_last : (low n last i : ℕ) (xs : List ℕ) → RisesFrom low xs → i + 1 ≡ length xs → last ≡ get_or xs i last
+    → last < n → (low ≤ last) × AllBelow n xs
+below_from_last low n last i [] r e at h = absurd (omega arith)
+below_from_last low n last zero (x ∷ []) r e at h = (omega (arith, r.0, at), (omega (arith, at), tt))
+below_from_last low n last zero (x ∷ y ∷ ys) r e at h = absurd (omega arith)
+below_from_last low n last (suc i) (x ∷ []) r e at h = absurd (omega arith)
+below_from_last low n last (suc i) (x ∷ y ∷ ys) r e at h =
+    let rest = below_from_last (x + 1) n last i (y ∷ ys) r.1 (omega arith) at h in
+    (omega (arith, r.0, rest.0), (omega (arith, rest.0), rest.1))
+
+-- numbers below n are members
+members_from_below : (n : ℕ) (xs : List ℕ) → AllBelow n xs → AreMembers n xs
+members_from_below n [] b = λ k d h. absurd (omega arith)
+members_from_below n (x ∷ xs) b = All-cons (λ y. y < n) x xs b.0 (members_from_below n xs b.1)
+
+-- where the last of strictly increasing numbers is a member, all are
+pub members_from_last : (n last i : ℕ) (xs : List ℕ) → IsStrict nat_cmp xs → i + 1 ≡ length xs
+    → last ≡ get_or xs i last → last < n → AreMembers n xs
+members_from_last n last i xs s e at h =
+    members_from_below n xs (below_from_last 0 n last i xs (rises_from_strict xs s) e at h).1
 
 -- what is below one number is below a greater
 below_more : (m n : ℕ) (xs : List ℕ) → m ≤ n → AllBelow m xs → AllBelow n xs

@@ -60,7 +60,7 @@ shared-truths n xs ys zs h =
     (λ e. (h.exactly p).0 ((has_tells zs p).0 e), λ w. (has_tells zs p).1 ((h.exactly p).1 w)) in
     shared-map (has xs) (has ys) (range_with_len 0 n) ∙ size-agree _ _ agree (range_with_len 0 n)
 
--- Two strict lists of at least n - f members, and those in both.
+-- Two strictly increasing lists of at least n - f members, and those in both.
 pub record AreQuorumsAndBoth (n f : ℕ) (xs ys zs : List ℕ) : Type 0 where
   pub first_strict : IsStrict nat_cmp xs
   pub second_strict : IsStrict nat_cmp ys

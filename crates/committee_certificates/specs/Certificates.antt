@@ -1,4 +1,4 @@
--- The byte form of a certificate: its value as a list of bytes, and then its signers as a set of participants.
+-- The encoding of a certificate: its value as a list of bytes, and then its signers as a set of participants.
 use Rattle.std.specs.Prelude.{ℕ, List, Bool, ◌&&◌, nat_eq}
 use Rattle.std.specs.Cmp.Lexicographic.{pointwise}
 use Rattle.std.specs.Ordering.{nat_cmp}
@@ -41,16 +41,16 @@ AreAllowedSigners range = IsAllowedList range (λ _. Unit {0})
 abbrev pub IsAllowedCertificate : Bounds ℕ → Bounds ℕ → List ℕ × List ℕ → Type 0
 IsAllowedCertificate value signers = IsAllowedSequence (IsAllowedValue value) (λ _. AreAllowedSigners signers)
 
--- what is wrong with a text that should begin with a value
+-- the fault of an input that should begin with a value
 abbrev pub ValueFault : Bounds ℕ → List ℕ → Fault → Type 0
 ValueFault range = ListFault byte IsByte (λ _. Unit {0}) byte_fault range
 
--- what is wrong with a text that should begin with signers
+-- the fault of an input that should begin with signers
 abbrev pub SignersFault : Bounds ℕ → List ℕ → Fault → Type 0
 SignersFault range = SetFault varint IsWord nat_cmp (λ _. Unit {0}) varint_fault range
 
--- The first fault of a text that should begin with a certificate: that of the value; then, where there is none, that of
--- the signers after it.
+-- The first fault of an input that should begin with a certificate: that of the value; then, where there is none, that
+-- of the signers after it.
 abbrev pub CertificateFault : Bounds ℕ → Bounds ℕ → List ℕ → Fault → Type 0
 CertificateFault value signers =
     SequenceFault (list_enc byte) (IsWritableList IsByte) (IsAllowedValue value) (ValueFault value)

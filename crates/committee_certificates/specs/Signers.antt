@@ -1,5 +1,5 @@
 -- The signers of certificates, as participants of a committee of n members. A set of signers is the list of their
--- indices, in strict order. `faults` are those of a fault model: how many of n members may be faulty.
+-- indices, strictly increasing. `faults` are those of a fault model: how many of n members may be faulty.
 use Rattle.std.specs.Prelude.{◌≡◌, ℕ, ◌-◌, ◌<◌, ◌≤◌, ◌↔◌, Bool, List, length, All, Any, Contains}
 use Rattle.std.specs.Ordering.{nat_cmp}
 use Rattle.commonware_faults.specs.Subsets.{size, IsOutside}
@@ -25,7 +25,7 @@ AreTooFew faults n signers = length signers < quorum_size faults n
 abbrev pub AreQuorum : (ℕ → ℕ) → ℕ → List ℕ → Type 0
 AreQuorum faults n signers = AreMembers n signers × (quorum_size faults n ≤ length signers)
 
--- exactly the participants in both, in strict order
+-- exactly the participants in both, strictly increasing
 pub record AreInBoth (first second both : List ℕ) : Type 0 where
   pub strict : IsStrict nat_cmp both
   pub exactly : (index : ℕ) → Contains both index ↔ (Contains first index × Contains second index)

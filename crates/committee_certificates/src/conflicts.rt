@@ -1,6 +1,7 @@
-//! The members that signed both of two certificates for different values.
+//! Accountability: the members that signed both of two certificates for different values, which is
+//! equivocation.
 ghost use Rattle.std.specs.Prelude.{◌≡◌, ◌≢◌, ◌+◌, ◌*◌, ◌<◌, ◌≤◌, ◌⊎◌, ◌↔◌, IfOk, IsErrOf, IsFalse, IsTrue, OnOk, length, pos};
-ghost use Rattle.committee_certificates.specs.declared.conflicts.ConflictError.TheVariants.{Outside, TooFew};
+ghost use Rattle.committee_certificates.specs.declared.conflicts.ConflictError.TheVariants.{Memory, Outside, TooFew};
 ghost use Rattle.committee_certificates.specs.Signers.{AreInBoth, AreMembers, AreQuorum, AreTooFew};
 ghost use Rattle.committee_certificates.specs.Signers.{HasOutsider, LeavesOneOutside};
 ghost use Rattle.commonware_faults.specs.Counts.{IsCommitteeSize};
@@ -13,7 +14,10 @@ use commonware_faults::Faults;
 use commonware_ordered::{Quorum, Set};
 use std::alloc::{AllocError, Allocator};
 
-/// Why two certificates name no members that signed both.
+/// Why two certificates prove no equivocation.
+///
+/// In a committee of 4 under `N3f1`, whose quorum is 3, the signers 0, 1, 2 and 2, 3 give `TooFew`,
+/// and 0, 1, 2 and 4294967295 give `Outside`.
 #[derive(Clone, Copy, Debug, PartialEq, Eq, thiserror::Error)]
 pub enum ConflictError {
     /// A signer of one of them is at or past the committee's length.
@@ -22,26 +26,37 @@ pub enum ConflictError {
     /// All signers are members, and fewer than a quorum signed one of them.
     #[error("fewer signers than a quorum")]
     TooFew,
-    /// A request for memory was refused. It says nothing of the certificates.
+    /// An allocation failed. It says nothing of the certificates.
     #[error("out of memory")]
     Memory,
 }
 
-/// The members that signed both of two certificates for different values: exactly the signers of
-/// both. The committee has 1 to `u32::MAX` members.
+impl From<AllocError> for ConflictError {
+    ghost from_gives = { λ _ error. error ≡ Memory };
+
+    fn from(_refused: AllocError) -> ConflictError {
+        ConflictError::Memory
+    }
+}
+
+/// Returns the members that signed both of two certificates for different values: exactly the
+/// signers of both. Signing two values is equivocation, and naming those that did is what makes a
+/// protocol accountable. It requires that the values differ, and that the committee has 1 to
+/// `u32::MAX` members.
 ///
-/// A signer at or past the committee's length is told first, as `Outside`; then, where every
-/// signer is a member, a certificate with fewer signers than a quorum of the fault model, as
-/// `TooFew`. Both are looked at before any memory is taken, so `Memory` comes after them.
+/// A signer at or past the committee's length gives the error `Outside`; else, where every signer
+/// is a member, a certificate with fewer signers than a quorum of the fault model gives `TooFew`.
+/// Both are checked before anything is allocated, so `Memory` comes after them.
 ///
-/// With f the model's number of faults, at least n - 2f of n members are answered, in every model;
-/// and where 3f + 1 is at most n, whichever f members are faulty, one that is answered isn't among
-/// them. So where f is the greatest for which any two quorums share f + 1 members, at least f + 1
-/// are answered; where it is the greatest for which they share 3f + 1, at least 3f + 1 are. Nothing
-/// is said of whether those who are named did sign, or are honest.
+/// With f the model's number of faults, at least n - 2f of n members are returned, in every model,
+/// by quorum intersection; and where 3f + 1 is at most n, whichever f members are faulty
+/// (Byzantine), one that is returned isn't among them. So where f is the greatest for which any two
+/// quorums share f + 1 members, at least f + 1 are returned; where it is the greatest for which
+/// they share 3f + 1, at least 3f + 1 are. Nothing is said of whether those who are named did sign,
+/// or are honest.
 ///
-/// It walks the signers of each certificate a constant number of times, and makes one request for
-/// memory, for as many indices as the certificate with fewer signers has.
+/// It walks the signers of each certificate at most once, and makes at most one allocation, for as
+/// many indices as the certificate with fewer signers has.
 pub fn conflict<M: Faults, T: Ord, A: Allocator>(
     alloc: A,
     committee: &Set<T, A>,
@@ -80,11 +95,12 @@ pub fn conflict<M: Faults, T: Ord, A: Allocator>(
     conflict_among(alloc, members, M::max_faults(members), first, second)
 }
 
-/// The members that signed both of two certificates for different values, where the number of
-/// members and that of the faults they tolerate are all that is known of the committee and of its
-/// fault model. `faults` is at most `members`.
+/// Returns the members that signed both of two certificates for different values, where the number
+/// of members and that of the faults they tolerate are all that is known of the committee and of
+/// its fault model. It requires that the values differ, and that `faults` is at most `members`.
 ///
-/// It answers as `conflict` does for a committee of so many members and a model of so many faults.
+/// It returns what `conflict` does for a committee of `members` members and a model that tolerates
+/// `faults` of them.
 pub fn conflict_among<A: Allocator>(
     alloc: A,
     members: usize,
@@ -112,20 +128,20 @@ pub fn conflict_among<A: Allocator>(
     let second_signers = second.signers.as_slice();
     let quorum = members - faults as usize;
     check_signers(members, quorum, first_signers, second_signers)?;
-    match in_both(alloc, first_signers, second_signers) {
-        Ok(both) => Ok(Set::from_strict(both)),
-        Err(_) => Err(ConflictError::Memory),
-    }
+    let both = in_both(alloc, first_signers, second_signers)?;
+    Ok(Set::from_strict(both))
 }
 
 /// Refuses a signer of either list that is no member, and then a list shorter than a quorum. The
-/// committee has so many members.
+/// committee has `members` members, and the signers are strictly increasing.
 fn check_signers(
     members: usize,
     quorum: usize,
     first: &[Participant],
     second: &[Participant],
 ) -> Result<(), ConflictError>
+    requires first_strict { IsStrict ⟦<Participant as Ord>⟧.cmp first.now }
+    requires second_strict { IsStrict ⟦<Participant as Ord>⟧.cmp second.now }
     ensures outside { IsErrOf result Outside
         ↔ (HasOutsider members first.now ⊎ HasOutsider members second.now) }
     ensures too_few { IsErrOf result TooFew
@@ -143,15 +159,21 @@ fn check_signers(
     Ok(())
 }
 
-/// Whether a signer is at or past the committee's length, which is the number of its members.
+/// Whether a signer is at or past the committee's length, which is the number of its members. The
+/// signers are strictly increasing, so the last one decides.
 fn has_outsider(members: usize, signers: &[Participant]) -> bool
+    requires { IsStrict ⟦<Participant as Ord>⟧.cmp signers.now }
     ensures is_true { IsTrue result → HasOutsider members signers.now }
     ensures is_false { IsFalse result → AreMembers members signers.now }
 {
-    signers.iter().any(|signer| usize::from(*signer) >= members)
+    match signers.last() {
+        Some(last) => usize::from(*last) >= members,
+        None => false,
+    }
 }
 
-/// The participants in both of two lists, which are strict. Both are walked once, side by side.
+/// Returns the participants in both of two strictly increasing lists. Both are walked once, side by
+/// side.
 fn in_both<A: Allocator>(
     alloc: A,
     first: &[Participant],

@@ -1,5 +1,5 @@
-//! Certificates, which are values with the members of a committee that signed them, and the
-//! members that signed two different ones.
+//! Certificates, which are values with the members of a committee that signed them, and
+//! accountability: the members that signed two different ones (equivocation).
 #![tactic(auto)]
 
 mod certificate;

@@ -55,28 +55,28 @@ certificate_of alloc p w =
     let v = vec_of alloc p.0 w.0.short in
     (record { value = v.0; signers = p.1 }, λ i. (v.1 i, p.1))
 
--- no value begins another
+-- no encoding of a value is a proper prefix of another's
 value_prefix_free : IsPrefixFree (list_enc byte) (IsWritableList IsByte)
 value_prefix_free = list_prefix_free byte IsByte byte_prefix_free
 
--- no signers begin others
+-- no encoding of signers is a proper prefix of another's
 signers_prefix_free : IsPrefixFree (list_enc varint) (IsWritableSet IsWord nat_cmp)
 signers_prefix_free = set_prefix_free varint IsWord nat_cmp number_prefix_free
 
--- no certificate begins another
+-- no encoding of a certificate is a proper prefix of another's
 pub certificate_prefix_free : IsPrefixFree certificate_enc IsWritableCertificate
 certificate_prefix_free =
     sequence_prefix_free (list_enc byte) (IsWritableList IsByte) value_prefix_free
     (list_enc varint) (IsWritableSet IsWord nat_cmp) signers_prefix_free
 
--- what is written are bytes
+-- what is written is bytes
 pub certificate_bytes : (p : List ℕ × List ℕ) → IsWritableCertificate p → AreBytes (certificate_enc p)
 certificate_bytes =
     sequence_bytes (list_enc byte) (IsWritableList IsByte) value_prefix_free
     (list_enc varint) (IsWritableSet IsWord nat_cmp)
     (list_bytes byte IsByte (λ v h. (h, tt))) (λ s h. list_bytes varint IsWord varint_bytes s h.list)
 
--- certificates are equal exactly where their bytes are
+-- certificates are equal exactly where their encodings are
 pub certificate_canonical : CanonicalLaws certificate_enc IsWritableCertificate are_equal_parts
 certificate_canonical =
     sequence_canonical (list_enc byte) (IsWritableList IsByte) value_prefix_free
@@ -85,18 +85,18 @@ certificate_canonical =
     (set_canonical varint IsWord nat_cmp number_prefix_free nat_eq nat_cmp_total unsigned_ties number_canonical)
 
 module _ (value signers : Bounds ℕ) where
-  -- what is promised of the texts of values
+  -- the laws of the encodings of values
   value_laws : ReadLaws (list_enc byte) (IsWritableList IsByte) (IsAllowedValue value) (ValueFault value)
   value_laws = list_laws byte IsByte byte_prefix_free (λ _. Unit {0}) byte_fault value byte_laws
 
-  -- what is promised of the texts of signers
+  -- the laws of the encodings of signers
   signers_laws : ReadLaws (list_enc varint) (IsWritableSet IsWord nat_cmp) (AreAllowedSigners signers)
       (SignersFault signers)
   signers_laws =
       set_laws varint IsWord nat_cmp number_prefix_free nat_eq nat_cmp_total unsigned_ties number_canonical
       (λ _. Unit {0}) varint_fault signers varint_laws
 
-  -- what is promised of the texts of certificates
+  -- the laws of the encodings of certificates
   pub certificate_laws : ReadLaws certificate_enc IsWritableCertificate (IsAllowedCertificate value signers)
       (CertificateFault value signers)
   certificate_laws =
@@ -106,7 +106,7 @@ module _ (value signers : Bounds ℕ) where
       (λ _. AreAllowedSigners signers) (λ _. SignersFault signers) (λ _. signers_laws)
       (λ x z y _ _ _ h. h) (λ x z s f _ _ _ w. w)
 
-  -- two faults of a text are at one cut
+  -- two faults of an input are in one error case
   pub certificate_one_case : (s : List ℕ) (f g : Fault)
       (v : CertificateFault value signers s f) (w : CertificateFault value signers s g)
       → sequence_case v ≡ sequence_case w

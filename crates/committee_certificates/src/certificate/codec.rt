@@ -1,4 +1,4 @@
-//! The byte form of a certificate: its value as a list of bytes, and then its signers as a set.
+//! The encoding of a certificate: its value as a list of bytes, and then its signers as a set.
 ghost use Rattle.std.specs.Prelude.{◌≡◌, ℕ, List};
 ghost use Rattle.commonware_base.specs.Fault.{Fault};
 ghost use Rattle.commonware_base.specs.Sequence.{sequence_case};
@@ -64,21 +64,14 @@ impl<A: Allocator + Copy> Read<A> for Certificate<A> {
         (IsAllowedCertificate c.0 c.1) (CertificateFault c.0 c.1)
         (λ x w _. certificate_of alloc x w) (certificate_laws c.0 c.1) };
 
-    /// Reads the value as a list of bytes under the first range, and then the signers as a set
+    /// Decodes the value as a list of bytes under the first range, and then the signers as a set
     /// under the second.
     fn read_cfg(alloc: A, src: &mut Source<'_>, cfg: &Self::Cfg) -> Result<Certificate<A>, Error> {
         let mut here = *src;
-        let value = match read_list::<u8, A>(alloc, &mut here, cfg.0, &()) {
-            Ok(value) => value,
-            Err(error) => return Err(error),
-        };
-        match read_set::<Participant, A>(alloc, &mut here, cfg.1, &()) {
-            Ok(signers) => {
-                *src = here;
-                Ok(Certificate { value, signers })
-            }
-            Err(error) => Err(error),
-        }
+        let value = read_list::<u8, A>(alloc, &mut here, cfg.0, &())?;
+        let signers = read_set::<Participant, A>(alloc, &mut here, cfg.1, &())?;
+        *src = here;
+        Ok(Certificate { value, signers })
     }
 }
 
@@ -87,13 +80,13 @@ impl<A: Allocator> Canonical for Certificate<A> {
         certificate_canonical };
 }
 
-/// The cuts at which a text is no certificate exclude one another: no text has a fault of the
-/// value and one of the signers.
+/// The error cases in which an input is no certificate exclude one another: no input has a fault of
+/// the value and one of the signers.
 pub fn certificate_fault_law(value: RangeCfg<usize>, signers: RangeCfg<usize>)
     ensures { (s : List ℕ) (f g : Fault)
         (v : CertificateFault value signers s f) (w : CertificateFault value signers s g)
         → sequence_case v ≡ sequence_case w }
 {
-    // The contract alone speaks of them.
+    // They are named so that no parameter is unused: only the contract speaks of them.
     let _ = (value, signers);
 }

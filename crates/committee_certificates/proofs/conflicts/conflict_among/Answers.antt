@@ -1,4 +1,4 @@
--- The overlap of the committee's subsets, at the signers of both certificates.
+-- Quorum intersection at the signers of both certificates.
 use Rattle.std.proofs.Common.{length, ap, arith}
 use Rattle.committee_certificates.proofs.Members.{AreQuorumsAndBoth, both-many, both-leave}
 use Rattle.committee_certificates.proofs.conflicts.conflict_among.Goals as goal
@@ -13,7 +13,7 @@ quorums g c =
     let two = c.as_slice-second_signers.ensures.items in
     let members = rw (one, two) at c.in_ok-check_signers.ensures.members in
     let enough = c.in_ok-check_signers.ensures.enough in
-    let in_both = rw (one, two, ← c.from_strict.ensures) at c.in-Ok.ensures in
+    let in_both = rw (one, two, ← c.from_strict.ensures) at c.in_ok-both.ensures in
     record {
       first_strict = c.as_slice-first_signers.ensures.strict;
       second_strict = c.as_slice-second_signers.ensures.strict;
@@ -24,8 +24,8 @@ quorums g c =
       both = in_both;
     }
 
-pub returns-in-Ok-clause-shared : goal.returns-in-Ok-clause-shared
-returns-in-Ok-clause-shared g c = both-many (quorums g c)
+pub returns-clause-shared : goal.returns-clause-shared
+returns-clause-shared g c = both-many (quorums g c)
 
-pub returns-in-Ok-clause-leaves : goal.returns-in-Ok-clause-leaves
-returns-in-Ok-clause-leaves g c = both-leave (quorums g c)
+pub returns-clause-leaves : goal.returns-clause-leaves
+returns-clause-leaves g c = both-leave (quorums g c)
