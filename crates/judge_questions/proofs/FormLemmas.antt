@@ -30,7 +30,7 @@ place_in_forms NonEmptyU8 = 18
 place_in_forms NonEmptyNonEmptyU8 = 19
 place_in_forms Certificate = 20
 
--- it stands there
+-- it is at its place
 pub listed : (form : Form) → get_or all_forms (place_in_forms form) U8 ≡ form
 listed U8 = refl
 listed U32 = refl

@@ -1,5 +1,5 @@
 -- Hexadecimal digits after hexadecimal digits.
-use Rattle.std.proofs.Common.{◌≡◌, ℕ, ◌-◌, ◌<◌, ◌≤◌, List, [], ◌∷◌, ◌++◌, length, get_or, take, drop, arith, sym, ap}
+use Rattle.std.proofs.Common.{◌≡◌, ℕ, ◌+◌, ◌*◌, ◌-◌, ◌<◌, ◌≤◌, List, [], ◌∷◌, ◌++◌, length, length-append, get_or, take, drop, arith, refl, sym, subst, ap, ◌∙◌}
 use Rattle.std.proofs.lemmas.List.{take_rest}
 use Rattle.judge_questions.specs.Hex.{IsHex, IsHexByte, IsText}
 
@@ -20,7 +20,7 @@ hex_rest (d ∷ e ∷ done) rest [] all h w = absurd h
 hex_rest (d ∷ e ∷ done) rest (x ∷ bytes) [] h w = absurd w
 hex_rest (d ∷ e ∷ done) rest (x ∷ bytes) (y ∷ all) h w = hex_rest done rest bytes all h.1 w.1
 
--- a text that isn't `-` is digits
+-- a word that isn't `-` is digits
 pub text_is_hex : (word bytes : List ℕ) → (word ≡ 45 ∷ [] → ⊥) → IsText word bytes → IsHex word bytes
 text_is_hex word [] other h = absurd (other h)
 text_is_hex word (b ∷ bytes) other h = h
@@ -43,3 +43,18 @@ pub one_left : (rest bytes : List ℕ) → 1 ≤ length rest → length rest < 2
 one_left [] bytes some few h = omega arith
 one_left (a ∷ []) bytes some few h = absurd h
 one_left (a ∷ b ∷ rest) bytes some few h = omega arith
+
+-- two digits write each byte
+hex_length : (word bytes : List ℕ) → IsHex word bytes → length word ≡ 2 * length bytes
+hex_length [] [] h = refl
+hex_length [] (x ∷ bytes) h = absurd h
+hex_length (d ∷ []) bytes h = absurd h
+hex_length (d ∷ e ∷ word) [] h = absurd h
+hex_length (d ∷ e ∷ word) (x ∷ bytes) h = let more = hex_length word bytes h.1 in omega arith
+
+-- a word that writes more than 64 bytes
+pub long_hex : (word done rest bytes : List ℕ) → word ≡ done ++ rest → IsHex done bytes → 64 ≤ length bytes → 2 ≤ length rest → 128 < length word
+long_hex word done rest bytes split hex many two =
+    let whole : length word ≡ length done + length rest = ap length split ∙ length-append done rest in
+    let each = hex_length done bytes hex in
+    omega arith

@@ -1,4 +1,5 @@
 pub mod Digits
+pub mod Errors
 pub mod FormLemmas
 pub mod HexLemmas
 pub mod RangeLemmas

@@ -37,7 +37,7 @@ lower_digits : (word : List ℕ) (bound : Option ℕ) → IsLower word bound →
 lower_digits word (Some n) h = h.digits.1
 lower_digits word None h = subst (AllDigits 10) (sym h) tt
 
--- what follows the front of a list
+-- what follows the prefix of a list
 drop-append_seam : (xs ys : List ℕ) → drop (length xs) (xs ++ ys) ≡ ys
 drop-append_seam [] ys = refl
 drop-append_seam (x ∷ xs) ys = drop-append_seam xs ys

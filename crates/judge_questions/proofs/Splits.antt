@@ -1,4 +1,4 @@
--- A list that is cut at each element that passes a test, and the first place of such an element.
+-- A list that is split at each element that passes a test, and the first place of such an element.
 use Rattle.std.proofs.Common.{◌≡◌, ℕ, ◌+◌, ◌-◌, ◌≤◌, Bool, true, false, cond, not, List, [], ◌∷◌, length, take, drop, Some, None, position, refl, ap, sym, arith, ◌∙◌, nat_lt}
 use Rattle.std.specs.List.{onto_first, position_or_len, slice_split}
 use Rattle.std.proofs.lemmas.Bool.{ltb-true}
@@ -26,7 +26,7 @@ uncut : {X : Type 0} (p : X → Bool) (xs : List X) → length xs ≤ position_o
 uncut p [] h = refl
 uncut p (x ∷ xs) h = one_part (p x) (position_or_len p xs) x xs (slice_split p xs) h (uncut p xs)
 
--- cut at the place that `position` gives
+-- split at the place that `position` gives
 pub cut_at_place : (p : ℕ → Bool) (xs : List ℕ) (i : ℕ) → position p xs ≡ Some i → slice_split p xs ≡ take i xs ∷ slice_split p (drop (i + 1) xs)
 cut_at_place p xs i e =
     let (inside, is) = some_place (nat_lt (position_or_len p xs) (length xs)) (position_or_len p xs) i e in
@@ -36,7 +36,7 @@ cut_at_place p xs i e =
 pub cut_at_place_rest : (p : ℕ → Bool) (xs : List ℕ) (i : ℕ) → position p xs ≡ Some i → slice_split p xs ≡ take i xs ∷ slice_split p (take (length xs - (i + 1)) (drop (i + 1) xs))
 cut_at_place_rest p xs i e = cut_at_place p xs i e ∙ ap (λ rest. take i xs ∷ slice_split p rest) (sym (take_rest xs (i + 1)))
 
--- not cut where `position` gives none
+-- not split where `position` gives none
 pub cut_nowhere : (p : ℕ → Bool) (xs : List ℕ) → position p xs ≡ None → slice_split p xs ≡ xs ∷ []
 cut_nowhere p xs e =
     let outside : nat_lt (position_or_len p xs) (length xs) ≡ false = no_place (nat_lt (position_or_len p xs) (length xs)) (position_or_len p xs) e in

@@ -16,7 +16,7 @@ place_in_verbs Faults = 3
 place_in_verbs Refute = 4
 place_in_verbs Conflict = 5
 
--- it stands there
+-- it is at its place
 pub listed_verb : (verb : Verb) → get_or all_verbs (place_in_verbs verb) Build ≡ verb
 listed_verb Build = refl
 listed_verb BuildUnique = refl

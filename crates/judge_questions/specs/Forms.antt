@@ -57,7 +57,7 @@ lengths_of NonEmptyU8 = 1
 lengths_of NonEmptyNonEmptyU8 = 2
 lengths_of Certificate = 2
 
--- the ranges that a question gives for a type, a word each after a blank: what each is the range of
+-- the ranges that a question gives for a type, a word each after a space: what each is the range of
 abbrev pub ranges_of : Form → List ℕ
 ranges_of U8 = []
 ranges_of U32 = []

@@ -1,4 +1,4 @@
--- A line that asks what a text is, and what is wrong with a line that doesn't.
+-- A line that asks for a reading, and what is wrong with a line that doesn't.
 use Rattle.std.specs.Prelude.{◌≡◌, ◌≢◌, ℕ, List, [], ◌∷◌, ◌++◌, Option, Some, IfSome, length}
 use Rattle.judge_questions.specs.Forms.{lengths_of, name_of}
 use Rattle.judge_questions.specs.Hex.{IsText}
@@ -33,7 +33,7 @@ pub record AreLimits (form : Form) (words : List (List ℕ)) (limits : Limits) :
   pub ranges : AreRanges words limits
   pub fit : IsFit form limits
 
--- The first words write so many ranges, which are the result, and the others are left; where they write any, there is a
+-- The first `count` words write ranges, which are the result, and the others are left; where they write any, there is a
 -- result.
 abbrev pub ReadsRanges : ℕ → List (List ℕ) → Option Limits → List (List ℕ) → Type 0
 ReadsRanges count old result new =
@@ -42,7 +42,7 @@ ReadsRanges count old result new =
     × ((ranges more : List (List ℕ)) (limits : Limits) → length ranges ≡ count → AreRanges ranges limits
     → old ≡ ranges ++ more → result ≡ Some limits)
 
--- The line asks what a text is: its words are the name of a type, the ranges of that, and the bytes of the text.
+-- The line asks for a reading: its words are the name of a type, the ranges of that, and the bytes of the input.
 pub record IsQuestion (line : List ℕ) (form : Form) (limits : Limits) (text : List ℕ) : Type 0 where
   pub ranges : List (List ℕ)
   pub word : List ℕ

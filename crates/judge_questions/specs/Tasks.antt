@@ -1,4 +1,4 @@
--- A line that asks by a verb for something other than what a text is, and what is wrong with one that doesn't.
+-- A line that asks by a verb for something other than a reading, and what is wrong with one that doesn't.
 use Rattle.std.specs.Prelude.{◌≡◌, ◌≢◌, ◌⊎◌, ℕ, ◌<◌, ◌≤◌, ◌^◌, List, [], ◌∷◌, ◌++◌, Bool, true, false, Some, codes}
 use Rattle.judge_questions.specs.Collections.{collection_of, set_form_of}
 use Rattle.judge_questions.specs.Forms.{name_of}
@@ -62,7 +62,7 @@ AsksToRefute words k n f =
     (model : List ℕ) × (size : List ℕ) × (number : List ℕ) × (words ≡ model ∷ size ∷ number ∷ []) × IsModel model k
     × IsSize size n × IsNumber number f × (f ≤ n)
 
--- the words are a model, a number of members, and the bytes of two certificates
+-- the words are a model, a number of members, and the encodings of two certificates
 abbrev pub AsksForConflict : List (List ℕ) → ℕ → ℕ → List ℕ → List ℕ → Type 0
 AsksForConflict words k n one other =
     (model : List ℕ) × (size : List ℕ) × (first : List ℕ) × (second : List ℕ)
@@ -71,13 +71,13 @@ AsksForConflict words k n one other =
 
 -- the words after a verb ask for the task
 abbrev pub AsksFor : {A : Type 0} → Verb → List (List ℕ) → Task A → Type 0
-AsksFor Build words (tasks.Build collection unique text) = (unique ≡ false) × AsksToBuild words collection text.items
+AsksFor Build words (tasks.Build collection unique text) = (unique ≡ false) × AsksToBuild words collection text
 AsksFor BuildUnique words (tasks.Build collection unique text) =
-    (unique ≡ true) × AsksToBuild words collection text.items
-AsksFor Position words (tasks.Position set text item) = AsksForPosition words set text.items item.items
+    (unique ≡ true) × AsksToBuild words collection text
+AsksFor Position words (tasks.Position set text item) = AsksForPosition words set text item
 AsksFor Faults words (tasks.Faults k n) = AsksForFaults words k n
 AsksFor Refute words (tasks.Refute k n f) = AsksToRefute words k n f
-AsksFor Conflict words (tasks.Conflict k n one other) = AsksForConflict words k n one.items other.items
+AsksFor Conflict words (tasks.Conflict k n one other) = AsksForConflict words k n one other
 AsksFor _ words _ = ⊥
 
 -- the words don't begin with a model
@@ -89,7 +89,7 @@ abbrev pub LackAfterModel : List (List ℕ) → (List (List ℕ) → Type 0) →
 LackAfterModel words Lacks =
     (word : List ℕ) × (more : List (List ℕ)) × (k : ℕ) × (words ≡ word ∷ more) × IsModel word k × Lacks more
 
--- the words aren't the bytes of two texts
+-- the words aren't the bytes of two inputs
 abbrev pub LackTwoTexts : List (List ℕ) → Type 0
 LackTwoTexts words = (first second one other : List ℕ) → words ≡ first ∷ second ∷ [] → IsText first one
     → ¬ IsText second other

@@ -2,7 +2,7 @@
 ghost use Rattle.std.specs.Prelude.{◌≡◌, ◌≢◌, IfNone, IfSome};
 ghost use Rattle.judge_questions.specs.Forms.{lengths_of, name_of, ranges_of};
 
-/// A type that has a byte form, of which a text is judged.
+/// A type that has a canonical encoding, as whose encoding an input is judged.
 #[derive(Clone, Copy, PartialEq, Eq)]
 pub enum Form {
     U8,
@@ -83,7 +83,7 @@ impl Form {
         }
     }
 
-    /// What the ranges are that a question gives for the type, a word each after a blank.
+    /// What the ranges are that a question gives for the type, a word each after a space.
     pub fn ranges(self) -> &'static str
         ensures { result.now ≡ ranges_of self }
     {

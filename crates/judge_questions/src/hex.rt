@@ -1,25 +1,28 @@
 //! Bytes as hexadecimal digits.
-ghost use Rattle.std.specs.Prelude.{◌≡◌, ◌<◌, ◌≤◌, ℕ, List, Some, IfNone, IfOk, IfSome, MatchOption};
+ghost use Rattle.std.specs.Prelude.{◌≡◌, ◌<◌, ◌≤◌, ℕ, List, Some, length, IfErr, IfNone, IfOk, IfSome, MatchOption};
 ghost use Rattle.std.specs.Char.{digit_value};
 ghost use Rattle.judge_questions.specs.Hex.{IsHexByte, IsText};
 
+use crate::bytes::Bytes;
 use crate::words::are_same;
 use std::alloc::{AllocError, Allocator};
 
 /// The bytes that the word writes: two hexadecimal digits for each, of which letters may be lower
-/// or upper case, or `-` where there are none. The answer is `None` exactly where it writes none.
-pub fn read_text<A: Allocator>(alloc: A, word: &[u8]) -> Result<Option<Vec<u8, A>>, AllocError>
-    ensures { IfOk result (λ text. MatchOption text
+/// or upper case, or `-` where there are none. It returns `None` exactly where the word writes
+/// none. The error is an allocation failure, and comes only where the word has more than 128 bytes.
+pub fn read_text<A: Allocator>(alloc: A, word: &[u8]) -> Result<Option<Bytes<A>>, AllocError>
+    ensures read { IfOk result (λ text. MatchOption text
         ((bytes : List ℕ) → ¬ IsText word.now bytes)
-        (λ bytes. IsText word.now bytes.items)) }
+        (λ bytes. IsText word.now bytes)) }
+    ensures memory { IfErr result (λ _. 128 < length word.now) }
 {
     if are_same(word, b"-") {
-        return Ok(Some(Vec::new(alloc)));
+        return Ok(Some(Bytes::new(alloc)));
     }
     if word.is_empty() {
         return Ok(None);
     }
-    let mut bytes = Vec::with_capacity(alloc, word.len() / 2)?;
+    let mut bytes = Bytes::new(alloc);
     let mut rest = word;
     while let [high, low, after @ ..] = rest {
         let Some(byte) = read_byte(*high, *low) else {

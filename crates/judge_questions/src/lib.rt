@@ -1,7 +1,9 @@
-//! The questions of the program `judge`, as lines ask them: a type that has a byte form, a range
-//! for each of its lengths, and a text in hexadecimal digits; or a verb and what it asks about.
+//! The questions of the program `judge`, each of which is a line: a type that has a canonical
+//! encoding, a range for each of its lengths, and an input in hexadecimal digits; or a verb and
+//! what it is about.
 #![tactic(auto)]
 
+mod bytes;
 mod collection;
 mod form;
 mod hex;
@@ -13,6 +15,7 @@ mod task;
 mod verb;
 mod words;
 
+pub use bytes::Bytes;
 pub use collection::{Collection, SetForm};
 pub use form::{FORMS, Form};
 pub use hex::read_text;

@@ -45,7 +45,7 @@ impl Limit {
         Limit::new(None, Bound::Unbounded)
     }
 
-    /// Whether no bound is 0, as the length of a list that is never empty asks.
+    /// Whether no bound is 0, as the length of a list that is never empty requires.
     pub fn has_no_zero(self) -> bool
         ensures { IsTrue result ↔ HasNoZero self }
     {

@@ -7,7 +7,7 @@ use crate::ranges::read_number;
 use crate::words::{Words, are_same, strip};
 
 /// The resilience of the fault model that a word names: `n3f1` is 3, `n5f1` is 5, and `k=7` is 7.
-/// It is at least 2. The answer is `None` exactly where the word names none.
+/// It is at least 2. It returns `None` exactly where the word names none.
 pub fn read_model(word: &[u8]) -> Option<u32>
     ensures { MatchOption result ((k : ℕ) → ¬ IsModel word.now k) (IsModel word.now) }
 {
@@ -21,8 +21,8 @@ pub fn read_model(word: &[u8]) -> Option<u32>
     if k < 2 { None } else { Some(k) }
 }
 
-/// The number of members that a word writes, which is at least 1. The answer is `None` exactly
-/// where it writes none.
+/// The number of members that a word writes, which is at least 1. It returns `None` exactly where
+/// the word writes none.
 pub fn read_size(word: &[u8]) -> Option<u32>
     ensures { MatchOption result ((n : ℕ) → ¬ IsSize word.now n) (IsSize word.now) }
 {

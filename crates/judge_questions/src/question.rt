@@ -1,13 +1,15 @@
-//! A line that asks what a text is.
-ghost use Rattle.std.specs.Prelude.{◌≡◌, ◌≢◌, ◌≤◌, ◌∷◌, ◌++◌, [], ℕ, List, Some, length, IfOk, IfSome, MatchOption, MatchResult};
+//! A line that asks whether an input is the encoding of a value.
+ghost use Rattle.std.specs.Prelude.{◌≡◌, ◌≢◌, ◌≤◌, ◌∷◌, ◌++◌, [], ℕ, List, Some, length, IfOk, IfSome, IfErr, MatchOption, MatchResult};
 ghost use Rattle.commonware_base.specs.Range.{Bounds};
 ghost use Rattle.judge_questions.specs.Forms.{name_of};
 ghost use Rattle.judge_questions.specs.Hex.{IsText};
 ghost use Rattle.judge_questions.specs.Ranges.{IsRange};
 ghost use Rattle.judge_questions.specs.Questions.{AreLimits, IsQuestion, IsUnreadable, ReadsRanges};
+ghost use Rattle.judge_questions.specs.Words.{AreShort, words_of};
 ghost use Rattle.judge_questions.specs.declared.form.Form.{Form};
 ghost use Rattle.judge_questions.specs.declared.limits.Limits.{Limits};
 
+use crate::bytes::Bytes;
 use crate::form::{FORMS, Form};
 use crate::hex::read_text;
 use crate::limits::{Limit, Limits};
@@ -15,15 +17,15 @@ use crate::ranges::read_limit;
 use crate::words::{Words, are_same};
 use std::alloc::{AllocError, Allocator};
 
-/// What a line asks: what the text is as a value of a type under the ranges of its lengths.
+/// What a line asks: which value of a type the input begins with, under the ranges of its lengths.
 #[derive(Drop)]
 pub struct Question<A: Allocator> {
     /// The type.
     pub form: Form,
     /// The ranges.
     pub limits: Limits,
-    /// The text.
-    pub text: Vec<u8, A>,
+    /// The input.
+    pub text: Bytes<A>,
 }
 
 /// What of a line can't be read.
@@ -46,15 +48,16 @@ pub enum Unreadable {
 }
 
 /// The question that a line asks: a type's name, a range for each of its lengths, and the bytes of
-/// the text, each after one blank; or what of it can't be read. The error says that memory was
-/// refused.
+/// the input, each after one space; or what of it can't be read. The error is an allocation
+/// failure, and comes only where a word has more than 128 bytes.
 pub fn read_question<A: Allocator>(
     alloc: A,
     line: &[u8],
 ) -> Result<Result<Question<A>, Unreadable>, AllocError>
-    ensures { IfOk result (λ read. MatchResult read
-        (λ q. IsQuestion line.now q.form q.limits q.text.items)
+    ensures read { IfOk result (λ read. MatchResult read
+        (λ q. IsQuestion line.now q.form q.limits q.text)
         (IsUnreadable line.now)) }
+    ensures memory { IfErr result (λ _. ¬ AreShort (words_of line.now)) }
 {
     let mut words = Words::new(line);
     let Some(form) = next_form(&mut words) else {
@@ -104,7 +107,7 @@ fn next_limits(words: &mut Words<'_>, form: Form) -> Option<Limits>
     if limits.fit(form) { Some(limits) } else { None }
 }
 
-/// So many ranges that the next words write, of three at most.
+/// The ranges that the next `count` words write, which are at most three.
 fn next_ranges(words: &mut Words<'_>, count: usize) -> Option<Limits>
     requires { count ≤ 3 }
     ensures { ReadsRanges count words.old result words.new }
@@ -167,10 +170,11 @@ fn next_limit(words: &mut Words<'_>) -> Option<Limit>
 pub(crate) fn last_text<A: Allocator>(
     alloc: A,
     words: &mut Words<'_>,
-) -> Result<Option<Vec<u8, A>>, AllocError>
-    ensures { IfOk result (λ text. MatchOption text
+) -> Result<Option<Bytes<A>>, AllocError>
+    ensures read { IfOk result (λ text. MatchOption text
         ((word bytes : List ℕ) → words.old ≡ word ∷ [] → ¬ IsText word bytes)
-        (λ bytes. (word : List ℕ) × (words.old ≡ word ∷ []) × IsText word bytes.items)) }
+        (λ bytes. (word : List ℕ) × (words.old ≡ word ∷ []) × IsText word bytes)) }
+    ensures memory { IfErr result (λ _. ¬ AreShort words.old) }
 {
     let Some(word) = words.next() else {
         return Ok(None);

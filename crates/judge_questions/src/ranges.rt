@@ -9,8 +9,8 @@ use crate::words::{place_of, strip};
 use std::ops::Bound;
 
 /// The range that the word writes as Rust does: `..`, `a..`, `..b`, `..=b`, `a..b` or `a..=b`.
-/// Numbers are decimal digits and fit a `usize`. Zeros may lead. The answer is `None` exactly
-/// where it writes none.
+/// Numbers are decimal digits and fit a `usize`. Zeros may lead. It returns `None` exactly where
+/// the word writes none.
 pub fn read_limit(word: &[u8]) -> Option<Limit>
     ensures range { IfSome result (IsRange word.now) }
     ensures given { (range : Bounds ℕ) → IsRange word.now range → result ≡ Some range }

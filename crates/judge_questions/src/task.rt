@@ -1,5 +1,5 @@
 //! A line that asks by a verb.
-ghost use Rattle.std.specs.Prelude.{◌≡◌, ◌≢◌, ◌≤◌, ◌∷◌, [], ℕ, List, Some, IfOk, MatchOption, MatchResult};
+ghost use Rattle.std.specs.Prelude.{◌≡◌, ◌≢◌, ◌≤◌, ◌∷◌, [], ℕ, List, Some, IfErr, IfOk, MatchOption, MatchResult};
 ghost use Rattle.judge_questions.specs.Collections.{collection_of, set_form_of};
 ghost use Rattle.judge_questions.specs.Forms.{name_of};
 ghost use Rattle.judge_questions.specs.Hex.{IsText};
@@ -8,9 +8,11 @@ ghost use Rattle.judge_questions.specs.Tasks.{IsSize, LackTwoNumbers, build_verb
 ghost use Rattle.judge_questions.specs.Tasks.{LackBuild, LackConflict, LackFaults, LackPosition};
 ghost use Rattle.judge_questions.specs.Tasks.{LackRefute, LackTwoTexts, verb_name};
 ghost use Rattle.judge_questions.specs.Ranges.{IsNumber};
+ghost use Rattle.judge_questions.specs.Words.{AreShort, words_of};
 ghost use Rattle.judge_questions.specs.declared.form.Form.{Form};
 ghost use Rattle.judge_questions.specs.declared.verb.Verb.{Verb};
 
+use crate::bytes::Bytes;
 use crate::collection::{Collection, SetForm};
 use crate::hex::read_text;
 use crate::model::{next_model, next_size, read_u32};
@@ -22,17 +24,17 @@ use std::alloc::{AllocError, Allocator};
 /// What a line asks for by a verb.
 #[derive(Drop)]
 pub enum Task<A: Allocator> {
-    /// What a builder makes of the items that the text lists. `unique`: no two may be equal.
+    /// What a builder makes of the items that the input lists. `unique`: no two may be equal.
     Build {
         collection: Collection,
         unique: bool,
-        text: Vec<u8, A>,
+        text: Bytes<A>,
     },
-    /// Where the item stands in the set, both of which are texts.
+    /// The position of the item in the set, both of which are encodings.
     Position {
         set: SetForm,
-        text: Vec<u8, A>,
-        item: Vec<u8, A>,
+        text: Bytes<A>,
+        item: Bytes<A>,
     },
     /// The numbers of `n` members at a resilience `k`.
     Faults {
@@ -45,23 +47,25 @@ pub enum Task<A: Allocator> {
         n: u32,
         f: u32,
     },
-    /// Which of `n` members, at a resilience `k`, signed both certificates, which are texts.
+    /// Accountability: which of `n` members, at a resilience `k`, signed both certificates, which
+    /// are encodings.
     Conflict {
         k: u32,
         n: u32,
-        first: Vec<u8, A>,
-        second: Vec<u8, A>,
+        first: Bytes<A>,
+        second: Bytes<A>,
     },
 }
 
 /// What a line asks for by a verb, or what of it can't be read; and `None` where it begins with no
-/// verb. The error says that memory was refused.
+/// verb. The error is an allocation failure, and comes only where a word has more than 128 bytes.
 pub fn read_task<A: Allocator + Copy>(
     alloc: A,
     line: &[u8],
 ) -> Result<Option<Result<Task<A>, Unreadable>>, AllocError>
-    ensures { IfOk result (λ read. MatchOption read (HasNoVerb line.now)
+    ensures read { IfOk result (λ read. MatchOption read (HasNoVerb line.now)
         (λ task. MatchResult task (IsTask line.now) (IsUnreadableTask line.now))) }
+    ensures memory { IfErr result (λ _. ¬ AreShort (words_of line.now)) }
 {
     let mut words = Words::new(line);
     let Some(verb) = next_verb(&mut words) else {
@@ -85,8 +89,9 @@ fn read_words<A: Allocator + Copy>(
     words: &mut Words<'_>,
     verb: Verb,
 ) -> Result<Result<Task<A>, Unreadable>, AllocError>
-    ensures { IfOk result (λ read. MatchResult read (AsksFor verb words.old)
+    ensures read { IfOk result (λ read. MatchResult read (AsksFor verb words.old)
         (Lack verb words.old)) }
+    ensures memory { IfErr result (λ _. ¬ AreShort words.old) }
 {
     match verb {
         Verb::Build => read_build(alloc, words, false),
@@ -104,8 +109,9 @@ fn read_build<A: Allocator>(
     words: &mut Words<'_>,
     unique: bool,
 ) -> Result<Result<Task<A>, Unreadable>, AllocError>
-    ensures { IfOk result (λ read. MatchResult read (AsksFor (build_verb unique) words.old)
+    ensures read { IfOk result (λ read. MatchResult read (AsksFor (build_verb unique) words.old)
         (LackBuild words.old)) }
+    ensures memory { IfErr result (λ _. ¬ AreShort words.old) }
 {
     let Some(collection) = next_collection(words) else {
         return Ok(Err(Unreadable::Name));
@@ -134,8 +140,9 @@ fn read_position<A: Allocator + Copy>(
     alloc: A,
     words: &mut Words<'_>,
 ) -> Result<Result<Task<A>, Unreadable>, AllocError>
-    ensures { IfOk result (λ read. MatchResult read (AsksFor Verb.Position words.old)
+    ensures read { IfOk result (λ read. MatchResult read (AsksFor Verb.Position words.old)
         (LackPosition words.old)) }
+    ensures memory { IfErr result (λ _. ¬ AreShort words.old) }
 {
     let Some(set) = next_set(words) else {
         return Ok(Err(Unreadable::Name));
@@ -203,8 +210,9 @@ fn read_conflict<A: Allocator + Copy>(
     alloc: A,
     words: &mut Words<'_>,
 ) -> Result<Result<Task<A>, Unreadable>, AllocError>
-    ensures { IfOk result (λ read. MatchResult read (AsksFor Verb.Conflict words.old)
+    ensures read { IfOk result (λ read. MatchResult read (AsksFor Verb.Conflict words.old)
         (LackConflict words.old)) }
+    ensures memory { IfErr result (λ _. ¬ AreShort words.old) }
 {
     let Some(k) = next_model(words) else {
         return Ok(Err(Unreadable::Model));
@@ -227,10 +235,11 @@ fn read_conflict<A: Allocator + Copy>(
 fn two_texts<A: Allocator + Copy>(
     alloc: A,
     words: &mut Words<'_>,
-) -> Result<Option<(Vec<u8, A>, Vec<u8, A>)>, AllocError>
-    ensures { IfOk result (λ read. MatchOption read (LackTwoTexts words.old)
+) -> Result<Option<(Bytes<A>, Bytes<A>)>, AllocError>
+    ensures read { IfOk result (λ read. MatchOption read (LackTwoTexts words.old)
         (λ p. (first : List ℕ) × (second : List ℕ) × (words.old ≡ first ∷ second ∷ [])
-        × IsText first p.0.items × IsText second p.1.items)) }
+        × IsText first p.0 × IsText second p.1)) }
+    ensures memory { IfErr result (λ _. ¬ AreShort words.old) }
 {
     let Some(word) = words.next() else {
         return Ok(None);

@@ -1,24 +1,24 @@
-//! The words by which a line asks for something other than what a text is.
+//! The words by which a line asks for something other than a reading.
 ghost use Rattle.std.specs.Prelude.{◌≡◌, ◌≢◌, MatchOption};
 ghost use Rattle.judge_questions.specs.Tasks.{verb_name};
 ghost use Rattle.judge_questions.specs.declared.verb.Verb.{Verb};
 
 use crate::words::are_same;
 
-/// What a line asks for, where it doesn't ask what a text is.
+/// What a line asks for, where it doesn't ask for a reading.
 #[derive(Clone, Copy, PartialEq, Eq)]
 pub enum Verb {
     /// What a builder makes of items, of which equal ones count once.
     Build,
     /// What a builder makes of items, of which no two may be equal.
     BuildUnique,
-    /// Where an item stands in a set.
+    /// The position of an item in a set.
     Position,
     /// The numbers of a fault model.
     Faults,
-    /// Why so many faults aren't tolerated.
+    /// Why a number of faults isn't tolerated: a counterexample to the quorum intersection.
     Refute,
-    /// Who signed both of two certificates.
+    /// Accountability: who signed both of two certificates.
     Conflict,
 }
 

@@ -4,7 +4,7 @@ ghost use Rattle.judge_questions.specs.Words.{words_left, words_of};
 
 use std::marker::Model;
 
-/// The words of a line that are still to be read: what stands between its blanks.
+/// The words of a line that are still to be read: what is between its spaces.
 #[derive(Drop)]
 pub(crate) struct Words<'a> {
     rest: Option<&'a [u8]>,
@@ -47,19 +47,19 @@ impl<'a> Words<'a> {
     }
 }
 
-/// Where the byte first stands.
+/// The position of the first such byte.
 pub fn place_of(bytes: &[u8], byte: u8) -> Option<usize>
     ensures { result ≡ position (λ b. b == byte) bytes.now }
 {
     bytes.iter().position(|b| *b == byte)
 }
 
-/// What follows the front, where the bytes begin with it.
-pub(crate) fn strip<'a>(bytes: &'a [u8], front: &[u8]) -> Option<&'a [u8]>
-    ensures { MatchOption result ((rest : List ℕ) → bytes.now ≢ front.now ++ rest)
-        (λ rest. bytes.now ≡ front.now ++ rest.now) }
+/// What follows the prefix, where the bytes begin with it.
+pub(crate) fn strip<'a>(bytes: &'a [u8], prefix: &[u8]) -> Option<&'a [u8]>
+    ensures { MatchOption result ((rest : List ℕ) → bytes.now ≢ prefix.now ++ rest)
+        (λ rest. bytes.now ≡ prefix.now ++ rest.now) }
 {
-    bytes.strip_prefix(front)
+    bytes.strip_prefix(prefix)
 }
 
 /// Whether the bytes are these.

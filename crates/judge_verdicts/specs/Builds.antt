@@ -1,4 +1,4 @@
--- What the builders make of a text that lists items in any order, with repeats.
+-- What the builders make of an input that lists items in any order, with repeats.
 use Rattle.std.specs.Prelude.{◌≡◌, ◌⊎◌, ℕ, Bool, true, false, List, Result, Ok, Err, zip}
 use Rattle.std.specs.declared.cmp.Ordering.{Ordering}
 use Rattle.commonware_utils.specs.Codec.{Bounds, list_enc}
@@ -24,7 +24,7 @@ IsSetMade unique enc eq cmp items (Err DuplicateKey) = (unique ≡ true) × HasE
 IsSetMade unique enc eq cmp items (Err DuplicateValue) = ⊥
 IsSetMade unique enc eq cmp items (Err (Unread what)) = ⊥
 
--- what is built of the value whose bytes the text is, of which Made holds; or the text is that of none, for this reason
+-- what is built of the value whose encoding the input is, of which Made holds; or it is that of none, for this reason
 abbrev pub IsBuiltFrom : (r : Reading) → (r.Value → Result (List ℕ) NotBuilt → Type 0) → List ℕ
     → Result (List ℕ) NotBuilt → Type 0
 IsBuiltFrom r Made text (Ok bytes) = (value : r.Value) × IsWhole r text value × Made value (Ok bytes)
@@ -33,15 +33,15 @@ IsBuiltFrom r Made text (Err DuplicateValue) =
     (value : r.Value) × IsWhole r text value × Made value (Err DuplicateValue)
 IsBuiltFrom r Made text (Err (Unread what)) = IsMisread r text what
 
--- what is built as a set of items: the text lists them
+-- what is built as a set of items: the input lists them
 abbrev pub IsSetBuilt : Bool → Bounds ℕ → (item : Reading) → (item.Value → item.Value → Bool)
     → (item.Value → item.Value → Ordering) → List ℕ → Result (List ℕ) NotBuilt → Type 0
 IsSetBuilt unique range item eq cmp text built =
     IsBuiltFrom (list_of range item) (IsSetMade unique item.enc eq cmp) text built
 
--- memory is wanted to read the text, or to build what it lists
-abbrev pub WantsMemoryToBuild : Reading → List ℕ → Type 0
-WantsMemoryToBuild r text = (¬ r.MemoryFree text) ⊎ ((value : r.Value) × IsWhole r text value)
+-- an allocation may fail as the input is read, or as what it lists is built
+abbrev pub MayFailToAllocateToBuild : Reading → List ℕ → Type 0
+MayFailToAllocateToBuild r text = (¬ r.MemoryFree text) ⊎ ((value : r.Value) × IsWhole r text value)
 
 -- what is built of pairs as a map: of equal keys the first pair stays, or they are refused
 abbrev pub IsMapMade : {K V : Type 0} → Bool → (K → List ℕ) → (V → List ℕ) → (K → K → Bool) → (K → K → Ordering)
@@ -63,7 +63,7 @@ IsBiMapMade key_enc value_enc eq cmp value_eq pairs (Err DuplicateValue) =
     HasEqualValues value_eq pairs × (¬ HasEqualKeys eq pairs)
 IsBiMapMade key_enc value_enc eq cmp value_eq pairs (Err (Unread what)) = ⊥
 
--- what is built as a map: the text lists keys and then the value of each
+-- what is built as a map: the input lists keys and then the value of each
 abbrev pub IsMapBuilt : Bool → Bounds ℕ → (key value : Reading) → (key.Value → key.Value → Bool)
     → (key.Value → key.Value → Ordering) → List ℕ → Result (List ℕ) NotBuilt → Type 0
 IsMapBuilt unique range key value eq cmp text built =

@@ -12,7 +12,7 @@ use Rattle.judge_questions.specs.declared.collection.SetForm.{SetForm}
 use Rattle.judge_questions.specs.declared.collection.SetForm.TheVariants.{U8, U32, Participant, SetU8, NonEmptyU8}
 use Rattle.judge_verdicts.specs.Builds.{IsBiMapBuilt, IsMapBuilt, IsSetBuilt}
 use Rattle.judge_verdicts.specs.Columns.{columns_of}
-use Rattle.judge_verdicts.specs.Places.{IsFound, WantsMemoryToFind}
+use Rattle.judge_verdicts.specs.Places.{IsFound, MayFailToAllocateToFind}
 use Rattle.judge_verdicts.specs.Readings.{Reading, a_byte, a_varint, a_word, list_of, non_empty_of, set_of}
 use Rattle.judge_verdicts.specs.declared.places.Found.{Found}
 use Rattle.judge_verdicts.specs.declared.sets.NotBuilt.{NotBuilt}
@@ -38,7 +38,7 @@ lists_of MapU8U8 = columns_of full a_byte a_byte
 lists_of MapU8SetU8 = columns_of full a_byte (set_of full a_byte nat_cmp)
 lists_of BiMapU8U8 = columns_of full a_byte a_byte
 
--- what is built of the text as a collection. A bimap has no builder that drops repeats, so equal keys are refused
+-- what is built of the input as a collection. A bimap has no builder that drops repeats, so equal keys are refused
 abbrev pub IsBuilt : Collection → Bool → List ℕ → Result (List ℕ) NotBuilt → Type 0
 IsBuilt (collections.Set form) unique text built =
     IsSetBuilt unique full (key_of form).reading (key_of form).eq (key_of form).cmp text built
@@ -47,10 +47,10 @@ IsBuilt MapU8SetU8 unique text built =
     IsMapBuilt unique full a_byte (set_of full a_byte nat_cmp) nat_eq nat_cmp text built
 IsBuilt BiMapU8U8 unique text built = IsBiMapBuilt full a_byte a_byte nat_eq nat_cmp nat_eq text built
 
--- where the item stands in the set
+-- the position of the item in the set
 abbrev pub IsFoundIn : SetForm → List ℕ → List ℕ → Found → Type 0
 IsFoundIn form = IsFound full (key_of form).reading (key_of form).eq (key_of form).cmp
 
--- memory is wanted to read the set or the item
-abbrev pub WantsMemoryToFindIn : SetForm → List ℕ → List ℕ → Type 0
-WantsMemoryToFindIn form = WantsMemoryToFind full (key_of form).reading (key_of form).cmp
+-- an allocation may fail as the set or the item is read
+abbrev pub MayFailToAllocateToFindIn : SetForm → List ℕ → List ℕ → Type 0
+MayFailToAllocateToFindIn form = MayFailToAllocateToFind full (key_of form).reading (key_of form).cmp

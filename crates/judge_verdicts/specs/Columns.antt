@@ -1,4 +1,4 @@
--- A text that lists keys and then as many values.
+-- An input that lists keys and then as many values.
 use Rattle.std.specs.Prelude.{ℕ, List, length}
 use Rattle.commonware_utils.specs.Codec.{Bounds, exactly, list_enc, IsAllowedList, IsListMemoryFree, IsWritableList}
 use Rattle.commonware_utils.specs.Codec.{ListFault}

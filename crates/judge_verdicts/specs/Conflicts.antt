@@ -1,4 +1,4 @@
--- What two certificates, which are texts, say of who signed both.
+-- What two certificates, which are encodings, say of who signed both: accountability.
 use Rattle.std.specs.Prelude.{◌≡◌, ◌≢◌, ◌⊎◌, ℕ, List, Result, Ok, Err}
 use Rattle.committee_certificates.specs.Signers.{AreInBoth, AreMembers, AreQuorum, AreTooFew, HasOutsider}
 use Rattle.commonware_utils.specs.Codec.{list_enc, varint}
@@ -23,13 +23,13 @@ IsConflictOf k n one other (Err TooFew) =
     × (AreTooFew (λ _. faults) n one.1 ⊎ AreTooFew (λ _. faults) n other.1))
 IsConflictOf k n one other (Err (Unread what)) = ⊥
 
--- both texts are certificates, of which Says holds
+-- both inputs are certificates, of which Says holds
 abbrev pub AreBothRead : List ℕ → List ℕ → (List ℕ × List ℕ → List ℕ × List ℕ → Type 0) → Type 0
 AreBothRead first second Says =
     (one : List ℕ × List ℕ) × (other : List ℕ × List ℕ) × IsWhole (a_certificate full full) first one
     × IsWhole (a_certificate full full) second other × Says one other
 
--- what the texts of two certificates say; or one of them isn't read, the first before the second
+-- what the encodings of two certificates say; or one of them isn't read, the first before the second
 abbrev pub IsConflict : ℕ → ℕ → List ℕ → List ℕ → Result (List ℕ) NoConflict → Type 0
 IsConflict k n first second (Ok bytes) =
     AreBothRead first second (λ one other. IsConflictOf k n one other (Ok bytes))

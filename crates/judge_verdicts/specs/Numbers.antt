@@ -11,7 +11,7 @@ pub record AreNumbers (k n : ℕ) (numbers : FaultNumbers) : Type 0 where
   pub quorum : numbers.quorum ≡ n - numbers.faults
   pub smaller_quorum : LeastM n numbers.faults numbers.smaller_quorum
 
--- The first and the last n - f of n positions, and how many stand in both: fewer than (k - 2)f + 1, so f is too large.
+-- The first and the last n - f of n positions, and how many are in both: fewer than (k - 2)f + 1, so f is too large.
 pub record IsRefutation (k n f : ℕ) (r : Refutation) : Type 0 where
   pub first : (r.first.start ≡ 0) × (r.first.end ≡ n - f)
   pub second : (r.second.start ≡ f) × (r.second.end ≡ n)

@@ -1,4 +1,4 @@
--- Where an item stands in a set, both of which are texts.
+-- The position of an item in a set, both of which are encodings.
 use Rattle.std.specs.Prelude.{◌⊎◌, ℕ, Bool, None, List}
 use Rattle.std.specs.declared.cmp.Ordering.{Ordering}
 use Rattle.commonware_utils.specs.Codec.{Bounds}
@@ -10,7 +10,7 @@ use Rattle.judge_verdicts.specs.declared.places.Found.TheVariants.{At, Nowhere, 
 
 module _ (range : Bounds ℕ) (item : Reading) (eq : item.Value → item.Value → Bool)
     (cmp : item.Value → item.Value → Ordering) where
-  -- an item that equals the one asked stands at the place; or none does; or a text isn't read, the set's first
+  -- an item that equals the one asked for is at the place; or none does; or one of the two isn't read, the set first
   abbrev pub IsFound : List ℕ → List ℕ → Found → Type 0
   IsFound set_text item_text (At place) =
       (set : List item.Value) × (x : item.Value) × IsWhole (set_of range item cmp) set_text set
@@ -22,8 +22,8 @@ module _ (range : Bounds ℕ) (item : Reading) (eq : item.Value → item.Value �
       IsMisread (set_of range item cmp) set_text what
       ⊎ ((set : List item.Value) × IsWhole (set_of range item cmp) set_text set × IsMisread item item_text what)
 
--- memory is wanted to read the set, or to read the item
-abbrev pub WantsMemoryToFind : Bounds ℕ → (item : Reading) → (item.Value → item.Value → Ordering) → List ℕ → List ℕ
-    → Type 0
-WantsMemoryToFind range item cmp set_text item_text =
+-- an allocation may fail as the set is read, or as the item is
+abbrev pub MayFailToAllocateToFind : Bounds ℕ → (item : Reading) → (item.Value → item.Value → Ordering) → List ℕ
+    → List ℕ → Type 0
+MayFailToAllocateToFind range item cmp set_text item_text =
     (¬ (set_of range item cmp).MemoryFree set_text) ⊎ (¬ item.MemoryFree item_text)

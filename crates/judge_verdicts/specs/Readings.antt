@@ -1,4 +1,4 @@
--- What a text is read as: values, their bytes, which of them are read, and the first fault of every other text.
+-- What an input is read as: values, their encodings, which of them are read, and the first fault of every other input.
 use Rattle.std.specs.Prelude.{◌≡◌, ℕ, List, length, Bool, Result, Ok, Err, nat_eq}
 use Rattle.std.specs.Ordering.{nat_cmp}
 use Rattle.std.specs.Cmp.Lexicographic.{slice_cmp}
@@ -23,8 +23,8 @@ use Rattle.judge_questions.specs.declared.limits.Limits.{Limits}
 use Rattle.judge_verdicts.specs.declared.verdict.Verdict.{Verdict}
 use Rattle.judge_verdicts.specs.declared.verdict.Verdict.TheVariants.{Accepted, Refused}
 
--- What is read: the values and their bytes, which values have a byte form and which the limits allow, the first fault
--- of a text, the texts that are read or refused with no memory, and how many items a value has.
+-- What is read: the values and their encodings, which values have one and which the limits allow, the first fault of an
+-- input, the inputs that are read or refused with no memory, and how many items a value has.
 pub record Reading : Type 1 where
   pub Value : Type 0
   pub enc : Value → List ℕ
@@ -47,15 +47,15 @@ reading_by {V} bytes writable allowed fault free = record {
   items = λ _. 1;
 }
 
--- a verdict is right: the text begins with an allowed value that has so many items, and so many bytes follow it; or the
--- error names the first fault of the text, so it is no want of memory
+-- a verdict is right: the input begins with an allowed value of that number of items, which that number of bytes
+-- follows; or the error names the first fault of the input, so it isn't `Memory`
 abbrev pub IsVerdict : Reading → List ℕ → Verdict → Type 0
 IsVerdict r text (Accepted items left) =
     (value : r.Value) × (rest : List ℕ) × Accepts r.enc r.Writable r.Allowed text value rest × (items ≡ r.items value)
     × (left ≡ length rest)
 IsVerdict r text (Refused error) = Refuses (r.HasFault text) (Unit {0}) error
 
--- a right verdict is given, or memory was wanted, which it never is where the reading is memory-free
+-- a right verdict is given, or an allocation failed, which none does where the reading is memory-free
 abbrev pub IsJudged : {E : Type 0} → Reading → List ℕ → Result Verdict E → Type 0
 IsJudged r text (Ok verdict) = IsVerdict r text verdict
 IsJudged r text (Err e) = ¬ r.MemoryFree text
@@ -187,9 +187,8 @@ a_certificate value signers = record {
   items = λ parts. length parts.1;
 }
 
--- what a text is read as, by the type's name and the ranges of its lengths: numbers are ordered as such, and lists by
--- the
--- first item in which they differ
+-- what an input is read as, by the type's name and the ranges of its lengths: numbers are ordered as such, and lists by
+-- the first item in which they differ
 abbrev pub reading_of : Form → Limits → Reading
 reading_of U8 l = a_byte
 reading_of U32 l = a_word

@@ -1,8 +1,8 @@
 //! What is built and looked up, by the type's name.
 ghost use Rattle.std.specs.Prelude.{IfErr, IfOk};
 ghost use Rattle.judge_questions.specs.declared.collection.Collection.TheVariants as collections;
-ghost use Rattle.judge_verdicts.specs.Builds.{WantsMemoryToBuild};
-ghost use Rattle.judge_verdicts.specs.Collections.{IsBuilt, IsFoundIn, WantsMemoryToFindIn, lists_of};
+ghost use Rattle.judge_verdicts.specs.Builds.{MayFailToAllocateToBuild};
+ghost use Rattle.judge_verdicts.specs.Collections.{IsBuilt, IsFoundIn, MayFailToAllocateToFindIn, lists_of};
 ghost use Rattle.judge_verdicts.specs.Whole.{items_of};
 
 use crate::pairs::{build_bimap, build_map};
@@ -14,8 +14,8 @@ use commonware_utils::vec::NonEmptyVec;
 use judge_questions::{Collection, Limit, SetForm};
 use std::alloc::{AllocError, Allocator};
 
-/// What the builder of the type makes of the items that the text lists. `unique`: no two may be
-/// equal, as in a bimap none may in either case. The error says that memory was refused.
+/// What the builder of the type makes of the items that the input lists. `unique`: no two may be
+/// equal, as in a bimap none may in either case. The error is an allocation failure.
 pub fn build<A: Allocator + Copy>(
     alloc: A,
     collection: Collection,
@@ -23,7 +23,7 @@ pub fn build<A: Allocator + Copy>(
     text: &[u8],
 ) -> Result<Result<Vec<u8, A>, NotBuilt>, AllocError>
     ensures built { IfOk result (λ built. IsBuilt collection unique text.now (items_of built)) }
-    ensures memory { IfErr result (λ _. WantsMemoryToBuild (lists_of collection) text.now) }
+    ensures memory { IfErr result (λ _. MayFailToAllocateToBuild (lists_of collection) text.now) }
 {
     let all = Limit::full().range();
     match collection {
@@ -36,7 +36,7 @@ pub fn build<A: Allocator + Copy>(
     }
 }
 
-/// What the builder of sets makes of the items that the text lists.
+/// What the builder of sets makes of the items that the input lists.
 fn build_form<A: Allocator + Copy>(
     alloc: A,
     form: SetForm,
@@ -46,7 +46,7 @@ fn build_form<A: Allocator + Copy>(
     ensures built { IfOk result (λ built.
         IsBuilt (collections.Set form) unique text.now (items_of built)) }
     ensures memory { IfErr result (λ _.
-        WantsMemoryToBuild (lists_of (collections.Set form)) text.now) }
+        MayFailToAllocateToBuild (lists_of (collections.Set form)) text.now) }
 {
     let all = Limit::full().range();
     match form {
@@ -61,8 +61,9 @@ fn build_form<A: Allocator + Copy>(
     }
 }
 
-/// The position of the item in the set, each the whole of a text. What is wrong with the set comes
-/// first. The error says that memory was refused, which it can't be where both are read without.
+/// The position of the item in the set, each the whole of an input. What is wrong with the set
+/// comes first. The error is an allocation failure, and comes only where one of the two is read
+/// with memory.
 pub fn position<A: Allocator + Copy>(
     alloc: A,
     form: SetForm,
@@ -70,7 +71,7 @@ pub fn position<A: Allocator + Copy>(
     item: &[u8],
 ) -> Result<Found, AllocError>
     ensures found { IfOk result (IsFoundIn form set.now item.now) }
-    ensures memory { IfErr result (λ _. WantsMemoryToFindIn form set.now item.now) }
+    ensures memory { IfErr result (λ _. MayFailToAllocateToFindIn form set.now item.now) }
 {
     let all = Limit::full().range();
     match form {

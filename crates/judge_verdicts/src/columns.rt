@@ -1,4 +1,4 @@
-//! A text that lists keys and then as many values, in any order.
+//! An input that lists keys and then as many values, in any order.
 ghost use Rattle.std.specs.Prelude.{◌≡◌, IfErr, IfOk, MatchResult, zip};
 ghost use Rattle.commonware_utils.specs.Codec.{Accepts, IsListMemoryFree, Refuses, rest_of};
 ghost use Rattle.judge_verdicts.specs.Columns.{columns_of};
@@ -9,8 +9,8 @@ use crate::whole::Misread;
 use commonware_base::codec::{Error, RangeCfg, Read, Source, read_list};
 use std::alloc::{AllocError, Allocator};
 
-/// The keys and the values that the text lists, or why it lists none. The error says that memory
-/// was refused, which it can't be where the reading is memory-free.
+/// The keys and the values that the input lists, or why it lists none. The error is an allocation
+/// failure, and comes only where the reading isn't memory-free.
 pub(crate) fn read_columns<K: Read<A> + Drop, V: Read<A> + Drop, A: Allocator + Copy>(
     alloc: A,
     text: &[u8],
@@ -59,14 +59,9 @@ fn next_columns<K: Read<A> + Drop, V: Read<A> + Drop, A: Allocator + Copy>(
         IfErr result (Refuses (columns.HasFault (rest_of source.old))
         (columns.MemoryFree (rest_of source.old))) }
 {
-    let keys = match read_list::<K, A>(alloc, source, cfg.0, &cfg.1) {
-        Ok(keys) => keys,
-        Err(error) => return Err(error),
-    };
-    match read_list::<V, A>(alloc, source, RangeCfg::exact(keys.len()), &cfg.2) {
-        Ok(values) => Ok((keys, values)),
-        Err(error) => Err(error),
-    }
+    let keys = read_list::<K, A>(alloc, source, cfg.0, &cfg.1)?;
+    let values = read_list::<V, A>(alloc, source, RangeCfg::exact(keys.len()), &cfg.2)?;
+    Ok((keys, values))
 }
 
 /// The keys, each with the value at its position.

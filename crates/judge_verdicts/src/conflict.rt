@@ -1,4 +1,4 @@
-//! The members that signed both of two certificates.
+//! Accountability: the members that signed both of two certificates.
 ghost use Rattle.std.specs.Prelude.{◌≤◌, IfOk, MatchResult};
 ghost use Rattle.std.specs.Ordering.{nat_cmp};
 ghost use Rattle.committee_certificates.specs.Certificates.{parts};
@@ -16,7 +16,7 @@ use commonware_utils::faults::tolerated_faults;
 use judge_questions::Limit;
 use std::alloc::{AllocError, Allocator};
 
-/// Why two certificates, which are texts, name no members that signed both.
+/// Why two certificates, which are encodings, name no members that signed both.
 #[derive(PartialEq, Eq, Drop)]
 pub enum NoConflict {
     /// Both are for one value.
@@ -25,13 +25,13 @@ pub enum NoConflict {
     Outside,
     /// All signers are members, and fewer than a quorum signed one of them.
     TooFew,
-    /// A text is no certificate.
+    /// An input is no certificate.
     Unread(Misread),
 }
 
 /// The bytes of the set of the members of a committee of `n`, at a resilience `k`, that signed both
 /// of two certificates for different values, or why there are none. What is wrong with the first
-/// comes first. The error says that memory was refused. `k` is at least 2 and `n` at least 1.
+/// comes first. The error is an allocation failure. `k` is at least 2 and `n` at least 1.
 pub fn conflict_of<A: Allocator + Copy>(
     alloc: A,
     k: u32,
@@ -54,7 +54,7 @@ pub fn conflict_of<A: Allocator + Copy>(
     }
 }
 
-/// The certificate that the text is, or why it is none.
+/// The certificate whose encoding the input is, or why it is that of none.
 fn read_certificate<A: Allocator + Copy>(
     alloc: A,
     text: &[u8],

@@ -1,9 +1,9 @@
-//! What a text is as a value of a type.
+//! Which value of a type an input begins with.
 ghost use Rattle.std.specs.Prelude.{◌≡◌};
 ghost use Rattle.judge_questions.specs.Questions.{IsFit};
 ghost use Rattle.judge_verdicts.specs.Readings.{IsJudged, Reading, reading_of};
 
-use crate::counted::Counted;
+use crate::count_items::CountItems;
 use crate::verdict::Verdict;
 use committee_certificates::Certificate;
 use commonware_utils::Participant;
@@ -13,10 +13,10 @@ use commonware_utils::vec::NonEmptyVec;
 use judge_questions::{Form, Limits};
 use std::alloc::{AllocError, Allocator};
 
-/// What the text is as a value of the type under a configuration: the number of items of the value
-/// that its bytes begin with and how many bytes follow, or its first fault. The error says that
-/// memory was refused, which it can't be where the reading is memory-free.
-pub fn judge_as<T: Read<A> + Counted + Drop, A: Allocator>(
+/// What a reader of the type makes of the input under a configuration: the number of items of the
+/// value that its bytes begin with and how many bytes follow, or its first fault. The error is an
+/// allocation failure, and comes only where the reading isn't memory-free.
+pub fn judge_as<T: Read<A> + CountItems + Drop, A: Allocator>(
     alloc: A,
     text: &[u8],
     cfg: &T::Cfg,
@@ -42,7 +42,8 @@ pub fn judge_as<T: Read<A> + Counted + Drop, A: Allocator>(
     }
 }
 
-/// What the text is as a value of the type that the form names, under the ranges of its lengths.
+/// What a reader of the type that the form names makes of the input, under the ranges of its
+/// lengths.
 /// No bound of a list that is never empty is 0.
 pub fn judge<A: Allocator + Copy>(
     alloc: A,

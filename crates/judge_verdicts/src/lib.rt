@@ -1,12 +1,12 @@
-//! What the oracle says: what a text is as a value of a type, what a builder makes of items in any
-//! order, where an item stands, the numbers of a fault model, and who signed two certificates. Each
-//! verdict is a theorem of the library's own clauses.
+//! What the oracle says: which value of a type an input begins with, what a builder makes of items
+//! in any order, the position of an item, the numbers of a fault model, and who signed two
+//! certificates. Each verdict is a theorem of the library's own clauses.
 #![tactic(auto)]
 
 mod collections;
 mod columns;
 mod conflict;
-mod counted;
+mod count_items;
 mod judgement;
 mod numbers;
 mod pairs;
@@ -17,7 +17,7 @@ mod whole;
 
 pub use collections::{build, position};
 pub use conflict::{NoConflict, conflict_of};
-pub use counted::Counted;
+pub use count_items::CountItems;
 pub use judgement::{judge, judge_as};
 pub use numbers::{FaultNumbers, Refutation, fault_numbers, refute};
 pub use pairs::{build_bimap, build_map};

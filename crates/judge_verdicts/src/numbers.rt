@@ -39,7 +39,7 @@ pub struct Refutation {
     pub first: Range<u32>,
     /// The last of the positions.
     pub second: Range<u32>,
-    /// How many positions stand in both.
+    /// How many positions are in both.
     pub shared: u32,
     /// How many would have to.
     pub needed: u64,

@@ -3,7 +3,7 @@ ghost use Rattle.std.specs.Prelude.{◌≡◌, IfErr, IfOk, length, zip};
 ghost use Rattle.commonware_utils.specs.Codec.{IsWritableList};
 ghost use Rattle.commonware_utils.specs.Ordered.{IsDedup, on_keys};
 ghost use Rattle.judge_verdicts.specs.Builds.{IsBiMapBuilt, IsBiMapMade, IsMapBuilt, IsMapMade};
-ghost use Rattle.judge_verdicts.specs.Builds.{WantsMemoryToBuild};
+ghost use Rattle.judge_verdicts.specs.Builds.{MayFailToAllocateToBuild};
 ghost use Rattle.judge_verdicts.specs.Columns.{columns_of};
 ghost use Rattle.judge_verdicts.specs.Readings.{reading_by};
 ghost use Rattle.judge_verdicts.specs.Whole.{items_of};
@@ -15,9 +15,9 @@ use commonware_utils::ordered::{BiMap, Error, Map};
 use std::alloc::{AllocError, Allocator};
 use std::hash::Hash;
 
-/// The bytes of the map of the pairs that the text lists in any order, the keys and then the
-/// values: of equal keys the first pair stays, or they are refused. The error says that memory was
-/// refused.
+/// The bytes of the map of the pairs that the input lists in any order, the keys and then the
+/// values: of equal keys the first pair stays, or they are refused. The error is an allocation
+/// failure.
 pub fn build_map<K, V, A: Allocator + Copy>(
     alloc: A,
     unique: bool,
@@ -36,7 +36,7 @@ where
         (K.fault cfg.now.1) (K.memory_free cfg.now.1) in
         let value = reading_by V.enc V.writable (V.allowed cfg.now.2)
         (V.fault cfg.now.2) (V.memory_free cfg.now.2) in IfErr result (λ _.
-        WantsMemoryToBuild (columns_of cfg.now.0 key value) text.now) }
+        MayFailToAllocateToBuild (columns_of cfg.now.0 key value) text.now) }
 {
     match read_columns::<K, V, A>(alloc, text, cfg)? {
         Ok((keys, values)) => make_map(alloc, unique, pairs_of(alloc, keys, values)?),
@@ -76,8 +76,8 @@ fn dedup_map<K: Ord + Drop, V: Drop, A: Allocator + Copy>(
     Map::from_iter_dedup(alloc, pairs)
 }
 
-/// The bytes of the bimap of the pairs that the text lists in any order, the keys and then the
-/// values: equal keys are refused, and then equal values. The error says that memory was refused.
+/// The bytes of the bimap of the pairs that the input lists in any order, the keys and then the
+/// values: equal keys are refused, and then equal values. The error is an allocation failure.
 pub fn build_bimap<K, V, A: Allocator + Copy>(
     alloc: A,
     text: &[u8],
@@ -95,7 +95,7 @@ where
         (K.fault cfg.now.1) (K.memory_free cfg.now.1) in
         let value = reading_by V.enc V.writable (V.allowed cfg.now.2)
         (V.fault cfg.now.2) (V.memory_free cfg.now.2) in IfErr result (λ _.
-        WantsMemoryToBuild (columns_of cfg.now.0 key value) text.now) }
+        MayFailToAllocateToBuild (columns_of cfg.now.0 key value) text.now) }
 {
     match read_columns::<K, V, A>(alloc, text, cfg)? {
         Ok((keys, values)) => make_bimap(alloc, pairs_of(alloc, keys, values)?),

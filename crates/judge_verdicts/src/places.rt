@@ -1,6 +1,6 @@
-//! Where an item stands in a set.
+//! The position of an item in a set.
 ghost use Rattle.std.specs.Prelude.{◌≡◌, IfErr, IfOk};
-ghost use Rattle.judge_verdicts.specs.Places.{IsFound, WantsMemoryToFind};
+ghost use Rattle.judge_verdicts.specs.Places.{IsFound, MayFailToAllocateToFind};
 ghost use Rattle.judge_verdicts.specs.Readings.{reading_by};
 
 use crate::whole::{Misread, read_whole};
@@ -8,19 +8,20 @@ use commonware_utils::codec::{Canonical, RangeCfg, Read};
 use commonware_utils::ordered::Set;
 use std::alloc::{AllocError, Allocator};
 
-/// Where an item stands in a set, both of which are texts.
+/// The position of an item in a set, both of which are encodings.
 #[derive(PartialEq, Eq, Drop)]
 pub enum Found {
     /// At this position.
     At(usize),
     /// Nowhere.
     Nowhere,
-    /// The first text is no set of such items, or the second is no such item.
+    /// The first input is no set of such items, or the second is no such item.
     Unread(Misread),
 }
 
-/// The position of the item in the set, each the whole of a text. What is wrong with the set comes
-/// first. The error says that memory was refused, which it can't be where both are read without.
+/// The position of the item in the set, each the whole of an input. What is wrong with the set
+/// comes first. The error is an allocation failure, and comes only where one of the two is read
+/// with memory.
 pub fn position_as<T: Ord + Canonical + Read<A> + Drop, A: Allocator + Copy>(
     alloc: A,
     set: &[u8],
@@ -32,7 +33,7 @@ pub fn position_as<T: Ord + Canonical + Read<A> + Drop, A: Allocator + Copy>(
         IfOk result (IsFound cfg.now.0 reading T.eq T.cmp set.now item.now) }
     ensures memory { let reading = reading_by T.enc T.writable (T.allowed cfg.now.1)
         (T.fault cfg.now.1) (T.memory_free cfg.now.1) in
-        IfErr result (λ _. WantsMemoryToFind cfg.now.0 reading T.cmp set.now item.now) }
+        IfErr result (λ _. MayFailToAllocateToFind cfg.now.0 reading T.cmp set.now item.now) }
 {
     let held = match read_whole::<Set<T, A>, A>(alloc, set, cfg)? {
         Ok(held) => held,

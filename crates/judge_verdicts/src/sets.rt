@@ -2,7 +2,7 @@
 ghost use Rattle.std.specs.Prelude.{◌≡◌, IfErr, IfOk};
 ghost use Rattle.commonware_utils.specs.Codec.{IsWritableList};
 ghost use Rattle.commonware_utils.specs.Ordered.{IsDedup};
-ghost use Rattle.judge_verdicts.specs.Builds.{IsSetBuilt, IsSetMade, WantsMemoryToBuild};
+ghost use Rattle.judge_verdicts.specs.Builds.{IsSetBuilt, IsSetMade, MayFailToAllocateToBuild};
 ghost use Rattle.judge_verdicts.specs.Readings.{list_of, reading_by};
 ghost use Rattle.judge_verdicts.specs.Whole.{items_of};
 
@@ -11,19 +11,19 @@ use commonware_utils::codec::{RangeCfg, Read, Write};
 use commonware_utils::ordered::{Error, Set};
 use std::alloc::{AllocError, Allocator};
 
-/// Why a builder makes nothing of a text that lists items.
+/// Why a builder makes nothing of an input that lists items.
 #[derive(PartialEq, Eq, Drop)]
 pub enum NotBuilt {
     /// Two items of a set, or two keys, are equal.
     DuplicateKey,
     /// No two keys are equal, and two values are.
     DuplicateValue,
-    /// The text is no list of such items.
+    /// The input is no list of such items.
     Unread(Misread),
 }
 
-/// The bytes of the set of the items that the text lists in any order: of equal ones the first
-/// stays, or they are refused. The error says that memory was refused.
+/// The bytes of the set of the items that the input lists in any order: of equal ones the first
+/// stays, or they are refused. The error is an allocation failure.
 pub fn build_set<T: Ord + Read<A> + Write<A> + Drop, A: Allocator + Copy>(
     alloc: A,
     unique: bool,
@@ -33,15 +33,9 @@ pub fn build_set<T: Ord + Read<A> + Write<A> + Drop, A: Allocator + Copy>(
     ensures built { let reading = reading_by T.enc T.writable (T.allowed cfg.now.1)
         (T.fault cfg.now.1) (T.memory_free cfg.now.1) in IfOk result (λ built.
         IsSetBuilt unique cfg.now.0 reading T.eq T.cmp text.now (items_of built)) }
-    ensures memory { IfErr result (λ _. WantsMemoryToBuild (list_of cfg.now.0 (record {
-      Value = T;
-      enc = T.enc;
-      Writable = T.writable;
-      Allowed = T.allowed cfg.now.1;
-      HasFault = T.fault cfg.now.1;
-      MemoryFree = T.memory_free cfg.now.1;
-      items = λ _. 1;
-    })) text.now) }
+    ensures memory { let reading = reading_by T.enc T.writable (T.allowed cfg.now.1)
+        (T.fault cfg.now.1) (T.memory_free cfg.now.1) in
+        IfErr result (λ _. MayFailToAllocateToBuild (list_of cfg.now.0 reading) text.now) }
 {
     match read_whole::<Vec<T, A>, A>(alloc, text, cfg)? {
         Ok(items) => make_set(alloc, unique, items),

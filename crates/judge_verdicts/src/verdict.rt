@@ -1,13 +1,13 @@
-//! What is said of a text.
+//! What is said of an input.
 
 use commonware_utils::codec::Error;
 
-/// What a text is as a value of a type.
+/// Which value of a type an input begins with.
 #[derive(PartialEq, Eq, Drop)]
 pub enum Verdict {
-    /// It begins with the bytes of a value that the limits allow: so many items, and so many bytes
-    /// after the value. A number counts as one item, and a pair of a map as one.
+    /// It begins with the encoding of a value that the limits allow, which has `items` items, and
+    /// `left` bytes follow. A number counts as one item, and a pair of a map as one.
     Accepted { items: usize, left: usize },
-    /// It doesn't, and this is its first fault. It is never want of memory.
+    /// It doesn't, and this is its first fault. It is never `Memory`.
     Refused(Error),
 }

@@ -1,4 +1,4 @@
-//! A text that is one whole value.
+//! An input that is the encoding of one value.
 ghost use Rattle.std.specs.Prelude.{◌≡◌, IfErr, IfOk, MatchResult};
 ghost use Rattle.judge_verdicts.specs.Readings.{reading_by};
 ghost use Rattle.judge_verdicts.specs.Whole.{IsMisread, IsWhole};
@@ -6,18 +6,17 @@ ghost use Rattle.judge_verdicts.specs.Whole.{IsMisread, IsWhole};
 use commonware_utils::codec::{Error, Read, Source};
 use std::alloc::{AllocError, Allocator};
 
-/// Why a text is not the bytes of one value.
+/// Why an input is not the encoding of one value.
 #[derive(PartialEq, Eq, Drop)]
 pub enum Misread {
-    /// It doesn't begin with those of a value, and this is its first fault. It is never want of
-    /// memory.
+    /// It doesn't begin with that of a value, and this is its first fault. It is never `Memory`.
     Fault(Error),
-    /// It begins with them, and so many bytes follow.
+    /// It begins with one, and this many bytes follow.
     LeftOver(usize),
 }
 
-/// The value whose bytes the text is, or why it is that of none. The error says that memory was
-/// refused, which it can't be where the reading is memory-free.
+/// The value whose encoding the input is, or why it is that of none. The error is an allocation
+/// failure, and comes only where the reading isn't memory-free.
 pub fn read_whole<T: Read<A> + Drop, A: Allocator>(
     alloc: A,
     text: &[u8],

@@ -3,7 +3,7 @@ use Rattle.std.specs.Prelude.{IfErr, IfOk, nat_eq}
 use Rattle.std.specs.Ordering.{nat_cmp}
 use Rattle.commonware_utils.specs.Codec.{Bounds}
 use Rattle.judge_questions.specs.Limits.{full}
-use Rattle.judge_verdicts.specs.Builds.{IsBiMapBuilt, IsMapBuilt, WantsMemoryToBuild}
+use Rattle.judge_verdicts.specs.Builds.{IsBiMapBuilt, IsMapBuilt, MayFailToAllocateToBuild}
 use Rattle.judge_verdicts.specs.Collections.{IsBuilt, lists_of}
 use Rattle.judge_verdicts.specs.Columns.{columns_of}
 use Rattle.judge_verdicts.specs.Readings.{a_byte, set_of}
@@ -12,7 +12,7 @@ use Rattle.judge_verdicts.proofs.collections.build.Goals as goal
 
 pub returns-in-Set-clause-memory : goal.returns-in-Set-clause-memory
 returns-in-Set-clause-memory g c =
-    subst (λ collection. IfErr c.build_form.result (λ _. WantsMemoryToBuild (lists_of collection) c.args.text.now)) (sym c.in-Set.is) c.build_form.ensures.memory
+    subst (λ collection. IfErr c.build_form.result (λ _. MayFailToAllocateToBuild (lists_of collection) c.args.text.now)) (sym c.in-Set.is) c.build_form.ensures.memory
 
 pub returns-in-MapU8U8-clause-built : goal.returns-in-MapU8U8-clause-built
 returns-in-MapU8U8-clause-built g c =
@@ -22,7 +22,7 @@ returns-in-MapU8U8-clause-built g c =
 pub returns-in-MapU8U8-clause-memory : goal.returns-in-MapU8U8-clause-memory
 returns-in-MapU8U8-clause-memory g c =
     let all : c.range-all.result ≡ full = c.range-all.ensures ∙ c.full.ensures in
-    subst (λ collection. IfErr c.build_map.result (λ _. WantsMemoryToBuild (lists_of collection) c.args.text.now)) (sym c.in-MapU8U8.is) (subst (λ (r : Bounds ℕ). IfErr c.build_map.result (λ _. WantsMemoryToBuild (columns_of r a_byte a_byte) c.args.text.now)) all c.build_map.ensures.memory)
+    subst (λ collection. IfErr c.build_map.result (λ _. MayFailToAllocateToBuild (lists_of collection) c.args.text.now)) (sym c.in-MapU8U8.is) (subst (λ (r : Bounds ℕ). IfErr c.build_map.result (λ _. MayFailToAllocateToBuild (columns_of r a_byte a_byte) c.args.text.now)) all c.build_map.ensures.memory)
 
 pub returns-in-MapU8SetU8-clause-built : goal.returns-in-MapU8SetU8-clause-built
 returns-in-MapU8SetU8-clause-built g c =
@@ -32,7 +32,7 @@ returns-in-MapU8SetU8-clause-built g c =
 pub returns-in-MapU8SetU8-clause-memory : goal.returns-in-MapU8SetU8-clause-memory
 returns-in-MapU8SetU8-clause-memory g c =
     let all : c.range-all.result ≡ full = c.range-all.ensures ∙ c.full.ensures in
-    subst (λ collection. IfErr c.build_map-in-MapU8SetU8.result (λ _. WantsMemoryToBuild (lists_of collection) c.args.text.now)) (sym c.in-MapU8SetU8.is) (subst (λ (r : Bounds ℕ). IfErr c.build_map-in-MapU8SetU8.result (λ _. WantsMemoryToBuild (columns_of r a_byte (set_of r a_byte nat_cmp)) c.args.text.now)) all c.build_map-in-MapU8SetU8.ensures.memory)
+    subst (λ collection. IfErr c.build_map-in-MapU8SetU8.result (λ _. MayFailToAllocateToBuild (lists_of collection) c.args.text.now)) (sym c.in-MapU8SetU8.is) (subst (λ (r : Bounds ℕ). IfErr c.build_map-in-MapU8SetU8.result (λ _. MayFailToAllocateToBuild (columns_of r a_byte (set_of r a_byte nat_cmp)) c.args.text.now)) all c.build_map-in-MapU8SetU8.ensures.memory)
 
 pub returns-in-BiMapU8U8-clause-built : goal.returns-in-BiMapU8U8-clause-built
 returns-in-BiMapU8U8-clause-built g c =
@@ -42,4 +42,4 @@ returns-in-BiMapU8U8-clause-built g c =
 pub returns-in-BiMapU8U8-clause-memory : goal.returns-in-BiMapU8U8-clause-memory
 returns-in-BiMapU8U8-clause-memory g c =
     let all : c.range-all.result ≡ full = c.range-all.ensures ∙ c.full.ensures in
-    subst (λ collection. IfErr c.build_bimap.result (λ _. WantsMemoryToBuild (lists_of collection) c.args.text.now)) (sym c.in-BiMapU8U8.is) (subst (λ (r : Bounds ℕ). IfErr c.build_bimap.result (λ _. WantsMemoryToBuild (columns_of r a_byte a_byte) c.args.text.now)) all c.build_bimap.ensures.memory)
+    subst (λ collection. IfErr c.build_bimap.result (λ _. MayFailToAllocateToBuild (lists_of collection) c.args.text.now)) (sym c.in-BiMapU8U8.is) (subst (λ (r : Bounds ℕ). IfErr c.build_bimap.result (λ _. MayFailToAllocateToBuild (columns_of r a_byte a_byte) c.args.text.now)) all c.build_bimap.ensures.memory)

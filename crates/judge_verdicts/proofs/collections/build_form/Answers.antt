@@ -5,7 +5,7 @@ use Rattle.std.specs.Ordering.{nat_cmp}
 use Rattle.commonware_utils.specs.Codec.{Bounds, as_numbers}
 use Rattle.judge_questions.specs.Limits.{full}
 use Rattle.judge_questions.specs.declared.collection.Collection.TheVariants as collections
-use Rattle.judge_verdicts.specs.Builds.{IsSetBuilt, WantsMemoryToBuild}
+use Rattle.judge_verdicts.specs.Builds.{IsSetBuilt, MayFailToAllocateToBuild}
 use Rattle.judge_verdicts.specs.Collections.{IsBuilt, lists_of}
 use Rattle.judge_verdicts.specs.Readings.{a_byte, a_varint, a_word, list_of, non_empty_of, set_of}
 use Rattle.judge_verdicts.specs.Whole.{items_of}
@@ -40,25 +40,25 @@ returns-in-NonEmptyU8-clause-built g c =
 pub returns-in-U8-clause-memory : goal.returns-in-U8-clause-memory
 returns-in-U8-clause-memory g c =
     let all : c.range-all.result ≡ full = c.range-all.ensures ∙ c.full.ensures in
-    subst (λ form. IfErr c.build_set.result (λ _. WantsMemoryToBuild (lists_of (collections.Set form)) c.args.text.now)) (sym c.in-U8.is) (subst (λ (r : Bounds ℕ). IfErr c.build_set.result (λ _. WantsMemoryToBuild (list_of r a_byte) c.args.text.now)) all c.build_set.ensures.memory)
+    subst (λ form. IfErr c.build_set.result (λ _. MayFailToAllocateToBuild (lists_of (collections.Set form)) c.args.text.now)) (sym c.in-U8.is) (subst (λ (r : Bounds ℕ). IfErr c.build_set.result (λ _. MayFailToAllocateToBuild (list_of r a_byte) c.args.text.now)) all c.build_set.ensures.memory)
 
 pub returns-in-U32-clause-memory : goal.returns-in-U32-clause-memory
 returns-in-U32-clause-memory g c =
     let all : c.range-all.result ≡ full = c.range-all.ensures ∙ c.full.ensures in
-    subst (λ form. IfErr c.build_set-in-U32.result (λ _. WantsMemoryToBuild (lists_of (collections.Set form)) c.args.text.now)) (sym c.in-U32.is) (subst (λ (r : Bounds ℕ). IfErr c.build_set-in-U32.result (λ _. WantsMemoryToBuild (list_of r a_word) c.args.text.now)) all c.build_set-in-U32.ensures.memory)
+    subst (λ form. IfErr c.build_set-in-U32.result (λ _. MayFailToAllocateToBuild (lists_of (collections.Set form)) c.args.text.now)) (sym c.in-U32.is) (subst (λ (r : Bounds ℕ). IfErr c.build_set-in-U32.result (λ _. MayFailToAllocateToBuild (list_of r a_word) c.args.text.now)) all c.build_set-in-U32.ensures.memory)
 
 pub returns-in-Participant-clause-memory : goal.returns-in-Participant-clause-memory
 returns-in-Participant-clause-memory g c =
     let all : c.range-all.result ≡ full = c.range-all.ensures ∙ c.full.ensures in
-    subst (λ form. IfErr c.build_set-in-Participant.result (λ _. WantsMemoryToBuild (lists_of (collections.Set form)) c.args.text.now)) (sym c.in-Participant.is) (subst (λ (r : Bounds ℕ). IfErr c.build_set-in-Participant.result (λ _. WantsMemoryToBuild (list_of r a_varint) c.args.text.now)) all c.build_set-in-Participant.ensures.memory)
+    subst (λ form. IfErr c.build_set-in-Participant.result (λ _. MayFailToAllocateToBuild (lists_of (collections.Set form)) c.args.text.now)) (sym c.in-Participant.is) (subst (λ (r : Bounds ℕ). IfErr c.build_set-in-Participant.result (λ _. MayFailToAllocateToBuild (list_of r a_varint) c.args.text.now)) all c.build_set-in-Participant.ensures.memory)
 
 pub returns-in-SetU8-clause-memory : goal.returns-in-SetU8-clause-memory
 returns-in-SetU8-clause-memory g c =
     let all : c.range-all.result ≡ full = c.range-all.ensures ∙ c.full.ensures in
-    subst (λ form. IfErr c.build_set-in-SetU8.result (λ _. WantsMemoryToBuild (lists_of (collections.Set form)) c.args.text.now)) (sym c.in-SetU8.is) (subst (λ (r : Bounds ℕ). IfErr c.build_set-in-SetU8.result (λ _. WantsMemoryToBuild (list_of r (set_of r a_byte nat_cmp)) c.args.text.now)) all c.build_set-in-SetU8.ensures.memory)
+    subst (λ form. IfErr c.build_set-in-SetU8.result (λ _. MayFailToAllocateToBuild (lists_of (collections.Set form)) c.args.text.now)) (sym c.in-SetU8.is) (subst (λ (r : Bounds ℕ). IfErr c.build_set-in-SetU8.result (λ _. MayFailToAllocateToBuild (list_of r (set_of r a_byte nat_cmp)) c.args.text.now)) all c.build_set-in-SetU8.ensures.memory)
 
 pub returns-in-NonEmptyU8-clause-memory : goal.returns-in-NonEmptyU8-clause-memory
 returns-in-NonEmptyU8-clause-memory g c =
     let all : c.range-all.result ≡ full = c.range-all.ensures ∙ c.full.ensures in
     let some : as_numbers c.non_zero-some.result ≡ full = c.non_zero-some.ensures ∙ c.full-in-NonEmptyU8.ensures in
-    subst (λ form. IfErr c.build_set-in-NonEmptyU8.result (λ _. WantsMemoryToBuild (lists_of (collections.Set form)) c.args.text.now)) (sym c.in-NonEmptyU8.is) (subst (λ (s : Bounds ℕ). IfErr c.build_set-in-NonEmptyU8.result (λ _. WantsMemoryToBuild (list_of full (non_empty_of s a_byte)) c.args.text.now)) some (subst (λ (r : Bounds ℕ). IfErr c.build_set-in-NonEmptyU8.result (λ _. WantsMemoryToBuild (list_of r (non_empty_of (as_numbers c.non_zero-some.result) a_byte)) c.args.text.now)) all c.build_set-in-NonEmptyU8.ensures.memory))
+    subst (λ form. IfErr c.build_set-in-NonEmptyU8.result (λ _. MayFailToAllocateToBuild (lists_of (collections.Set form)) c.args.text.now)) (sym c.in-NonEmptyU8.is) (subst (λ (s : Bounds ℕ). IfErr c.build_set-in-NonEmptyU8.result (λ _. MayFailToAllocateToBuild (list_of full (non_empty_of s a_byte)) c.args.text.now)) some (subst (λ (r : Bounds ℕ). IfErr c.build_set-in-NonEmptyU8.result (λ _. MayFailToAllocateToBuild (list_of r (non_empty_of (as_numbers c.non_zero-some.result) a_byte)) c.args.text.now)) all c.build_set-in-NonEmptyU8.ensures.memory))

@@ -4,8 +4,8 @@ use Rattle.std.specs.Cmp.Lexicographic.{pointwise, slice_cmp}
 use Rattle.std.specs.Ordering.{nat_cmp}
 use Rattle.commonware_utils.specs.Codec.{Bounds, as_numbers}
 use Rattle.judge_questions.specs.Limits.{full}
-use Rattle.judge_verdicts.specs.Collections.{IsFoundIn, WantsMemoryToFindIn}
-use Rattle.judge_verdicts.specs.Places.{IsFound, WantsMemoryToFind}
+use Rattle.judge_verdicts.specs.Collections.{IsFoundIn, MayFailToAllocateToFindIn}
+use Rattle.judge_verdicts.specs.Places.{IsFound, MayFailToAllocateToFind}
 use Rattle.judge_verdicts.specs.Readings.{a_byte, a_varint, a_word, non_empty_of, set_of}
 use Rattle.judge_verdicts.proofs.collections.position.Goals as goal
 
@@ -38,25 +38,25 @@ returns-in-NonEmptyU8-clause-found g c =
 pub returns-in-U8-clause-memory : goal.returns-in-U8-clause-memory
 returns-in-U8-clause-memory g c =
     let all : c.range-all.result ≡ full = c.range-all.ensures ∙ c.full.ensures in
-    subst (λ form. IfErr c.position_as.result (λ _. WantsMemoryToFindIn form c.args.set.now c.args.item.now)) (sym c.in-U8.is) (subst (λ (r : Bounds ℕ). IfErr c.position_as.result (λ _. WantsMemoryToFind r a_byte nat_cmp c.args.set.now c.args.item.now)) all c.position_as.ensures.memory)
+    subst (λ form. IfErr c.position_as.result (λ _. MayFailToAllocateToFindIn form c.args.set.now c.args.item.now)) (sym c.in-U8.is) (subst (λ (r : Bounds ℕ). IfErr c.position_as.result (λ _. MayFailToAllocateToFind r a_byte nat_cmp c.args.set.now c.args.item.now)) all c.position_as.ensures.memory)
 
 pub returns-in-U32-clause-memory : goal.returns-in-U32-clause-memory
 returns-in-U32-clause-memory g c =
     let all : c.range-all.result ≡ full = c.range-all.ensures ∙ c.full.ensures in
-    subst (λ form. IfErr c.position_as-in-U32.result (λ _. WantsMemoryToFindIn form c.args.set.now c.args.item.now)) (sym c.in-U32.is) (subst (λ (r : Bounds ℕ). IfErr c.position_as-in-U32.result (λ _. WantsMemoryToFind r a_word nat_cmp c.args.set.now c.args.item.now)) all c.position_as-in-U32.ensures.memory)
+    subst (λ form. IfErr c.position_as-in-U32.result (λ _. MayFailToAllocateToFindIn form c.args.set.now c.args.item.now)) (sym c.in-U32.is) (subst (λ (r : Bounds ℕ). IfErr c.position_as-in-U32.result (λ _. MayFailToAllocateToFind r a_word nat_cmp c.args.set.now c.args.item.now)) all c.position_as-in-U32.ensures.memory)
 
 pub returns-in-Participant-clause-memory : goal.returns-in-Participant-clause-memory
 returns-in-Participant-clause-memory g c =
     let all : c.range-all.result ≡ full = c.range-all.ensures ∙ c.full.ensures in
-    subst (λ form. IfErr c.position_as-in-Participant.result (λ _. WantsMemoryToFindIn form c.args.set.now c.args.item.now)) (sym c.in-Participant.is) (subst (λ (r : Bounds ℕ). IfErr c.position_as-in-Participant.result (λ _. WantsMemoryToFind r a_varint nat_cmp c.args.set.now c.args.item.now)) all c.position_as-in-Participant.ensures.memory)
+    subst (λ form. IfErr c.position_as-in-Participant.result (λ _. MayFailToAllocateToFindIn form c.args.set.now c.args.item.now)) (sym c.in-Participant.is) (subst (λ (r : Bounds ℕ). IfErr c.position_as-in-Participant.result (λ _. MayFailToAllocateToFind r a_varint nat_cmp c.args.set.now c.args.item.now)) all c.position_as-in-Participant.ensures.memory)
 
 pub returns-in-SetU8-clause-memory : goal.returns-in-SetU8-clause-memory
 returns-in-SetU8-clause-memory g c =
     let all : c.range-all.result ≡ full = c.range-all.ensures ∙ c.full.ensures in
-    subst (λ form. IfErr c.position_as-in-SetU8.result (λ _. WantsMemoryToFindIn form c.args.set.now c.args.item.now)) (sym c.in-SetU8.is) (subst (λ (r : Bounds ℕ). IfErr c.position_as-in-SetU8.result (λ _. WantsMemoryToFind r (set_of r a_byte nat_cmp) (slice_cmp nat_cmp) c.args.set.now c.args.item.now)) all c.position_as-in-SetU8.ensures.memory)
+    subst (λ form. IfErr c.position_as-in-SetU8.result (λ _. MayFailToAllocateToFindIn form c.args.set.now c.args.item.now)) (sym c.in-SetU8.is) (subst (λ (r : Bounds ℕ). IfErr c.position_as-in-SetU8.result (λ _. MayFailToAllocateToFind r (set_of r a_byte nat_cmp) (slice_cmp nat_cmp) c.args.set.now c.args.item.now)) all c.position_as-in-SetU8.ensures.memory)
 
 pub returns-in-NonEmptyU8-clause-memory : goal.returns-in-NonEmptyU8-clause-memory
 returns-in-NonEmptyU8-clause-memory g c =
     let all : c.range-all.result ≡ full = c.range-all.ensures ∙ c.full.ensures in
     let some : as_numbers c.non_zero-some.result ≡ full = c.non_zero-some.ensures ∙ c.full-in-NonEmptyU8.ensures in
-    subst (λ form. IfErr c.position_as-in-NonEmptyU8.result (λ _. WantsMemoryToFindIn form c.args.set.now c.args.item.now)) (sym c.in-NonEmptyU8.is) (subst (λ (s : Bounds ℕ). IfErr c.position_as-in-NonEmptyU8.result (λ _. WantsMemoryToFind full (non_empty_of s a_byte) (slice_cmp nat_cmp) c.args.set.now c.args.item.now)) some (subst (λ (r : Bounds ℕ). IfErr c.position_as-in-NonEmptyU8.result (λ _. WantsMemoryToFind r (non_empty_of (as_numbers c.non_zero-some.result) a_byte) (slice_cmp nat_cmp) c.args.set.now c.args.item.now)) all c.position_as-in-NonEmptyU8.ensures.memory))
+    subst (λ form. IfErr c.position_as-in-NonEmptyU8.result (λ _. MayFailToAllocateToFindIn form c.args.set.now c.args.item.now)) (sym c.in-NonEmptyU8.is) (subst (λ (s : Bounds ℕ). IfErr c.position_as-in-NonEmptyU8.result (λ _. MayFailToAllocateToFind full (non_empty_of s a_byte) (slice_cmp nat_cmp) c.args.set.now c.args.item.now)) some (subst (λ (r : Bounds ℕ). IfErr c.position_as-in-NonEmptyU8.result (λ _. MayFailToAllocateToFind r (non_empty_of (as_numbers c.non_zero-some.result) a_byte) (slice_cmp nat_cmp) c.args.set.now c.args.item.now)) all c.position_as-in-NonEmptyU8.ensures.memory))

@@ -11,7 +11,7 @@ use std::hash::Hash;
 
 /// A type whose values have a number of items: a collection has those of its outermost list, a
 /// certificate its signers, and everything else counts as one.
-pub trait Counted {
+pub trait CountItems {
     /// How many items the value has.
     ghost items: { Self → ℕ };
 
@@ -20,7 +20,7 @@ pub trait Counted {
         ensures { result ≡ items self.now };
 }
 
-impl Counted for u8 {
+impl CountItems for u8 {
     ghost items = { λ _. 1 };
 
     fn count(&self) -> usize {
@@ -28,7 +28,7 @@ impl Counted for u8 {
     }
 }
 
-impl Counted for u32 {
+impl CountItems for u32 {
     ghost items = { λ _. 1 };
 
     fn count(&self) -> usize {
@@ -36,7 +36,7 @@ impl Counted for u32 {
     }
 }
 
-impl Counted for usize {
+impl CountItems for usize {
     ghost items = { λ _. 1 };
 
     fn count(&self) -> usize {
@@ -44,7 +44,7 @@ impl Counted for usize {
     }
 }
 
-impl Counted for UInt {
+impl CountItems for UInt {
     ghost items = { λ _. 1 };
 
     fn count(&self) -> usize {
@@ -52,7 +52,7 @@ impl Counted for UInt {
     }
 }
 
-impl Counted for Participant {
+impl CountItems for Participant {
     ghost items = { λ _. 1 };
 
     fn count(&self) -> usize {
@@ -60,7 +60,7 @@ impl Counted for Participant {
     }
 }
 
-impl<T, A: Allocator> Counted for Vec<T, A> {
+impl<T, A: Allocator> CountItems for Vec<T, A> {
     ghost items = { vec_len };
 
     fn count(&self) -> usize {
@@ -68,7 +68,7 @@ impl<T, A: Allocator> Counted for Vec<T, A> {
     }
 }
 
-impl<T: Ord, A: Allocator> Counted for Set<T, A> {
+impl<T: Ord, A: Allocator> CountItems for Set<T, A> {
     ghost items = { length };
 
     fn count(&self) -> usize {
@@ -76,7 +76,7 @@ impl<T: Ord, A: Allocator> Counted for Set<T, A> {
     }
 }
 
-impl<K: Ord, V, A: Allocator> Counted for Map<K, V, A> {
+impl<K: Ord, V, A: Allocator> CountItems for Map<K, V, A> {
     ghost items = { length };
 
     fn count(&self) -> usize {
@@ -84,7 +84,7 @@ impl<K: Ord, V, A: Allocator> Counted for Map<K, V, A> {
     }
 }
 
-impl<K: Ord, V: Eq + Hash, A: Allocator> Counted for BiMap<K, V, A> {
+impl<K: Ord, V: Eq + Hash, A: Allocator> CountItems for BiMap<K, V, A> {
     ghost items = { length };
 
     fn count(&self) -> usize {
@@ -92,7 +92,7 @@ impl<K: Ord, V: Eq + Hash, A: Allocator> Counted for BiMap<K, V, A> {
     }
 }
 
-impl<T, A: Allocator> Counted for NonEmptyVec<T, A> {
+impl<T, A: Allocator> CountItems for NonEmptyVec<T, A> {
     ghost items = { length };
 
     fn count(&self) -> usize {
@@ -100,7 +100,7 @@ impl<T, A: Allocator> Counted for NonEmptyVec<T, A> {
     }
 }
 
-impl<A: Allocator> Counted for Certificate<A> {
+impl<A: Allocator> CountItems for Certificate<A> {
     ghost items = { λ certificate. length certificate.signers };
 
     fn count(&self) -> usize {
