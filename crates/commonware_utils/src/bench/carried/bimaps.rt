@@ -39,18 +39,23 @@ fn bimap_of(rt: &impl Abort, alloc: Global, pairs: &[(u8, u8)]) -> BiMap<u8, u8,
     BiMap::try_from_slice(alloc, pairs).expect(rt, "memory")
 }
 
+/// Whether a builder has failed with this error, or with none.
+fn fails_with(built: Result<BiMap<u8, char, Global>, Error>, refusal: &Option<Error>) -> bool {
+    built.err() == *refusal
+}
+
 /// By every builder.
 #[test]
 fn test_bimap_duplicate_value_error(rt: HostRuntime) {
     let alloc = rt.alloc();
     for (pairs, refusal) in LISTS {
         let list = Vec::from_slice(alloc, &pairs).expect(&rt, "memory");
+        assert!(rt; fails_with(BiMap::try_from_vec(list), &refusal));
         assert!(rt;
-            BiMap::try_from_iter(alloc, pairs).err() == refusal
-                && BiMap::try_from_vec(list).err() == refusal
-                && BiMap::try_from_slice(alloc, &pairs).err() == refusal
-                && BiMap::try_from_array(alloc, pairs).err() == refusal
-                && BiMap::try_from_array_ref(alloc, &pairs).err() == refusal
+            fails_with(BiMap::try_from_iter(alloc, pairs), &refusal)
+                && fails_with(BiMap::try_from_slice(alloc, &pairs), &refusal)
+                && fails_with(BiMap::try_from_array(alloc, pairs), &refusal)
+                && fails_with(BiMap::try_from_array_ref(alloc, &pairs), &refusal)
         );
     }
 }

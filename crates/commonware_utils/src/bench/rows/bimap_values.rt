@@ -2,8 +2,11 @@
 ghost use Rattle.std.specs.Prelude.{[], refl};
 
 use crate::TryFromIterator;
-use crate::ordered::{BiMap, Error, Map, Set};
+use crate::bench::rows::map_pairs::tens;
+use crate::ordered::{BiMap, Error, Set};
+use std::alloc::Global;
 use std::hash::{Hash, Hasher};
+use std::process::Abort;
 
 /// A number whose hash is that of every other.
 #[derive(Clone, Copy, Debug, PartialEq, Eq)]
@@ -51,14 +54,19 @@ fn values_of_one_hash_are_told_apart(rt: HostRuntime) {
     assert!(rt; repeated.err() == Some(Error::DuplicateValue));
 }
 
+/// Whether the set of these items on this allocator has them.
+fn is_built_again(rt: &impl Abort, items: &[u8], alloc: Global) -> bool {
+    let set = Set::try_from_slice(alloc, items).expect(rt, "memory");
+    set.as_slice() == items
+}
+
 /// Of a set, a map and a bimap, whose keys give theirs.
 #[test]
 fn collections_give_their_allocator(rt: HostRuntime) {
     let set = Set::try_from_array(rt.alloc(), [1u8, 2]).expect(&rt, "memory");
-    let map = Map::try_from_array(*set.allocator(), [(1u8, 10u8), (2, 20)]).expect(&rt, "memory");
-    let bimap = BiMap::try_from_map(Map::try_from_slice(*map.allocator(), &[(1u8, 30u8)]).expect(
-        &rt, "memory",
-    )).expect(&rt, "memory");
-    let other = Set::try_from_slice(*bimap.allocator(), set.as_slice()).expect(&rt, "memory");
-    assert!(rt; other == set && map.keys() == &set && bimap.len() == 1);
+    assert!(rt; is_built_again(&rt, set.as_slice(), *set.allocator()));
+    let map = tens(&rt, rt.alloc());
+    assert!(rt; is_built_again(&rt, map.keys().as_slice(), *map.allocator()));
+    let bimap = BiMap::try_from_map(map).expect(&rt, "memory");
+    assert!(rt; is_built_again(&rt, bimap.keys().as_slice(), *bimap.allocator()));
 }
