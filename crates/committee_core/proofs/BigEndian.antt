@@ -1,4 +1,4 @@
--- Lists of bytes are in the order of the numbers that their first bytes spell, and then of the rest.
+-- Lists of bytes are in the order of the numbers that their first bytes encode, and then of the rest.
 use Rattle.std.specs.Cmp.Lexicographic.{slice_cmp}
 use Rattle.std.specs.Slice.Scan.{big_endian}
 use Rattle.std.specs.Ordering.{ordering_then}
@@ -41,7 +41,7 @@ decided_as x y a b r s up down same = by_ranked (x < y) (x ≡ y) (y < x) (nat_c
     (λ e l. ap (λ o. ordering_then o r) e ∙ same l)
     (λ e l. ap (λ o. ordering_then o r) e ∙ sym (ap (λ o. ordering_then o s) (greater a b (down l))))
 
--- lists compare as the numbers that n bytes of each spell after one number, and then as the rest
+-- lists compare as the numbers that n bytes of each encode after one number, and then as the rest
 numbers_in_order : (n : ℕ) (xs ys : List ℕ) (a : ℕ) → n ≤ length xs → n ≤ length ys → Bytes xs → Bytes ys
     → slice_cmp nat_cmp xs ys ≡ ordering_then (nat_cmp (big_endian a (take n xs)) (big_endian a (take n ys))) (slice_cmp nat_cmp (drop n xs) (drop n ys))
 numbers_in_order zero xs ys a p q h g = sym (ap (λ o. ordering_then o (slice_cmp nat_cmp xs ys)) (tied_itself nat_cmp_total a))
@@ -63,7 +63,7 @@ numbers_in_order (suc n) (x ∷ xs) (y ∷ ys) a p q h g =
 
 -- ---- from a place on
 
--- lists that are settled up to a place by the same numbers are so by those of the n bytes from there on
+-- lists whose order is determined up to a place by the same numbers have it determined by those of the n bytes from there on
 pub determined_further : (n i : ℕ) (xs ys : List ℕ) (a b : ℕ) → i + n ≤ length xs → i + n ≤ length ys → Bytes xs → Bytes ys
     → IsDetermined xs ys i a b → a ≡ b → IsDetermined xs ys (i + n) (number_at n i xs) (number_at n i ys)
 determined_further n i xs ys a b p q h g is level =

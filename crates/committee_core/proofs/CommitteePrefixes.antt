@@ -1,4 +1,4 @@
--- The first bytes of a text settle what it is as a committee.
+-- The first bytes of an input determine what it is as a committee.
 use Rattle.std.proofs.Common.{◌≡◌, ◌≤◌, ℕ, List, [], ◌∷◌, ◌++◌, length, arith, subst, append_assoc, length-append, ◌∙◌}
 use Rattle.std.specs.List.{flat_map}
 use Rattle.commonware_base.specs.Fault.{Fault}
@@ -17,21 +17,21 @@ use Rattle.committee_core.specs.laws.MemberLaws.{member_length}
 use Rattle.committee_core.specs.Members.{IsMember, member_bytes, member_cmp, member_fault}
 use Rattle.committee_core.specs.Run.{members_range, prefix_size, IsCommittee, IsCommitteeMemoryFree, committee_fault}
 
--- a text of 32 bytes or more has no fault of a member, however it goes on
+-- an input of 32 bytes or more has no fault of a member, however it goes on
 member_determined : (f : Fault) → IsDeterminedBy 32 (λ s. member_fault s f)
 member_determined f s more h = ((λ w. absurd (omega (arith, w.0))), (λ w. absurd (omega (arith, w.0, length-append s more))))
 
--- the first bytes settle the fault
+-- the first bytes determine the fault
 committee_fault_determined : (f : Fault) → IsDeterminedBy prefix_size (λ s. committee_fault s f)
 committee_fault_determined =
     set_fault_determined member_bytes IsMember (λ _. Unit {0}) member_cmp member_fault (λ _. Unit {0}) members_range 32 256 member_length (λ n w. w.below) member_determined
 
--- and whether memory is wanted
+-- and whether an allocation is needed
 memory_free_determined : IsDeterminedBy prefix_size IsCommitteeMemoryFree
 memory_free_determined =
     list_memory_free_determined member_bytes IsMember (λ _. Unit {0}) member_fault (λ _. Unit {0}) members_range 32 256 member_length (λ n w. w.below) member_determined (omega arith) (λ s more h. ((λ w. tt), (λ w. tt)))
 
--- A refusal of the prefix, which a reader takes from text under a range, is one of the whole.
+-- An error of the prefix, which a reader takes from bytes under a range, is one of the whole.
 pub prefix_refused : (range : Bounds ℕ) (text s prefix : List ℕ) (error : Error) → range ≡ members_range → text ≡ prefix → IsLongPrefix prefix_size s prefix
     → Refuses (SetFault member_bytes IsMember member_cmp (λ _. Unit {0}) member_fault range text) (IsListMemoryFree member_fault (λ _. Unit {0}) range text) error → Refuses (committee_fault s) (IsCommitteeMemoryFree s) error
 prefix_refused range text s prefix error by at f refuses =
@@ -41,7 +41,7 @@ prefix_refused range text s prefix error by at f refuses =
     (λ wants free. wants ((determined_prefix prefix_size IsCommitteeMemoryFree s prefix memory_free_determined f).1 free))
     error (subst (Refused members_range) at (subst (λ r. Refused r text) by refuses))
 
--- a committee isn't read without memory
+-- a committee isn't read without an allocation
 pub committee_wants_memory : (s : List ℕ) (members : List (List ℕ)) (rest : List ℕ) → IsCommittee s members rest → ¬ IsCommitteeMemoryFree s
 committee_wants_memory s [] rest a = absurd (omega (arith, a.allowed.in_range.above))
 committee_wants_memory s (b ∷ members) rest a =

@@ -1,4 +1,4 @@
--- The numbers of a committee of any size are those that the models answer.
+-- The numbers of a committee of any size are those that the models return.
 use Rattle.std.proofs.Common.{ℕ, ◌+◌, ◌*◌, ◌≤◌}
 use Rattle.commonware_faults.specs.Counts.{n3f1_faults, n5f1_faults}
 use Rattle.commonware_faults.specs.laws.ToleranceLaws.{n3f1_greatest, n5f1_greatest, n5f1_least_m}

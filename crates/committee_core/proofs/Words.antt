@@ -1,4 +1,4 @@
--- Lists of two words, and the commands that they ask for.
+-- Lists of two words, and the commands that they give.
 use Rattle.std.proofs.Common.{◌≡◌, ℕ, ◌<◌, ◌≤◌, List, [], ◌∷◌, length, get_or, map, codes, Some, ap, arith}
 use Rattle.std.specs.declared.num.NonZeroU32.{NonZeroU32}
 use Rattle.committee_core.specs.Command.{IsCount, IsAskedFor}
@@ -13,12 +13,12 @@ two_words bytes (a ∷ []) first second word count some few is then e d = absurd
 two_words bytes (a ∷ b ∷ []) first second word count some few is then e d = cc
 two_words bytes (a ∷ b ∷ c ∷ rest) first second word count some few is then e d = absurd (omega arith)
 
--- where the second of two words writes no count, they ask for no command
+-- where the second of two words writes no count, they give no command
 pub no_command : (words : List (List ℕ)) (word count : List ℕ) → words ≡ word ∷ count ∷ [] → ((n : NonZeroU32) → ¬ IsCount count n) → (command : Command) → ¬ IsAskedFor words command
 no_command words word count are none Read asked = cc
 no_command words word count are none (Bounds n) (digits, is, writes) = let same : digits ≡ count = cc in none n (rw same at writes)
 
--- where it writes n, `bounds` and it ask for nothing but the bounds of n
+-- where it writes n, `bounds` and it give nothing but the bounds of n
 pub one_command : (words : List (List ℕ)) (count : List ℕ) (n : NonZeroU32) → words ≡ codes "bounds" ∷ count ∷ [] → IsCount count n → (command : Command) → IsAskedFor words command → Some (Bounds n) ≡ Some command
 one_command words count n are writes Read asked = cc
 one_command words count n are writes (Bounds m) (digits, is, other) =

@@ -1,10 +1,10 @@
--- Bytes that are read as numbers, the greatest first, to tell the order of the lists that they stand in.
+-- Bytes that are read as big-endian numbers, which determine the order of the lists that they are in.
 use Rattle.std.specs.Prelude.{◌≡◌, ℕ, List, take, drop}
 use Rattle.std.specs.Cmp.Lexicographic.{slice_cmp}
 use Rattle.std.specs.Ordering.{nat_cmp, ordering_then}
 use Rattle.std.specs.Slice.Scan.{big_endian}
 
--- the number that the n bytes from place i on spell
+-- the number that the n bytes from place i on encode
 abbrev pub number_at : ℕ → ℕ → List ℕ → ℕ
 number_at n i bytes = big_endian 0 (take n (drop i bytes))
 

@@ -1,4 +1,4 @@
--- The words that ask for a command.
+-- The words that give a command.
 use Rattle.std.specs.Prelude.{◌≡◌, ℕ, ◌≤◌, List, [], ◌∷◌, length, All, codes}
 use Rattle.std.specs.Char.{IsAsciiDigit}
 use Rattle.std.specs.Int.NonZero.{non_zero_u32_get}
@@ -16,11 +16,11 @@ pub record IsCount (word : List ℕ) (n : NonZeroU32) : Type 0 where
   pub at_least : 1 ≤ digits_value 10 word
   pub at_most : digits_value 10 word ≤ 4294967295
 
--- these words, and no others, ask for the command
+-- these words, and no others, give the command
 abbrev pub IsAskedFor : List (List ℕ) → Command → Type 0
 IsAskedFor words Read = words ≡ codes "read" ∷ []
 IsAskedFor words (Bounds n) = (word : List ℕ) × (words ≡ codes "bounds" ∷ word ∷ []) × IsCount word n
 
--- these words ask for no command
+-- these words give no command
 abbrev pub AskForNone : List (List ℕ) → Type 0
 AskForNone words = (command : Command) → ¬ IsAskedFor words command

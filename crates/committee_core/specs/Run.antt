@@ -27,7 +27,7 @@ use Rattle.committee_core.specs.declared.error.RunError.TheVariants.{Refused, Le
 abbrev pub members_range : Bounds ℕ
 members_range = record { lower = Some 1; upper = Included 256 }
 
--- s is the bytes of a set of 1 to 256 members, and then rest
+-- s is the encoding of a set of 1 to 256 members, and then rest
 abbrev pub IsCommittee : List ℕ → List (List ℕ) → List ℕ → Type 0
 IsCommittee s members rest =
     let Writable = IsWritableSet IsMember member_cmp in
@@ -38,21 +38,21 @@ IsCommittee s members rest =
 abbrev pub committee_fault : List ℕ → Fault → Type 0
 committee_fault = SetFault member_bytes IsMember member_cmp (λ _. Unit {0}) member_fault members_range
 
--- s is read as a committee, or refused, with no memory
+-- s is decoded as a committee, or refused, without an allocation
 abbrev pub IsCommitteeMemoryFree : List ℕ → Type 0
 IsCommitteeMemoryFree = IsListMemoryFree member_fault (λ _. Unit {0}) members_range
 
--- so many first bytes settle what is said of a text as a committee: a length of five bytes, and 256 members
+-- this number of first bytes determines what an input is as a committee: a length of five bytes, and 256 members
 abbrev pub prefix_size : ℕ
 prefix_size = 8197
 
--- a reader that had old left and has new left gave bytes that can't be read as a committee without memory, or more
--- bytes than a `usize` counts
+-- a reader that had old left and has new left gave bytes that can't be decoded as a committee without an allocation, or
+-- more bytes than a `usize` counts
 abbrev pub WantsMemory : Option (List ℕ) → Option (List ℕ) → Type 0
 WantsMemory old new =
     (s : List ℕ) × ((Gave old new s × ¬ IsCommitteeMemoryFree s) ⊎ (Consumes old new s × (2 ^ 64 ≤ length s)))
 
--- the error names the first fault of s, so it is no want of memory
+-- the error names the first fault of s, so it is no allocation failure
 abbrev pub IsFirstFault : List ℕ → Error → Type 0
 IsFirstFault s error = Refuses (committee_fault s) (Unit {0}) error
 
@@ -74,7 +74,7 @@ abbrev pub IsRefused : (List ℕ → Type 0) → Type 0
 IsRefused Given =
     (s : List ℕ) × Given s × (((error : Error) × IsFirstFault s error) ⊎ ((count : ℕ) × IsLeftOver s count))
 
--- what a reader's refusal is for a run
+-- what a reader's error is for a run
 abbrev pub refusal_of : Error → RunError
 refusal_of EndOfBuffer = Refused EndOfBuffer
 refusal_of InvalidVarint = Refused InvalidVarint
@@ -82,19 +82,19 @@ refusal_of (InvalidLength length) = Refused (InvalidLength length)
 refusal_of (Invalid what rule) = Refused (Invalid what rule)
 refusal_of faults.Memory = Memory
 
--- the text is the report that the command asks for, where the reader gave bytes of which Given holds
+-- the text is the report of the command, where the reader gave bytes of which Given holds
 abbrev pub IsReport : (List ℕ → Type 0) → Command → List ℕ → Type 0
 IsReport Given commands.Read text =
     (s : List ℕ) × Given s × (members : List (List ℕ)) × IsCommittee s members [] × IsMembersReport members text
 IsReport Given (commands.Bounds n) text = IsBoundsReport (non_zero_u32_get n) text
 
--- the report that the words ask for was written, where the reader gave bytes of which Given holds, and Written of the
+-- the report of the words' command was written, where the reader gave bytes of which Given holds, and Written of the
 -- text
 abbrev pub IsDone : List (List ℕ) → (List ℕ → Type 0) → (List ℕ → Type 0) → Type 0
 IsDone words Given Written =
     (command : Command) × IsAskedFor words command × ((text : List ℕ) × Written text × IsReport Given command text)
 
--- the exit status where no report was written: 1 where the bytes are refused, 3 where memory or a device failed
+-- the exit status where no report was written: 1 where the bytes are refused, 3 where an allocation or a device failed
 abbrev pub status_of : RunError → ℕ
 status_of (Refused fault) = 1
 status_of (LeftOver count) = 1

@@ -1,4 +1,4 @@
-//! The report on the bounds of the fault models, as text in memory.
+//! The report on the bounds of the fault models, as a string in memory.
 //!
 //! Each line has a function of its own, which appends it.
 ghost use Rattle.std.specs.Prelude.{◌≡◌, ◌+◌, ◌*◌, ◌≤◌, ◌++◌, OnOk, IfOk, string_bytes};
@@ -13,7 +13,7 @@ use commonware_faults::{Faults, N3f1, N5f1};
 use std::alloc::{AllocError, Allocator};
 use std::num::NonZeroU32;
 
-/// The report on the numbers of the fault models for `n` members: why no more faults and no
+/// Returns the report on the numbers of the fault models for `n` members: why no more faults and no
 /// smaller quorum hold.
 pub(crate) fn bounds_report<A: Allocator>(alloc: A, n: NonZeroU32) -> Result<String<A>, AllocError>
     ensures { IfOk result (λ text. IsBoundsReport (non_zero_u32_get n) (string_bytes text)) }
@@ -36,7 +36,7 @@ fn write_n<A: Allocator>(text: &mut String<A>, n: u32) -> Result<(), AllocError>
     writeln!(text, "n {n}")
 }
 
-/// The least f that is too large for the model N3f1.
+/// Appends the line of the least f that is too large for the model N3f1.
 fn write_n3f1_refuted<A: Allocator>(text: &mut String<A>, n: u32) -> Result<(), AllocError>
     requires { 1 ≤ n }
     ensures { OnOk result (string_bytes text.new
@@ -46,7 +46,7 @@ fn write_n3f1_refuted<A: Allocator>(text: &mut String<A>, n: u32) -> Result<(), 
     write_refuted(text, "N3f1 refuted", f, &refutation(n, f), f + 1)
 }
 
-/// The least f that is too large for the model N5f1.
+/// Appends the line of the least f that is too large for the model N5f1.
 fn write_n5f1_refuted<A: Allocator>(text: &mut String<A>, n: u32) -> Result<(), AllocError>
     requires { 1 ≤ n }
     ensures { OnOk result (string_bytes text.new
@@ -56,7 +56,7 @@ fn write_n5f1_refuted<A: Allocator>(text: &mut String<A>, n: u32) -> Result<(), 
     write_refuted(text, "N5f1 refuted", f, &refutation(n, f), 3 * f + 1)
 }
 
-/// The greatest m that is too small for the model N5f1.
+/// Appends the line of the greatest m that is too small for the model N5f1.
 fn write_m_refuted<A: Allocator>(text: &mut String<A>, n: u32) -> Result<(), AllocError>
     requires { 1 ≤ n }
     ensures { OnOk result (string_bytes text.new ≡ string_bytes text.old

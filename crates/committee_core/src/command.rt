@@ -1,25 +1,27 @@
-//! What the words after the program's name ask for.
+//! The command that the words after the program's name give.
 ghost use Rattle.std.specs.Prelude.{◌≡◌, Some, map, string_bytes, IfSome, IfNone};
 ghost use Rattle.committee_core.specs.Command.{IsAskedFor, IsCount};
 
 use std::alloc::Allocator;
 use std::num::NonZeroU32;
 
-/// What the program is asked to do.
+/// What the program has to do.
+///
+/// The word `read` gives `Command::Read`; `bounds` and `6` give `Command::Bounds` of 6.
 #[derive(Clone, Copy, Debug, PartialEq, Eq)]
 pub enum Command {
     /// Read a committee, and report on its members.
     Read,
-    /// Report on the numbers of the fault models for so many members, and on why no better ones
-    /// hold.
+    /// Report on the numbers of the fault models for this number of members, and on why no better
+    /// ones hold.
     Bounds(NonZeroU32),
 }
 
-/// The command that the words ask for: `read`, and no other word, is `Command::Read`; `bounds`
+/// Returns the command that the words give: `read`, and no other word, is `Command::Read`; `bounds`
 /// and a number, and no other word, is `Command::Bounds`. The number is 1 to 10 ASCII digits with
 /// a value from 1 to 4294967295.
 ///
-/// The answer is `None` exactly where the words ask for no command.
+/// It returns `None` exactly where the words give no command.
 pub fn parse_args<A: Allocator>(words: &[String<A>]) -> Option<Command>
     ensures asked { IfSome result (IsAskedFor (map string_bytes words.now)) }
     ensures given { (command : Command) → IsAskedFor (map string_bytes words.now) command
@@ -36,7 +38,7 @@ pub fn parse_args<A: Allocator>(words: &[String<A>]) -> Option<Command>
     }
 }
 
-/// The number of members that a word writes.
+/// Returns the number of members that a word writes.
 fn parse_count(word: &str) -> Option<NonZeroU32>
     ensures count { IfSome result (IsCount word.now) }
     ensures other { IfNone result ((n : NonZeroU32) → ¬ IsCount word.now n) }

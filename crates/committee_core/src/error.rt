@@ -3,22 +3,23 @@
 use commonware_base::codec;
 use program_io::WriteFailed;
 
-/// Why a run has written no report. Its text is the line that a session says.
+/// Why a run has written no report. Its `Display` text is the line that a session writes to
+/// standard error: that of `LeftOver(1)` is `refused: 1 bytes left over`.
 #[derive(Debug, PartialEq, Eq, Drop, thiserror::Error)]
 pub enum RunError {
     /// The bytes begin with no committee.
     #[error("refused: {0}")]
     Refused(codec::Error),
-    /// So many bytes follow the committee.
+    /// This number of bytes follows the committee.
     #[error("refused: {0} bytes left over")]
     LeftOver(usize),
-    /// A request for memory was refused, or the reader gave more bytes than a `usize` counts.
+    /// An allocation failed, or the reader gave more bytes than a `usize` counts.
     #[error("failed: out of memory")]
     Memory,
     /// The reader failed.
     #[error("failed: read")]
     ReadFailed,
-    /// The writer failed, or took none of some bytes.
+    /// The writer failed, or took no byte of a non-empty slice.
     #[error("failed: write")]
     WriteFailed,
 }
@@ -29,7 +30,7 @@ impl From<codec::Error> for RunError {
 
     ghost from_gives = { λ error refusal. refusal ≡ refusal_of error };
 
-    /// Want of memory stays that; every other error of a reader is a fault of the bytes.
+    /// `Memory` stays that; every other error of a decoder is a fault of the bytes.
     fn from(error: codec::Error) -> RunError {
         match error {
             codec::Error::Memory => RunError::Memory,

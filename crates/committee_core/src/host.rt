@@ -16,10 +16,11 @@ use std::io::{Read, Write};
 use std::process::ExitCode;
 use std::{env, io};
 
-/// The session of the words that follow the first argument, which is the program's name.
+/// Runs the session of the words that follow the first argument, which is the program's name, and
+/// returns its exit status.
 ///
-/// Where the arguments can't be taken, for whatever cause, it is that of a program without
-/// memory: it says so, and the status is 3.
+/// Where the arguments can't be taken, for whatever cause, it writes the line of an allocation
+/// failure, and the status is 3.
 pub fn start<A: Allocator + Copy, R: Read, W: Write, E: Write>(
     alloc: A,
     arguments: io::Result<Args<A>>,
@@ -54,10 +55,10 @@ pub fn start<A: Allocator + Copy, R: Read, W: Write, E: Write>(
     }
 }
 
-/// The program on its host, with its arguments and its three standard streams.
+/// Runs the program on its host, with its arguments and its three standard streams.
 ///
-/// What a process is given and what its streams take no contract can say; runs of the program
-/// show it.
+/// No contract can say what a process is given and what its streams take; stored runs of the
+/// program show it.
 pub fn on_host(rt: &HostRuntime) -> ExitCode {
     ExitCode::from(start(
         rt.alloc(),

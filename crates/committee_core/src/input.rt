@@ -11,7 +11,7 @@ use crate::error::RunError;
 use program_io::Watched;
 use std::io::Read;
 
-/// How many bytes are asked for at once, where they are only counted.
+/// How many bytes one read takes at most, where they are only counted.
 const CHUNK: usize = 65_536;
 
 /// How many bytes a reader gave up to its end, and how many of them were kept.
@@ -23,7 +23,7 @@ pub(crate) struct Counted {
     pub(crate) total: usize,
 }
 
-/// Reads up to the reader's end, and keeps the first bytes in the room: all, or as many as it has
+/// Reads up to the reader's end, and keeps the first bytes in `room`: all, or as many as it has
 /// places.
 ///
 /// The error is `ReadFailed` at the first read that fails, or `Memory` where there are more bytes
@@ -40,7 +40,7 @@ pub(crate) fn read_prefix<R: Read>(
     ensures ended { OnOk result (input.new.ended ≡ true) }
     ensures sound { OnOk result (input.new.failed ≡ input.old.failed) }
 
-    // Where it gives up.
+    // Where it fails.
     ensures memory { result ≡ Err RunError.Memory → input.new.failed ≡ input.old.failed }
     ensures too_many { result ≡ Err RunError.Memory → (s : List ℕ)
         × Consumes (R.remaining input.old.inner) (R.remaining input.new.inner) s
@@ -56,8 +56,7 @@ pub(crate) fn read_prefix<R: Read>(
     Ok(Counted { kept, total })
 }
 
-/// Reads until the room is full or the reader is at its end, and answers how many bytes there
-/// were.
+/// Reads until `room` is full or the reader is at its end, and returns how many bytes there were.
 ///
 /// The error is `ReadFailed`, at the first read that fails.
 fn fill<R: Read>(input: &mut Watched<R>, room: &mut [u8]) -> Result<usize, RunError>
@@ -84,7 +83,7 @@ fn fill<R: Read>(input: &mut Watched<R>, room: &mut [u8]) -> Result<usize, RunEr
     Ok(kept)
 }
 
-/// Reads up to the reader's end, and answers how many bytes there were, with so many before.
+/// Reads up to the reader's end, and returns how many bytes there were, plus `before`.
 ///
 /// The error is `ReadFailed` at the first read that fails, or `Memory` where a `usize` can't
 /// count them.
@@ -95,7 +94,7 @@ fn count_rest<R: Read>(input: &mut Watched<R>, before: usize) -> Result<usize, R
     ensures ended { OnOk result (input.new.ended ≡ true) }
     ensures sound { OnOk result (input.new.failed ≡ input.old.failed) }
 
-    // Where it gives up.
+    // Where it fails.
     ensures memory { result ≡ Err RunError.Memory → input.new.failed ≡ input.old.failed }
     ensures too_many { result ≡ Err RunError.Memory → (rest : List ℕ)
         × Consumes (R.remaining input.old.inner) (R.remaining input.new.inner) rest

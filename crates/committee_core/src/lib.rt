@@ -1,8 +1,8 @@
 //! The library of the program `committee`, which reads a committee from bytes and reports on it.
 //!
 //! Everything that the program does is generic over the allocator, the reader and the writers, so
-//! that each refused request for memory and each failing device can be tried. The program itself
-//! only hands in the real ones.
+//! that a test can make each allocation and each call of a device fail. The program itself only
+//! hands in the real ones.
 #![tactic(auto)]
 
 mod bounds_report;

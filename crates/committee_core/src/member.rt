@@ -11,7 +11,8 @@ use commonware_base::EqClone;
 use std::marker::Model;
 
 /// A member of a committee, by its 32 bytes. Members are compared as the lists of their bytes
-/// are, and seen as these lists.
+/// are, and seen as these lists. A member is displayed as 64 hexadecimal digits: the one of 32
+/// bytes `0xff` as 64 times `f`.
 #[derive(Clone, Copy, Debug, PartialEq, Eq, Hash)]
 pub struct Member([u8; 32]);
 
@@ -26,14 +27,14 @@ impl Model for Member {
 }
 
 impl Member {
-    /// The member of these bytes.
+    /// Returns the member of these bytes.
     pub fn new(bytes: [u8; 32]) -> Self
         ensures { result ≡ bytes }
     {
         Member(bytes)
     }
 
-    /// The bytes.
+    /// Returns the bytes.
     pub fn as_bytes(&self) -> &[u8; 32]
         ensures { result.now ≡ self.now }
     {

@@ -1,5 +1,5 @@
-//! Why no better numbers of the fault models hold: two subsets of the positions that share too
-//! few.
+//! Why no better numbers of the fault models hold: counterexamples, which are two subsets of the
+//! positions that share too few.
 ghost use Rattle.std.specs.Prelude.{◌≡◌, ◌+◌, ◌-◌, ◌*◌, ◌/◌, ℕ, ◌<◌, ◌≤◌};
 ghost use Rattle.commonware_faults.specs.Subsets.{shared, size};
 ghost use Rattle.committee_core.specs.Refutations.{subset_of};
@@ -7,11 +7,11 @@ ghost use Rattle.committee_core.specs.Refutations.{subset_of};
 use crate::Refutation;
 use commonware_faults::{Faults, N3f1, N5f1};
 
-/// The first n - f and the last n - f of `n` positions, and how many stand in both. `n` is at
-/// least 1 and `f` at most `n`.
+/// Returns the first n - f and the last n - f of `n` positions, and how many are in both. It
+/// requires that `n` is at least 1 and `f` at most `n`.
 ///
-/// Where `f` is above (n - 1) / k, for a k of at least 2, fewer than (k - 2)f + 1 stand in both.
-/// So above the faults of `N3f1` fewer than f + 1 do, and above those of `N5f1` fewer than 3f + 1,
+/// Where `f` is above (n - 1) / k, for a k of at least 2, fewer than (k - 2)f + 1 are in both. So
+/// above the faults of `N3f1` fewer than f + 1 are, and above those of `N5f1` fewer than 3f + 1,
 /// and no such f can be tolerated.
 pub fn refutation(n: u32, f: u32) -> Refutation
     requires some { 1 ≤ n }
@@ -35,11 +35,11 @@ pub fn refutation(n: u32, f: u32) -> Refutation
     }
 }
 
-/// The first `l_quorum(n)` and the last `m` of `n` positions, and how many stand in both. `n` is
-/// at least 1 and `m` at most `n`.
+/// Returns the first `l_quorum(n)` and the last `m` of `n` positions, and how many are in both. It
+/// requires that `n` is at least 1 and `m` at most `n`.
 ///
-/// Where `m` is below the smaller quorum of `N5f1`, fewer than f + 1 stand in both, where f is
-/// the model's faults.
+/// Where `m` is below the smaller quorum of `N5f1`, fewer than f + 1 are in both, where f is the
+/// model's faults.
 pub fn m_refutation(n: u32, m: u32) -> Refutation
     requires some { 1 ≤ n }
     requires at_most { m ≤ n }

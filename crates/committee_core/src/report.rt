@@ -1,4 +1,4 @@
-//! The report on a committee, as text in memory.
+//! The report on a committee, as a string in memory.
 //!
 //! Each line has a function of its own, which appends it.
 ghost use Rattle.std.specs.Prelude.{◌≡◌, ◌+◌, ◌-◌, ◌*◌, ◌^◌, ◌<◌, ◌≤◌, ◌++◌, length, OnOk, IfOk, string_bytes};
@@ -10,8 +10,8 @@ use crate::member::Member;
 use commonware_faults::{Faults, N3f1, N5f1};
 use std::alloc::{AllocError, Allocator};
 
-/// The report on the members: how many they are, each with its position, and the numbers of the
-/// fault models.
+/// Returns the report on the members: how many they are, each with its position, and the numbers of
+/// the fault models. It requires 1 to 4294967295 members.
 pub(crate) fn committee_report<A: Allocator>(
     alloc: A,
     members: &[Member],
@@ -50,7 +50,7 @@ fn write_member<A: Allocator>(
     writeln!(text, "{position} {item}")
 }
 
-/// The numbers of the model N3f1 for `n` members.
+/// Appends the numbers of the model N3f1 for `n` members.
 #[tactic(auto, unfolding(crate::specs::Report::n3f1_line))]
 pub(crate) fn write_n3f1<A: Allocator>(text: &mut String<A>, n: u32) -> Result<(), AllocError>
     requires { 1 ≤ n }
@@ -62,7 +62,7 @@ pub(crate) fn write_n3f1<A: Allocator>(text: &mut String<A>, n: u32) -> Result<(
     writeln!(text, "N3f1 faults {faults} quorum {quorum}")
 }
 
-/// The numbers of the model N5f1 for `n` members.
+/// Appends the numbers of the model N5f1 for `n` members.
 #[tactic(auto, unfolding(crate::specs::Report::n5f1_line))]
 pub(crate) fn write_n5f1<A: Allocator>(text: &mut String<A>, n: u32) -> Result<(), AllocError>
     requires { 1 ≤ n }

@@ -23,22 +23,21 @@ use std::io::{Read, Write};
 /// The most members that a committee has.
 const MOST: usize = 256;
 
-/// How many first bytes settle what the bytes are: a length has at most five, and each member has
-/// 32.
+/// How many first bytes determine what all are: a length has at most five, and each member has 32.
 const FRONT: usize = 5 + MOST * Member::MAX_ENCODE_SIZE;
 
-/// Does what the command asks for: writes its report, and flushes.
+/// Executes the command: writes its report, and flushes.
 ///
-/// With `Command::Read` the reader is read to its end. The bytes have to be the bytes of a set of
-/// 1 to 256 [`Member`]s, and no more: else the answer is the first fault of the bytes, or how
-/// many bytes are left over. So many of them are kept as settle that, and the rest is counted.
-/// Memory is asked for the members and the report alone, and `Memory` is answered only where the
-/// bytes can't be judged without it, or are more than a `usize` counts. With `Command::Bounds`
-/// the reader isn't touched, and the answer is no fault of bytes.
+/// With `Command::Read` the reader is read to its end. The bytes have to be the encoding of a set
+/// of 1 to 256 [`Member`]s, and no more: else it returns the first fault of the bytes, or how many
+/// bytes are left over. Only the prefix that determines this is kept, and the rest is counted. Only
+/// the members and the report are allocated, and `Memory` is returned only where the bytes can't be
+/// judged without an allocation, or are more than a `usize` counts. With `Command::Bounds` the
+/// reader isn't touched, and no fault of bytes is returned.
 ///
-/// The report is whole in memory before the first write, so nothing is written where the answer
-/// isn't `WriteFailed`; after that answer nothing is said of how much went out. No call of a
-/// device is tried again.
+/// The report is complete in memory before the first write, so nothing is written unless it returns
+/// `Ok` or `WriteFailed`; after `WriteFailed` nothing is said of how much was written. No call of a
+/// device is made again after a failure.
 pub fn run<A: Allocator + Copy, R: Read, W: Write>(
     alloc: A,
     command: Command,
@@ -81,10 +80,10 @@ pub fn run<A: Allocator + Copy, R: Read, W: Write>(
     Ok(write_whole(output, text.as_bytes())?)
 }
 
-/// The report on the committee that the reader gives, with nothing after it.
+/// Returns the report on the committee that the reader gives, with nothing after it.
 ///
-/// The first bytes settle whether they are one: these are kept, and the rest is read and counted.
-/// So memory is asked for the members and the report alone.
+/// The first bytes determine whether they are one: these are kept, and the rest is read and
+/// counted. So only the members and the report are allocated.
 fn read_report<A: Allocator + Copy, R: Read>(
     alloc: A,
     input: &mut Watched<R>,
@@ -111,8 +110,8 @@ fn read_report<A: Allocator + Copy, R: Read>(
     }
 }
 
-/// The committee that bytes are, with nothing after it. Of these bytes the prefix is given, and
-/// how many they are.
+/// Returns the committee that the bytes encode, with nothing after it. Of these bytes the prefix is
+/// given, and how many they are.
 fn read_members<A: Allocator + Copy>(
     alloc: A,
     prefix: &[u8],

@@ -1,4 +1,4 @@
-//! A whole run of the program: what it says, and its exit status.
+//! A whole run of the program: what it writes, and its exit status.
 ghost use Rattle.std.specs.Prelude.{◌≡◌, ◌≢◌, ◌↔◌, ◌≤◌, map, string_bytes, true, false};
 ghost use Rattle.std.specs.Io.KnownBytes.{Appends};
 ghost use Rattle.program_io.specs.Streams.{Gave};
@@ -12,13 +12,13 @@ use program_io::{Watched, say};
 use std::alloc::Allocator;
 use std::io::{Read, Write};
 
-/// Does what the words after the program's name ask for, and answers the exit status.
+/// Executes the command that the words after the program's name give, and returns the exit status.
 ///
-/// The status is 0 where the report was written, 1 where the bytes were refused, 2 where the
-/// words ask for no command, and 3 where memory, the reader or the writer failed. Unless it is 0,
-/// one line on `errors` says why, in one write where `errors` takes it whole. Where `errors`
-/// fails, the status is the same. Where the words ask for `Command::Bounds`, or for no command,
-/// nothing is read. No call of a device is tried again.
+/// The status is 0 where the report was written, 1 where the bytes were refused, 2 where the words
+/// give no command, and 3 where an allocation, the reader or the writer failed. Unless it is 0, one
+/// line on `errors` says why, in one write where `errors` takes it whole. Where `errors` fails, the
+/// status is the same. Where the words give `Command::Bounds`, or no command, nothing is read. No
+/// call of a device is made again after a failure.
 pub fn session<A: Allocator + Copy, R: Read, W: Write, E: Write>(
     alloc: A,
     words: &[String<A>],
@@ -26,7 +26,7 @@ pub fn session<A: Allocator + Copy, R: Read, W: Write, E: Write>(
     output: &mut Watched<W>,
     errors: &mut E,
 ) -> u8
-    // It is done only where the report that was asked for has been written.
+    // The status is 0 only where the report of the command has been written.
     ensures done { result ≡ 0 → IsDone (map string_bytes words.now)
         (Gave (R.remaining input.old.inner) (R.remaining input.new.inner))
         (Appends (W.contents output.old.inner) (W.contents output.new.inner)) }
@@ -57,7 +57,7 @@ pub fn session<A: Allocator + Copy, R: Read, W: Write, E: Write>(
     }
 }
 
-/// Says why no report was written, and answers the exit status.
+/// Writes why there is no report to `errors`, and returns the exit status.
 pub(crate) fn refuse<E: Write>(errors: &mut E, error: &RunError) -> u8
     ensures { result ≡ status_of error.now }
 {

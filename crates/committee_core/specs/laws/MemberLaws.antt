@@ -1,4 +1,4 @@
--- Laws of the texts of members.
+-- Laws of the encodings of members.
 use Rattle.std.specs.Prelude.{ℕ, zero, suc, ◌≤◌, List, [], ◌∷◌, ◌++◌, length, take, drop, refl, nat_eq}
 use Rattle.std.specs.Cmp.Lexicographic.{pointwise, same_text}
 use Rattle.std.proofs.Common.{arith, inl, inr, ap, sym, subst, ◌∙◌}
@@ -11,13 +11,13 @@ use Rattle.commonware_base.specs.Fault.{EndOfBuffer}
 use Rattle.commonware_base.specs.Text.{AreBytes, AcceptedOrFaulty, IsPrefixFree, ReadLaws, CanonicalLaws}
 use Rattle.committee_core.specs.Members.{IsMember, member_bytes, member_fault}
 
--- two members that begin one text are the same
+-- two members that begin one input are the same
 pub member_prefix_free : IsPrefixFree member_bytes IsMember
 member_prefix_free a b x y p q e =
     sym (take-append_seam a x) ∙ ap (take (length a)) e ∙ ap (λ n. take n (b ++ y)) (p.count ∙ sym q.count)
     ∙ take-append_seam b y
 
--- the beginning of a text is a text
+-- a prefix of a list of bytes is a list of bytes
 pub bytes_left : (n : ℕ) (s : List ℕ) → AreBytes s → AreBytes (take n s)
 bytes_left zero s h = tt
 bytes_left (suc n) [] h = tt
@@ -39,7 +39,7 @@ member_accepted_or_faulty s h = elim (cases_lt (length s) 32) [
   )
 ]
 
--- what is promised of the texts of members
+-- the laws of the encodings of members
 pub member_laws : ReadLaws member_bytes IsMember (λ _. Unit {0}) member_fault
 member_laws = record {
   allowed_by_bytes = λ a b _ _ _ h. h;

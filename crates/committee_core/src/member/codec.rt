@@ -1,4 +1,4 @@
-//! The byte form of a member, which is its bytes.
+//! The encoding of a member, which is its bytes.
 ghost use Rattle.std.specs.Prelude.{◌≤◌, length};
 ghost use Rattle.commonware_base.specs.Source.{rest_of, Consumes};
 ghost use Rattle.committee_core.specs.laws.MemberLaws.{member_canonical, member_laws, member_length, member_prefix_free};
@@ -22,7 +22,8 @@ impl EncodeSize for Member {
     }
 
     fn is_writable(&self) -> bool {
-        // Of what a source holds it is known that it is bytes, so a member is writable.
+        // The prover knows of a `Source` that it holds bytes, each below 256: so each member is
+        // writable. Nothing else is done with it.
         let _ = Source::new(&self.0).position();
         true
     }
@@ -33,7 +34,7 @@ impl<A: Allocator> Write<A> for Member {
         sink.extend_from_slice(&self.0)
     }
 
-    /// The members go into room that is made for all of them.
+    /// The members go into room that is reserved for all of them.
     #[inline(always)]
     fn write_at_once(items: &[Member], sink: &mut Vec<u8, A>) -> Option<Result<(), AllocError>> {
         if let Err(error) = sink.reserve(items.len() * 32) {
@@ -76,8 +77,8 @@ impl<A: Allocator> Read<A> for Member {
         Ok(take_member(src))
     }
 
-    /// The members are taken into room for just that count; where fewer are left, none is, and no
-    /// memory is asked for.
+    /// The members are taken into room for exactly `count`. Where fewer are left, none is taken,
+    /// and nothing is allocated.
     #[inline(always)]
     fn read_at_once(
         alloc: A,
@@ -100,7 +101,7 @@ impl<A: Allocator> Read<A> for Member {
     }
 }
 
-/// Takes the member at the prefix, whose bytes are there.
+/// Takes the member that comes next, whose bytes are there.
 #[inline(always)]
 fn take_member(src: &mut Source<'_>) -> Member
     requires { 32 ≤ length (rest_of src.old) }

@@ -1,4 +1,4 @@
-//! A member as text.
+//! A member as it is displayed.
 ghost use Rattle.std.specs.Prelude.{Some};
 ghost use Rattle.std.specs.Fmt.{WritesOnOk};
 ghost use Rattle.committee_core.specs.Hex.{hex_digits, hex_text};

@@ -1,4 +1,4 @@
-//! The order of members: that of the lists of their bytes, told by four words of eight bytes.
+//! The order of members: that of the lists of their bytes, found by four words of eight bytes.
 ghost use Rattle.std.specs.Prelude.{◌≡◌, ◌+◌, ◌≤◌};
 ghost use Rattle.std.specs.Cmp.{unsigned_po};
 ghost use Rattle.std.specs.Cmp.Lexicographic.{lists_agrees, lists_po, slice_cmp, slice_partial_cmp, texts_ties};
@@ -10,7 +10,7 @@ ghost use Rattle.committee_core.specs.BigEndian.{IsDetermined, number_at};
 use super::Member;
 use std::cmp::Ordering;
 
-/// The eight bytes from a place on as one number, the first of them the greatest.
+/// Returns the eight bytes from a place on as one number, in big-endian order.
 #[inline(always)]
 fn word(bytes: &[u8; 32], at: usize) -> u64
     requires { at + 8 ≤ 32 }
@@ -28,7 +28,7 @@ fn word(bytes: &[u8; 32], at: usize) -> u64
     ])
 }
 
-/// The next words of two lists of bytes that don't differ up to a place.
+/// Returns the next words of two lists of bytes that don't differ up to a place.
 #[inline(always)]
 fn words(mine: &[u8; 32], others: &[u8; 32], at: usize) -> (u64, u64)
     requires inside { at + 8 ≤ 32 }
@@ -38,8 +38,8 @@ fn words(mine: &[u8; 32], others: &[u8; 32], at: usize) -> (u64, u64)
     (word(mine, at), word(others, at))
 }
 
-/// The first words that differ, else the last ones, where the first eight bytes don't differ. It is
-/// out of line, since members mostly differ in their first bytes.
+/// Returns the first words that differ, else the last ones, where the first eight bytes don't
+/// differ. It is not inlined, since members mostly differ in their first bytes.
 #[inline(never)]
 fn apart_past(mine: &[u8; 32], others: &[u8; 32]) -> (u64, u64)
     requires { IsDetermined mine.now others.now 8 0 0 }
@@ -56,7 +56,7 @@ fn apart_past(mine: &[u8; 32], others: &[u8; 32]) -> (u64, u64)
     words(mine, others, 24)
 }
 
-/// The first words that differ, else the last ones.
+/// Returns the first words that differ, else the last ones.
 #[inline(always)]
 fn apart(mine: &[u8; 32], others: &[u8; 32]) -> (u64, u64)
     ensures { IsDetermined mine.now others.now 32 result.0 result.1 }
@@ -68,7 +68,7 @@ fn apart(mine: &[u8; 32], others: &[u8; 32]) -> (u64, u64)
     apart_past(mine, others)
 }
 
-/// The order of the lists of these bytes.
+/// Returns the order of the lists of these bytes.
 #[inline(always)]
 fn order(mine: &[u8; 32], others: &[u8; 32]) -> Ordering
     ensures { result ≡ slice_cmp nat_cmp mine.now others.now }

@@ -7,7 +7,7 @@ use Rattle.std.proofs.lemmas.Slice.{overwrites}
 use borrow.Rule.Slice.PartMut.{put_mid, post_of}
 use Rattle.committee_core.proofs.input.fill.Goals as goal
 
--- n bytes more stand in the room
+-- n more bytes are in the room
 stand : (room part : List ℕ) (kept k n : ℕ) → kept ≤ length room → n ≤ length part → take kept room ++ take n part ≡ take (kept + n) (put_mid kept k room part)
 stand room part kept k n h q =
     let all = part ++ post_of kept k room in

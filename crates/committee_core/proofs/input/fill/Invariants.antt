@@ -2,7 +2,7 @@ use Rattle.std.proofs.Common.{◌≡◌, ◌-◌, ◌≤◌, length, take}
 use Rattle.std.specs.Io.KnownBytes.{Consumes}
 use Rattle.committee_core.proofs.input.fill.Given as goal
 
--- what was read so far stands in the room
+-- what was read so far is in the room
 abbrev pub invariant-loop-kept : goal.invariant-loop-kept
 invariant-loop-kept g l =
     (l.input.failed ≡ l.initial.input.failed)

@@ -1,4 +1,4 @@
--- The reader's refusal of the prefix is a refusal of all the bytes.
+-- The reader's error of the prefix is an error of all the bytes.
 use Rattle.std.proofs.Common.{rules, refl, ◌≡◌, List, ℕ}
 use Rattle.commonware_base.specs.Source.{rest_of}
 use Rattle.committee_core.specs.Run.{members_range, committee_fault, refusal_of, IsCommitteeMemoryFree, IsRefusal}
