@@ -1,4 +1,4 @@
--- The keys that stand one after another in a text.
+-- The keys that follow one another in a list of bytes.
 use Rattle.std.proofs.Common.{◌≡◌, ◌∙◌, ℕ, zero, suc, ◌*◌, ◌≤◌, List, [], ◌∷◌, ◌++◌, length, take, drop, arith, ap, refl}
 use Rattle.std.proofs.lemmas.List.{length-drop, length-take-le, take-append-drop}
 use Rattle.std.specs.List.{AllByRecursion, flat_map}
@@ -21,7 +21,7 @@ chunks_are_members (suc k) s h enough = (
   chunks_are_members k (drop 32 s) (bytes_on 32 s h) (omega (arith, enough, length-drop 32 s)),
 )
 
--- together they are the text
+-- together they are the bytes
 pub chunks_are_text : (k : ℕ) (s : List ℕ) → length s ≡ k * 32 → flat_map member_bytes (first_chunks 32 k s) ≡ s
 chunks_are_text zero [] e = refl
 chunks_are_text zero (b ∷ s) e = absurd (omega (arith, e))

@@ -45,7 +45,7 @@ indices_fewer (x ∷ xs) =
     let n = length-append (varint x) (flat_map varint xs) in
     omega (arith, n, varint_some x, indices_fewer xs)
 
--- nor than bytes of a text that begins with their certificate
+-- nor than bytes of an input that begins with their certificate
 pub signers_fewer : (value signers s rest : List ℕ) → s ≡ certificate_enc (value, signers) ++ rest → length signers ≤ length s
 signers_fewer value signers s rest begins =
     let n = length-append (certificate_enc (value, signers)) rest in

@@ -1,4 +1,4 @@
--- A strict list whose items are all among those of another isn't longer than that one.
+-- A strictly increasing list whose items are all among those of another isn't longer than that one.
 use Rattle.std.proofs.Common.{◌≡◌, ◌∙◌, ℕ, zero, suc, ◌+◌, ◌<◌, ◌≤◌, List, [], ◌∷◌, length, get_or, refl, ap, sym, subst, arith}
 use Rattle.std.specs.List.{Contains}
 use Rattle.std.specs.declared.cmp.Ordering.{Ordering}

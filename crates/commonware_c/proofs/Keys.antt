@@ -1,4 +1,4 @@
--- A text that goes on with a number and as many keys.
+-- An input that goes on with a number and as many keys.
 use Rattle.std.proofs.Common.{◌≡◌, ◌∙◌, ℕ, ◌*◌, ◌<◌, ◌^◌, List, ◌++◌, drop, ap, sym, subst}
 use Rattle.std.specs.List.{flat_map}
 use Rattle.std.proofs.lemmas.List.{append_assoc, take-append-drop}

@@ -1,4 +1,4 @@
--- A key that would stand between two neighbours of a strict list isn't in the list.
+-- A key that would be between two neighbours of a strictly increasing list isn't in the list.
 use Rattle.std.proofs.Common.{◌≡◌, ◌∙◌, ℕ, ◌-◌, ◌<◌, ◌≤◌, List, length, get_or, sym, ap, subst, arith, inl, inr}
 use Rattle.std.specs.List.{Contains}
 use Rattle.std.specs.Ordering.{ordering_reverse}

@@ -18,7 +18,7 @@ spliced_one (suc at) (x ∷ room) b h =
     ∙ ap (λ n. x ∷ (take at room ++ (b ∷ drop n (x ∷ room)))) (sym next)
 
 module _ (at : ℕ) (first : List ℕ) (room : List ℕ) (enough : at + length first ≤ length room) where
-  -- what stands up to the end of the first bytes, and after it
+  -- what is there up to the end of the first bytes, and after it
   abbrev front : List ℕ
   front = take at room ++ first
 

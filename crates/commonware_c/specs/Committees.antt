@@ -1,4 +1,4 @@
--- What a foreign caller is told of the bytes of a committee: numbers, and where its members stand.
+-- What a foreign caller is told of the bytes of a committee: numbers, and where its members are.
 use Rattle.std.specs.Prelude.{◌≡◌, ℕ, ◌+◌, ◌*◌, ◌≤◌, List, Some, drop, length, nat_eq, slice_get, take}
 use Rattle.std.specs.List.{AllByRecursion, flat_map}
 use Rattle.std.specs.Cmp.Lexicographic.{pointwise}
@@ -15,7 +15,7 @@ use Rattle.committee_core.specs.Members.{IsMember, member_bytes, member_cmp, mem
 abbrev pub between : ℕ → ℕ → Bounds ℕ
 between least most = record { lower = Some least; upper = Included most }
 
--- s is the bytes of a set of least to most members, and then rest
+-- s is the encoding of a set of least to most members, and then rest
 abbrev pub IsCommitteeOf : ℕ → ℕ → List ℕ → List (List ℕ) → List ℕ → Type 0
 IsCommitteeOf least most s members rest =
     Accepts (list_enc member_bytes) (IsWritableSet IsMember member_cmp)

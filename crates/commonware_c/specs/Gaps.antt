@@ -1,4 +1,4 @@
--- Where a key that isn't among others would stand.
+-- Where a key that isn't among others would be inserted.
 use Rattle.std.specs.Prelude.{◌≡◌, ℕ, ◌-◌, ◌<◌, ◌≤◌, List, length}
 use Rattle.std.specs.List.{HoldsAt}
 use Rattle.std.specs.declared.cmp.Ordering.TheVariants.{Less, Greater}

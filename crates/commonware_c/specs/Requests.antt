@@ -1,4 +1,4 @@
--- What a foreign caller asks to be written, and what is wrong with it.
+-- What a foreign caller requests to be written, and what is wrong with it.
 use Rattle.std.specs.Prelude.{◌≡◌, ℕ, ◌-◌, ◌^◌, ◌<◌, ◌≤◌, List, length, slice_index_or}
 use Rattle.std.specs.List.{AllAdjacentBelow}
 

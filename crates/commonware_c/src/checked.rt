@@ -1,4 +1,4 @@
-//! The bytes of a committee, judged where they stand: no memory is taken.
+//! The bytes of a committee, checked in place: nothing is allocated.
 ghost use Rattle.std.specs.Prelude.{◌≡◌, ◌↔◌, ◌*◌, ◌<◌, ℕ, List, IfErr, IfNone, IfOk, IfSome, IsTrue, length};
 ghost use Rattle.commonware_base.specs.Refusal.{Refuses};
 ghost use Rattle.commonware_base.specs.Source.{rest_of};
@@ -12,8 +12,8 @@ use commonware_base::codec::{Error, RangeCfg, Read, Source, UInt};
 use std::alloc::Global;
 use std::cmp::Ordering;
 
-/// How many members the committee of `least` to `most` has with whose bytes a source goes on. The
-/// source is left after it. No item asks the allocator.
+/// Returns how many members the committee of `least` to `most` has that comes next in the source.
+/// The source is left after it. Nothing is allocated.
 #[inline(always)]
 pub(crate) fn check(
     alloc: Global,
@@ -26,10 +26,8 @@ pub(crate) fn check(
     ensures refused { IfErr result
         (Refuses (committee_fault least most (rest_of src.old)) (Unit {0})) }
 {
-    let count = match <UInt as Read<Global>>::read_cfg(alloc, src, &()) {
-        Ok(UInt(count)) => count,
-        Err(error) => return Err(error),
-    };
+    let number = <UInt as Read<Global>>::read_cfg(alloc, src, &())?;
+    let count = number.0;
     let range = RangeCfg::from(least..=most);
     if !range.contains(&(count as usize)) {
         return Err(Error::InvalidLength(count as usize));
@@ -44,7 +42,7 @@ pub(crate) fn check(
     Ok(count)
 }
 
-/// The next `count` keys of a source, where they stand, or `None` where fewer are left.
+/// Returns the next `count` keys of a source, in place, or `None` where fewer are left.
 #[inline(always)]
 fn keys_of<'a>(src: &Source<'a>, count: usize) -> Option<&'a [[u8; 32]]>
     ensures keys { IfSome result (λ keys. AreKeys keys.now count (rest_of src.now)) }
@@ -57,7 +55,7 @@ fn keys_of<'a>(src: &Source<'a>, count: usize) -> Option<&'a [[u8; 32]]>
     Some(keys)
 }
 
-/// Whether each key is less than the next.
+/// Whether the keys are strictly increasing: each is less than the next.
 #[inline(always)]
 fn are_in_order(keys: &[[u8; 32]]) -> bool
     ensures { IsTrue result ↔ IsStrict member_cmp keys.now }
@@ -65,8 +63,8 @@ fn are_in_order(keys: &[[u8; 32]]) -> bool
     keys.is_sorted_by(|x, y| order(x, y).is_lt())
 }
 
-/// The order of two keys, which is that of members. Most keys differ in their first eight bytes,
-/// which are compared where they stand.
+/// Returns the order of two keys, which is that of members. Most keys differ in their first eight
+/// bytes, which are compared in place.
 #[inline(always)]
 pub(crate) fn order(x: &[u8; 32], y: &[u8; 32]) -> Ordering
     ensures { result ≡ member_cmp x.now y.now }
@@ -79,7 +77,7 @@ pub(crate) fn order(x: &[u8; 32], y: &[u8; 32]) -> Ordering
     whole_order(x, y)
 }
 
-/// The first eight bytes of a key as one number, the first of them the greatest.
+/// Returns the first eight bytes of a key as one number, in big-endian order.
 #[inline(always)]
 fn first_word(key: &[u8; 32]) -> u64
     ensures { result ≡ number_at 8 0 key.now }
@@ -89,7 +87,7 @@ fn first_word(key: &[u8; 32]) -> u64
     ])
 }
 
-/// The order of two keys by all their bytes.
+/// Returns the order of two keys by all their bytes.
 #[inline(never)]
 fn whole_order(x: &[u8; 32], y: &[u8; 32]) -> Ordering
     ensures { result ≡ member_cmp x.now y.now }

@@ -1,4 +1,5 @@
-//! The members that signed two certificates for different values, whose bytes are given.
+//! Accountability: the members that signed two certificates for different values (equivocation),
+//! from the certificates' bytes.
 ghost use Rattle.std.specs.Prelude.{◌≡◌, ◌≢◌, ◌<◌, ◌≤◌, IfErr, IfOk, drop, length, take};
 ghost use Rattle.commonware_c.specs.Certificates.{AreAccused, IsNoWhole, IsStopped, IsWhole, LacksRoom};
 ghost use Rattle.committee_certificates.specs.Certificates.{parts};
@@ -11,13 +12,13 @@ use commonware_faults::tolerated_faults;
 use commonware_ordered::Set;
 use std::alloc::Global;
 
-/// What two certificates come to.
+/// What two certificates prove, for a caller in C.
 #[repr(C)]
 #[derive(Clone, Copy, Drop)]
 pub struct ConflictView {
     /// 0, or why no one is named.
     pub status: u32,
-    /// 1 or 2 where the status is about the first text or the second alone, else 0.
+    /// 1 or 2 where the status is about the first or the second certificate's bytes alone, else 0.
     pub which: u32,
     /// The length that is out of range, or how many bytes are left over, where that is the status.
     pub number: usize,
@@ -25,7 +26,7 @@ pub struct ConflictView {
     pub count: usize,
 }
 
-/// Why two texts name no one.
+/// Why two certificates' bytes name no one.
 #[derive(Clone, Copy, Drop)]
 struct Stop {
     status: u32,
@@ -33,8 +34,8 @@ struct Stop {
     number: usize,
 }
 
-/// The members that signed two certificates for different values, in a committee of `members` at a
-/// resilience of `k`, with room for their indices.
+/// Returns the members that signed two certificates for different values, in a committee of
+/// `members` at a resilience of `k`, with room for their indices.
 #[unsafe(no_mangle)]
 pub extern "C" fn commonware_conflict(
     alloc: Global,
@@ -61,7 +62,7 @@ pub extern "C" fn commonware_conflict(
     }
 }
 
-/// The members that signed both, or why no one is named.
+/// Returns the members that signed both, or why no one is named.
 fn conflict_of(
     alloc: Global,
     k: u32,
@@ -94,7 +95,8 @@ fn conflict_of(
     }
 }
 
-/// The certificate that a text is, with nothing after it, or the stop that names which text it is.
+/// Returns the certificate that the bytes encode, with nothing after it, or the stop that names
+/// which of the two it is.
 fn whole_of(alloc: Global, text: &[u8], which: u32) -> Result<Certificate<Global>, Stop>
     ensures whole { IfOk result (λ certificate. IsWhole text.now (parts certificate)) }
     ensures refused { IfErr result (λ stop. IsNoWhole text.now stop.status stop.number) }
@@ -111,7 +113,7 @@ fn whole_of(alloc: Global, text: &[u8], which: u32) -> Result<Certificate<Global
     }
 }
 
-/// The stop of a status about neither text alone.
+/// Returns the stop of a status about neither certificate alone.
 fn plain(status: u32) -> Stop
     ensures { result ≡ record { status = status; which = 0; number = 0 } }
 {
@@ -122,7 +124,7 @@ fn plain(status: u32) -> Stop
     }
 }
 
-/// The view of a stop.
+/// Returns the view of a stop.
 fn view_of(stop: Stop) -> ConflictView
     ensures { result ≡ record {
       status = stop.status;
@@ -139,7 +141,7 @@ fn view_of(stop: Stop) -> ConflictView
     }
 }
 
-/// The view of the members that are named, whose indices go to the room if it is large enough.
+/// Returns the view of the members that are named, whose indices go to `out` if it is large enough.
 fn named(accused: &[Participant], out: &mut [u32]) -> ConflictView
     ensures count { result.count ≡ length accused.now }
     ensures fits { result.status ≡ 0 → result.count ≤ length out.new }

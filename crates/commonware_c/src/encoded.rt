@@ -1,4 +1,4 @@
-//! The bytes of a certificate, written to a caller's room: no memory is taken.
+//! The bytes of a certificate, written to a caller's room: nothing is allocated.
 ghost use Rattle.std.specs.Prelude.{◌≡◌, ◌≢◌, ◌↔◌, ◌⊎◌, ◌+◌, ◌*◌, ◌≤◌, ◌<◌, ◌^◌, IfNone, IfSome, length};
 ghost use Rattle.std.specs.List.{flat_map};
 ghost use Rattle.std.specs.Ordering.{nat_cmp};
@@ -12,8 +12,8 @@ use crate::rooms::{put_bytes, put_varint};
 use crate::written::{WrittenView, refused};
 use commonware_base::codec::{EncodeSize, UInt};
 
-/// Writes the certificate of a value and of the indices of its signers to the front of the room.
-/// No memory is asked for.
+/// Encodes the certificate of a value and of the indices of its signers to the start of `out`.
+/// Nothing is allocated.
 #[unsafe(no_mangle)]
 pub extern "C" fn commonware_certificate_write(
     value: &[u8],
@@ -51,7 +51,7 @@ pub extern "C" fn commonware_certificate_write(
     view
 }
 
-/// The status and the number of the first fault of a request, where there is one.
+/// Returns the status and the number of the first fault of a request, where there is one.
 fn fault_of(value: &[u8], signers: &[u32]) -> Option<(u32, usize)>
     ensures none { IfNone result (IsWritableCertificate (value.now, signers.now)) }
     ensures some { IfSome result (λ why. IsUnwritable value.now signers.now why.0 why.1) }
@@ -68,7 +68,7 @@ fn fault_of(value: &[u8], signers: &[u32]) -> Option<(u32, usize)>
     Some((4, place))
 }
 
-/// The place of the first index that isn't greater than the one before it.
+/// Returns the place of the first index that isn't greater than the one before it.
 fn first_descent(signers: &[u32]) -> Option<usize>
     ensures some { IfSome result (IsFirstDescent signers.now) }
     ensures none { IfNone result (IsStrict nat_cmp signers.now) }
@@ -83,7 +83,7 @@ fn first_descent(signers: &[u32]) -> Option<usize>
     None
 }
 
-/// How many bytes the certificate has.
+/// Returns the length of the certificate's encoding.
 fn certificate_size(value: &[u8], signers: &[u32]) -> usize
     requires value_short { length value.now < 2 ^ 32 }
     requires signers_short { length signers.now < 2 ^ 32 }
@@ -95,7 +95,7 @@ fn certificate_size(value: &[u8], signers: &[u32]) -> usize
     value_size + count_size + signers_size(signers)
 }
 
-/// How many bytes the indices have.
+/// Returns the length of the indices' encodings.
 fn signers_size(signers: &[u32]) -> usize
     requires { length signers.now < 2 ^ 32 }
     ensures size { result ≡ length (flat_map varint signers.now) }
@@ -110,7 +110,7 @@ fn signers_size(signers: &[u32]) -> usize
     size
 }
 
-/// Writes the certificate to the front of the room, which is large enough.
+/// Writes the certificate to the start of the room, which is large enough.
 fn put_certificate(value: &[u8], signers: &[u32], out: &mut [u8])
     requires value_short { length value.now < 2 ^ 32 }
     requires signers_short { length signers.now < 2 ^ 32 }

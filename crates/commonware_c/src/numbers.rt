@@ -5,8 +5,8 @@ ghost use Rattle.commonware_c.specs.Quorums.{IsQuorumSize, IsSmallerQuorumSize};
 
 use commonware_faults::tolerated_faults;
 
-/// How many of `n` participants may be faulty at a resilience `n >= kf + 1`: the greatest f that
-/// fits; 0 where `n` is 0 or `k` below 2.
+/// Returns how many of `n` participants may be faulty at a resilience `n >= kf + 1`: the greatest f
+/// that fits; 0 where `n` is 0 or `k` below 2.
 #[unsafe(no_mangle)]
 pub extern "C" fn commonware_max_faults(k: u32, n: u32) -> u32
     ensures tolerance { 2 ≤ k → 1 ≤ n → IsFaultTolerance k n result }
@@ -19,8 +19,8 @@ pub extern "C" fn commonware_max_faults(k: u32, n: u32) -> u32
     tolerated_faults(k, n)
 }
 
-/// How many of `n` participants make a quorum, which are all but those that may be faulty; 0 where
-/// `n` is 0 or `k` below 2.
+/// Returns how many of `n` participants make a quorum, which are all but those that may be faulty;
+/// 0 where `n` is 0 or `k` below 2.
 #[unsafe(no_mangle)]
 pub extern "C" fn commonware_quorum(k: u32, n: u32) -> u32
     ensures quorum { 2 ≤ k → 1 ≤ n → IsQuorumSize k n result }
@@ -33,8 +33,8 @@ pub extern "C" fn commonware_quorum(k: u32, n: u32) -> u32
     n - tolerated_faults(k, n)
 }
 
-/// The least size whose subsets of `n` participants share with each quorum one more than may be
-/// faulty; 0 where `n` is 0 or `k` below 2.
+/// Returns the least size whose subsets of `n` participants share with each quorum one more than
+/// may be faulty; 0 where `n` is 0 or `k` below 2.
 #[unsafe(no_mangle)]
 pub extern "C" fn commonware_smaller_quorum(k: u32, n: u32) -> u32
     ensures quorum { 2 ≤ k → 1 ≤ n → IsSmallerQuorumSize k n result }

@@ -1,4 +1,4 @@
-//! The place of a key among the keys of a committee, where they stand.
+//! The place of a key among the keys of a committee, in place.
 ghost use Rattle.std.specs.Prelude.{◌≡◌, ◌≢◌, ◌↔◌, ◌<◌, Contains, length};
 ghost use Rattle.std.specs.List.{HoldsAt};
 ghost use Rattle.commonware_ordered.specs.Strict.{IsStrict};
@@ -14,15 +14,16 @@ use std::cmp::Ordering;
 pub struct PlaceView {
     /// 0 where one of them is the key, else 12.
     pub status: u32,
-    /// The index of the one that is; else of the one before which the key would stand.
+    /// The index of the one that is; else of the one before which the key would be inserted.
     pub index: usize,
 }
 
-/// Looks a key up among the keys of a committee, by halving them. No memory is asked for.
+/// Looks a key up among the keys of a committee, by halving them. Nothing is allocated.
 ///
-/// It answers every list of keys: the index of the key itself, or a gap between two neighbours of
-/// which the first is less than the key and the second is greater. Where the list is strict, as
-/// the keys of a committee are, a gap is told exactly where the key isn't in the list.
+/// It takes every list of keys, and returns the index of the key itself, or a gap between two
+/// neighbours of which the first is less than the key and the second is greater. Where the list is
+/// strictly increasing, as the keys of a committee are, it returns a gap exactly where the key
+/// isn't in the list.
 #[unsafe(no_mangle)]
 pub extern "C" fn commonware_committee_index(members: &[[u8; 32]], key: &[u8; 32]) -> PlaceView
     ensures found { result.status ≡ 0 → (result.index < length members.now)

@@ -16,34 +16,34 @@ use Rattle.commonware_c.proofs.checked.check.Goals as goal
 pub returns-then-not-contains-clause-refused : goal.returns-then-not-contains-clause-refused
 returns-then-not-contains-clause-refused c =
     let range : c.from-range.result ≡ between c.args.least c.args.most = search rules in
-    let outside : ¬ Within (between c.args.least c.args.most) c.in-Ok.field-0.0 = λ w. cc (c.if-not-contains.ensures.1 (subst (λ r. Within r c.in-Ok.field-0.0) (sym range) w)) in
-    bad_list (read_outside member_bytes IsMember (λ _. Unit {0}) (between c.args.least c.args.most) c.in-Ok.field-0.0 c.args.src.now member_fault (λ _. Unit {0})
-    c.read_cfg.new.src c.in-Ok.ensures.accepted.writable outside c.in-Ok.ensures.consumed)
+    let outside : ¬ Within (between c.args.least c.args.most) c.in_ok-number.number.0 = λ w. cc (c.if-not-contains.ensures.1 (subst (λ r. Within r c.in_ok-number.number.0) (sym range) w)) in
+    bad_list (read_outside member_bytes IsMember (λ _. Unit {0}) (between c.args.least c.args.most) c.in_ok-number.number.0 c.args.src.now member_fault (λ _. Unit {0})
+    c.read_cfg.new.src c.in_ok-number.ensures.accepted.writable outside c.in_ok-number.ensures.consumed)
 
 pub returns-in_default-clause-refused : goal.returns-in_default-clause-refused
 returns-in_default-clause-refused c =
     let range : c.from-range.result ≡ between c.args.least c.args.most = search rules in
-    let within : Within (between c.args.least c.args.most) c.in-Ok.field-0.0 = subst (λ r. Within r c.in-Ok.field-0.0) range (c.if-not-contains.ensures.0 refl) in
-    let count = c.in-Ok.field-0.0 in
+    let within : Within (between c.args.least c.args.most) c.in_ok-number.number.0 = subst (λ r. Within r c.in_ok-number.number.0) range (c.if-not-contains.ensures.0 refl) in
+    let count = c.in_ok-number.number.0 in
     let now = c.read_cfg.new.src in
     let fewer : length (rest_of now) < count * 32 = search rules in
     bad_list (list_faulty member_bytes IsMember (λ _. Unit {0}) (between c.args.least c.args.most) count c.args.src.now now
-    c.in-Ok.ensures.accepted.writable c.in-Ok.ensures.consumed member_fault (λ _. Unit {0}) within _
+    c.in_ok-number.ensures.accepted.writable c.in_ok-number.ensures.consumed member_fault (λ _. Unit {0}) within _
     (items_lack member_bytes IsMember member_fault 32 (λ v w. w.count) (λ s f w. w) member_laws.accepted_or_faulty count (rest_of now) (rest_bytes now) fewer))
 
 pub returns-then-not-are_in_order-clause-refused : goal.returns-then-not-are_in_order-clause-refused
 returns-then-not-are_in_order-clause-refused c =
     let range : c.from-range.result ≡ between c.args.least c.args.most = search rules in
-    let within : Within (between c.args.least c.args.most) c.in-Ok.field-0.0 = subst (λ r. Within r c.in-Ok.field-0.0) range (c.if-not-contains.ensures.0 refl) in
-    let count = c.in-Ok.field-0.0 in
+    let within : Within (between c.args.least c.args.most) c.in_ok-number.number.0 = subst (λ r. Within r c.in_ok-number.number.0) range (c.if-not-contains.ensures.0 refl) in
+    let count = c.in_ok-number.number.0 in
     let now = c.read_cfg.new.src in
     let keys = c.in-Some.keys.now in
     let are_keys = c.in-Some.ensures.keys in
     bad_order refl (record {
       items = keys;
       rest = drop (count * 32) (rest_of now);
-      begins = begins_with_keys count c.args.src.now now keys are_keys _ c.in-Ok.ensures.consumed (cut_at_keys count c.args.src.now now keys are_keys);
-      writable = keys_writable count c.args.src.now now keys are_keys c.in-Ok.ensures.accepted.writable;
+      begins = begins_with_keys count c.args.src.now now keys are_keys _ c.in_ok-number.ensures.consumed (cut_at_keys count c.args.src.now now keys are_keys);
+      writable = keys_writable count c.args.src.now now keys are_keys c.in_ok-number.ensures.accepted.writable;
       allowed = keys_allowed count c.args.src.now now keys are_keys (between c.args.least c.args.most) within;
       unsorted = λ s. let e = c.if-not-are_in_order.ensures.1 s in cc;
     })
@@ -51,8 +51,8 @@ returns-then-not-are_in_order-clause-refused c =
 pub returns-clause-accepted : goal.returns-clause-accepted
 returns-clause-accepted c =
     let range : c.from-range.result ≡ between c.args.least c.args.most = search rules in
-    let within : Within (between c.args.least c.args.most) c.in-Ok.field-0.0 = subst (λ r. Within r c.in-Ok.field-0.0) range (c.if-not-contains.ensures.0 refl) in
-    let count = c.in-Ok.field-0.0 in
+    let within : Within (between c.args.least c.args.most) c.in_ok-number.number.0 = subst (λ r. Within r c.in_ok-number.number.0) range (c.if-not-contains.ensures.0 refl) in
+    let count = c.in_ok-number.number.0 in
     let now = c.read_cfg.new.src in
     let keys = c.in-Some.keys.now in
     let are_keys = c.in-Some.ensures.keys in
@@ -62,10 +62,10 @@ returns-clause-accepted c =
       sym are_keys.number,
       record {
         writable = record {
-          list = keys_writable count c.args.src.now now keys are_keys c.in-Ok.ensures.accepted.writable;
+          list = keys_writable count c.args.src.now now keys are_keys c.in_ok-number.ensures.accepted.writable;
           strict = c.if-not-are_in_order.ensures.0 refl;
         };
         allowed = keys_allowed count c.args.src.now now keys are_keys (between c.args.least c.args.most) within;
-        begins = begins_with_keys count c.args.src.now now keys are_keys _ c.in-Ok.ensures.consumed on.rest;
+        begins = begins_with_keys count c.args.src.now now keys are_keys _ c.in_ok-number.ensures.consumed on.rest;
       },
     )

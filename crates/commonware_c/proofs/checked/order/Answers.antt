@@ -8,7 +8,7 @@ use Rattle.committee_core.specs.Members.{member_cmp}
 use Rattle.committee_core.proofs.BigEndian.{determined_further}
 use Rattle.commonware_c.proofs.checked.order.Goals as goal
 
--- what settles an order is the order
+-- what determines an order is the order
 then_apart : (o rest : Ordering) → ¬ (o ≡ Equal) → o ≡ ordering_then o rest
 then_apart Less rest other = refl
 then_apart Greater rest other = refl

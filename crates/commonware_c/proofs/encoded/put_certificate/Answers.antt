@@ -14,7 +14,7 @@ put_bytes-count_at-requires c =
     let room = length_on 0 (varint (length v)) c.put_varint-value_at.new.out c.args.out.now (omega (arith, long, c.requires.enough)) c.put_varint-value_at.ensures.bytes in
     omega (arith, long, c.requires.enough, room, c.put_varint-value_at.ensures.place)
 
--- how many bytes stand up to the value's end, and up to the signers
+-- how many bytes there are up to the value's end, and up to the signers
 module _ (v s : List ℕ) where
   to_value : length (varint (length v) ++ v) ≡ length (varint (length v)) + length v
   to_value = length-append (varint (length v)) v
@@ -22,7 +22,7 @@ module _ (v s : List ℕ) where
   to_signers : length (before_signers v s) ≡ length (varint (length v)) + length v + length (varint (length s))
   to_signers = let n = length-append (varint (length v) ++ v) (varint (length s)) in omega (arith, n, to_value)
 
-  -- the value stands after its length
+  -- the value is after its length
   valued : (out1 out2 room : List ℕ) (at : ℕ) → length (certificate_enc (v, s)) ≤ length room
       → at ≡ 0 + length (varint (length v)) → out1 ≡ spliced 0 (varint (length v)) room → out2 ≡ spliced at v out1
       → out2 ≡ spliced 0 (varint (length v) ++ v) room

@@ -6,7 +6,7 @@ use Rattle.committee_core.specs.Members.{member_cmp}
 use Rattle.commonware_c.proofs.NoGap.{not_in_gap}
 use Rattle.commonware_c.proofs.places.commonware_committee_index.Goals as goal
 
--- the place that was asked is inside
+-- the place that was compared is inside
 inside : (low high n : ℕ) → low < high → high ≤ n → low + (high - low) / 2 < n
 inside low high n some within = omega (arith, some, within)
 

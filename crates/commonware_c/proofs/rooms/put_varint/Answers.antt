@@ -5,7 +5,7 @@ use Rattle.commonware_c.specs.Splices.{spliced}
 use Rattle.commonware_c.proofs.Spliced.{length_on, spliced_none, spliced_on, spliced_one}
 use Rattle.commonware_c.proofs.rooms.put_varint.Goals as goal
 
--- one more byte is written after those that spell the number so far
+-- one more byte is written after those that encode the number so far
 step : (number left at next b : ℕ) (sofar out room : List ℕ) → at + length (varint number) ≤ length room
     → next ≡ at + length sofar → out ≡ spliced at sofar room → Goes number left sofar
     → slice_set out next b ≡ spliced at (sofar ++ b ∷ []) room
