@@ -93,14 +93,6 @@ module _ {T : Type 0} (enc : T → List ℕ) (Writable Allowed : T → Type 0) (
         go [] n w a free f fault = first_wants (sym n) free
         go (x ∷ xs) n w a free f fault = accepted_no_fault _ x (flat_map enc xs ++ rest_of now) f (record { writable = w.0; allowed = a.0; begins = append_assoc (enc x) (flat_map enc xs) (rest_of now) }) fault
 
--- one more item was taken
-pub items_more : {T : Type 0} (enc : T → List ℕ) (start now next : Source) (items : List T) (v : T) → Consumes start now (flat_map enc items) → Consumes now next (enc v) → Consumes start next (flat_map enc (items ++ v ∷ []))
-items_more enc start now next items v s t =
-    let one : flat_map enc (v ∷ []) ≡ enc v = append-nil (enc v) in
-    let e : flat_map enc items ++ enc v ≡ flat_map enc (items ++ v ∷ []) =
-    ap (λ u. flat_map enc items ++ u) (sym one) ∙ sym (flat_map-append enc items (v ∷ [])) in
-    subst (Consumes start next) e (consumes_both start now next (flat_map enc items) (enc v) s t)
-
 -- The length was read, and it is in the range.
 module _ {T : Type 0} (enc : T → List ℕ) (Writable Allowed : T → Type 0) (range : Bounds ℕ) (count : ℕ) (start now : Source) (short : count < 2 ^ 32) (taken : Consumes start now (varint count)) (item_fault : List ℕ → Fault → Type 0) (ItemMemoryFree : List ℕ → Type 0) (in_range : Within range count) where
   -- the fault of the items is the list's

@@ -1,33 +1,19 @@
 -- Items that are inserted in their order one at a time into a run and a tree.
-use Rattle.std.proofs.Common.{◌≡◌, ℕ, ◌+◌, Bool, true, false, List, [], ◌∷◌, ◌++◌, length, get_or, refl, sym, ◌∙◌, ap, subst, append_assoc, append-nil, arith, ◌⊎◌, ⊎_elim}
-use Rattle.std.specs.BTreeSet.{insert_key}
+use Rattle.std.proofs.Common.{◌≡◌, ℕ, ◌+◌, Bool, true, List, [], ◌∷◌, ◌++◌, length, get_or, refl, sym, ◌∙◌, ap, subst, append_assoc, append-nil, arith, ◌⊎◌, ⊎_elim}
 use Rattle.std.specs.Cmp.{IsTotalOrder}
 use Rattle.std.specs.List.{AllByRecursion, list_any}
 use Rattle.std.specs.List.Sorted.{IsStrictlySortedBy}
 use Rattle.std.specs.Ordering.{MatchOrdering, eq_by_cmp}
-use Rattle.std.specs.Prelude.{None, Some, not}
+use Rattle.std.specs.Prelude.{None, Some}
 use Rattle.std.specs.Vec.Iter.{into_iter_items, into_iter_len, into_iter_steps}
 use Rattle.std.specs.declared.vec.IntoIter.{IntoIter}
 use Rattle.std.specs.declared.cmp.Ordering.{Ordering}
 use Rattle.std.specs.declared.cmp.Ordering.TheVariants.{Less, Equal, Greater}
 use Rattle.commonware_ordered.specs.Put.{IsPut}
 use Rattle.commonware_ordered.specs.Strict.{IsStrict}
-use Rattle.commonware_ordered.proofs.Halves.{put_in_run, run_is_all, run_is_none, strict_from_sorted}
+use Rattle.commonware_ordered.proofs.Halves.{put_in_run, strict_from_sorted}
 use Rattle.commonware_ordered.proofs.IncreasingKeys.{below_all, below_next, one_equals, put_at_end, strict_more}
 use Rattle.commonware_ordered.proofs.Zipped.{empty_from_len}
-
--- what the tree says of an item that it took in or not is an insertion
-pub put_from_added : {X : Type 0} (cmp : X → X → Ordering) (r s : List X) (x : X) (new : Bool) → new ≡ not (list_any (eq_by_cmp cmp x) r) → s ≡ insert_key cmp r x → (new ≡ false → s ≡ r) → IsPut cmp r x new s
-put_from_added cmp r s x true a k u = (go (list_any (eq_by_cmp cmp x) r) a, k)
-  where
-    go : (b : Bool) → true ≡ not b → b ≡ false
-    go true h = cc
-    go false h = refl
-put_from_added cmp r s x false a k u = (go (list_any (eq_by_cmp cmp x) r) a, u refl)
-  where
-    go : (b : Bool) → false ≡ not b → b ≡ true
-    go true h = refl
-    go false h = cc
 
 module _ {X Z : Type 0} where
   -- of the items all, those of done were given, and the others are left
@@ -72,21 +58,6 @@ module _ {X : Type 0} {cmp : X → X → Ordering} (o : IsTotalOrder cmp) where
   run_grows run more x s below is = subst (IsStrictlySortedBy cmp) (sym is) (strict_more o run x s below)
 
 module _ {X : Type 0} (cmp : X → X → Ordering) where
-  -- an item that equals one of the run is there
-  pub kept_equal : (run tree : List X) (x : X) → length tree ≡ 0 → list_any (eq_by_cmp cmp x) run ≡ true → IsPut cmp (run ++ tree) x false (run ++ tree)
-  kept_equal run tree x none has = (ap (list_any (eq_by_cmp cmp x)) (sym (run_is_all run tree (run ++ tree) refl none)) ∙ has, refl)
-
-  -- an item that is inserted into the tree, where the run is empty
-  pub kept_in_tree : (run tree after : List X) (x : X) (new : Bool) → (run ≡ []) ⊎ (tree ≡ []) → ¬ (length tree ≡ 0) → IsPut cmp tree x new after → IsPut cmp (run ++ tree) x new (run ++ after)
-  kept_in_tree run tree after x new one some h =
-      subst (λ l. IsPut cmp (l ++ tree) x new (l ++ after)) (sym (run_is_none run tree (run ++ tree) refl one some)) h
-
-  -- an item that is inserted into the tree, once the run was moved there
-  pub kept_moved : (run tree moved after none : List X) (x : X) (new : Bool) → length tree ≡ 0 → moved ≡ run → none ≡ [] → IsPut cmp moved x new after → IsPut cmp (run ++ tree) x new (none ++ after)
-  kept_moved run tree moved after none x new empty same nothing h =
-      subst (λ l. IsPut cmp (run ++ tree) x new (l ++ after)) (sym nothing)
-      (subst (λ l. IsPut cmp l x new after) (same ∙ run_is_all run tree (run ++ tree) refl empty) h)
-
   -- the items of a run and a tree, one of which is empty, are strictly increasing
   pub strict_both : (run tree all : List X) → all ≡ run ++ tree → (run ≡ []) ⊎ (tree ≡ []) → IsStrictlySortedBy cmp run → IsStrictlySortedBy cmp tree → IsStrict cmp all
   strict_both run tree all is one a b =
