@@ -111,9 +111,7 @@ impl<T: Ord, A: Allocator> Set<T, A> {
     {
         place_of(self.as_slice(), item)
     }
-}
 
-impl<T: Ord, A: Allocator> Set<T, A> {
     /// Returns the set of the items. It requires that they are strictly increasing: each is less
     /// than the next. It allocates nothing.
     pub fn from_strict(items: Vec<T, A>) -> Self

@@ -32,9 +32,7 @@ impl<T: Ord + Drop, A: Allocator + Copy> Set<T, A> {
         let items = all_kept(run, tree)?;
         Ok(Set { items })
     }
-}
 
-impl<T: Ord + Drop, A: Allocator + Copy> Set<T, A> {
     /// Returns the set of all the items, or `DuplicateKey` where two of them are equal. It takes
     /// O(n log n) comparisons; a list that is strictly increasing is taken as it is, without an
     /// allocation.
