@@ -76,6 +76,14 @@ impl<K: Ord + Drop, V: Eq + Hash + Drop, A: Allocator + Copy> BiMap<K, V, A> {
             Ok(BiMap { map })
         }
     }
+
+    /// Returns all pairs in the order of their keys.
+    pub fn into_pairs(self) -> Result<Vec<(K, V), A>, AllocError>
+        ensures { IfOk result (λ pairs. pairs.items ≡ self) }
+    {
+        let BiMap { map } = self;
+        map.into_pairs()
+    }
 }
 
 /// Whether two positions hold equal values. It allocates for as many references, and for no values
@@ -207,15 +215,5 @@ impl<K: Ord, V: Eq + Hash + Drop, A: Allocator> BiMap<K, V, A> {
     {
         let BiMap { map } = self;
         map.into_keys()
-    }
-}
-
-impl<K: Ord + Drop, V: Eq + Hash + Drop, A: Allocator + Copy> BiMap<K, V, A> {
-    /// Returns all pairs in the order of their keys.
-    pub fn into_pairs(self) -> Result<Vec<(K, V), A>, AllocError>
-        ensures { IfOk result (λ pairs. pairs.items ≡ self) }
-    {
-        let BiMap { map } = self;
-        map.into_pairs()
     }
 }

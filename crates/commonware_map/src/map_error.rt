@@ -3,7 +3,8 @@ ghost use Rattle.std.specs.Prelude.{◌≡◌};
 
 use std::alloc::AllocError;
 
-/// Why no map of new values was made.
+/// Why no map of new values was made. A closure that fails with 7 at the second key gives
+/// `Closure(7)`, and isn't called again.
 #[derive(Debug, PartialEq, Eq, Drop, thiserror::Error)]
 pub enum MapError<E> {
     /// An allocation failed. It says nothing of the values.

@@ -5,6 +5,9 @@ ghost use Rattle.commonware_ordered.specs.declared.error.Error.TheVariants.{Memo
 use std::alloc::{AllocError, AllocFailed};
 
 /// Why no collection was made.
+///
+/// The items 3, 1, 2 and 2 give `DuplicateKey`; in a bimap, the pairs `(1, 'a')`, `(2, 'b')` and
+/// `(3, 'a')` give `DuplicateValue`.
 #[derive(Debug, PartialEq, Eq, Drop, thiserror::Error)]
 pub enum Error {
     /// Two items or two keys are equal.

@@ -1,5 +1,5 @@
--- The words of `codec`: texts, faults, refusals, fronts, sources, ranges and lists; and the forms of bytes, words,
--- numbers and sequences with their laws, which an item of a user's own cites.
+-- The definitions of `codec`: inputs, faults (decoding errors), errors, prefixes, sources, ranges and lists; and the
+-- encodings of bytes, words, numbers and sequences with their laws, which an item of a user's own cites.
 pub use Rattle.commonware_base.specs.Bytes.{byte, byte_fault}
 pub use Rattle.commonware_base.specs.laws.ByteLaws.{byte_canonical, byte_laws}
 pub use Rattle.commonware_base.specs.laws.ByteLaws.{byte_length, byte_prefix_free}

@@ -1,4 +1,4 @@
--- The errors of `codec`, apart from the words of `codec`, whose faults have their names.
+-- The errors of `codec`, apart from the definitions of `codec`, whose faults have their names.
 pub use Rattle.commonware_base.specs.declared.codec.error.Error.{Error}
 pub use Rattle.commonware_base.specs.declared.codec.error.Error.TheVariants.{EndOfBuffer, Invalid}
 pub use Rattle.commonware_base.specs.declared.codec.error.Error.TheVariants.{InvalidLength}

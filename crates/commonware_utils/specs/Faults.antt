@@ -1,5 +1,5 @@
--- The words of `faults`: sizes of committees, subsets that overlap, and the lemmas that (n - 1) / k is the greatest f
--- at every k, of both models and of others.
+-- The definitions of `faults`: sizes of committees, subsets that overlap (quorum intersection), and the lemmas that
+-- (n - 1) / k is the greatest f at every k, of both models and of others.
 pub use Rattle.commonware_faults.specs.Counts.{GreatestFit, IsCommitteeSize, IsU32, amount}
 pub use Rattle.commonware_faults.specs.Counts.{n3f1_faults, n5f1_faults}
 pub use Rattle.commonware_faults.specs.Subsets.{Greatest, Greatest3, Greatest5, GreatestFor, IsIn, IsOutside}

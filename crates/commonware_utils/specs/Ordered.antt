@@ -1,4 +1,5 @@
--- The words of `ordered`: strict order, places, what the builders answer, faults and their cuts, loans and value maps.
+-- The definitions of `ordered`: strictly increasing lists, places, what the builders return, faults and their error
+-- cases, mutable borrows and value maps.
 pub use Rattle.commonware_bimap.specs.BiMaps.{BeginsRepeated, IsWritableBiMap, repeated_fault}
 pub use Rattle.commonware_bimap.specs.BiMaps.{BiMapFault, bad_map, bad_values}
 pub use Rattle.commonware_bimap.specs.BiMaps.{BiMapCase, at_map, at_values, bimap_case}

@@ -1,5 +1,5 @@
--- The words of the root: signed texts, clones that are equal, what a collection's iterator gives, what is drawn from an
--- iterator, and what closures are asked and answer.
+-- The definitions of the root: signed bytes, clones that are equal, what a collection's iterator gives, what is drawn
+-- from an iterator, and what closures take and return.
 pub use Rattle.commonware_base.specs.Calls.{CallableAlong, CallsGive, CallsGiveAll}
 pub use Rattle.commonware_base.specs.laws.CallLaws.{answers_are}
 pub use Rattle.commonware_base.specs.laws.CloneLaws.{equal_from_all_zip, equal_from_same}

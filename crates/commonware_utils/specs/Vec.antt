@@ -1,4 +1,4 @@
--- The words of `vec`: lists with an item, their faults and cuts, queues, loans and closures.
+-- The definitions of `vec`: lists with an item, their faults and error cases, queues, mutable borrows and closures.
 pub use Rattle.commonware_vec.specs.Closures.{AppendsAnswers, CallableTimes, CalledWith}
 pub use Rattle.commonware_vec.specs.Closures.{CalledWithNothing, TakesNothing, TakesWith}
 pub use Rattle.commonware_vec.specs.Lends.{LendsItemAt, LendsItems, LendsItemsTo}

@@ -12,7 +12,7 @@ use std::cmp::Ordering;
 use std::fmt::{Debug, Display};
 use std::hash::{DefaultHasher, Hash, Hasher};
 
-/// What the reader answers for the bytes, and how many of them it took.
+/// What the reader returns for the bytes, and how many of them it took.
 fn read<T: Read<A>, A: Allocator + Copy>(
     alloc: A,
     bytes: &[u8],
@@ -26,7 +26,7 @@ fn read<T: Read<A>, A: Allocator + Copy>(
     (result, src.position())
 }
 
-/// Whether each text is refused with the fault beside it, and the source stands where it stood.
+/// Whether each input is refused with the fault beside it, and the source is where it was.
 fn refuses<T: Read<A> + Drop, A: Allocator + Copy>(
     alloc: A,
     cfg: &T::Cfg,
@@ -51,7 +51,7 @@ fn is_written_as<T: Write<A>, A: Allocator>(alloc: A, value: &T, bytes: &[u8]) -
         && value.encode_size() == bytes.len()
 }
 
-/// Whether the reader answers an equal value for the bytes, and takes so many of them.
+/// Whether the reader returns an equal value for the bytes, and takes `taken` of them.
 fn is_read_as<T: Read<A> + PartialEq + Drop, A: Allocator + Copy>(
     alloc: A,
     bytes: &[u8],
@@ -117,7 +117,7 @@ fn are_equal<T: Eq + Hash>(a: &T, b: &T, equal: bool) -> bool {
     (*a == *b) == equal && (hash_of(a) == hash_of(b)) == equal
 }
 
-/// Whether the two stand in this order, by each comparison, and their hashes are equal where they
+/// Whether the two are in this order, by each comparison, and their hashes are equal where they
 /// are.
 fn are_ordered<T: Ord + Hash>(a: &T, b: &T, order: Ordering) -> bool {
     a.cmp(b) == order

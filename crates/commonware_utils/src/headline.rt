@@ -1,4 +1,5 @@
-//! What the library promises above all, as three calls whose contracts are its three parts.
+//! The library's main theorem, as three calls whose contracts are its three parts: canonical
+//! encodings, exact decoding, and the numbers of the fault models.
 //!
 //! Each part follows from the public contracts of the calls below it, and from nothing else.
 ghost use Rattle.std.specs.Prelude.{◌≡◌, ◌-◌, ◌≤◌, ◌↔◌, ℕ, List, IfErr, IfOk, true};
@@ -14,14 +15,14 @@ use crate::ordered::{BiMap, Map, Set};
 use std::alloc::Allocator;
 use std::hash::Hash;
 
-/// Two writable values are equal exactly where their bytes are. `equal_sets`, `equal_maps` and
-/// `equal_bimaps` are three instances.
+/// Encodings are canonical: two writable values are equal exactly where their encodings are.
+/// `equal_sets`, `equal_maps` and `equal_bimaps` are three instances.
 pub fn equal_by_bytes<T: Canonical>()
     ensures { (x y : T) → T.writable x → T.writable y
         → (T.eq x y ≡ true) ↔ (T.enc x ≡ T.enc y) }
 {}
 
-/// Two writable sets are equal exactly where their bytes are, whatever their items are.
+/// Two writable sets are equal exactly where their encodings are, whatever their items are.
 pub fn equal_sets<T: Ord + Canonical, A: Allocator>()
     ensures { (x y : List T)
         → IsWritableSet T.writable T.cmp x → IsWritableSet T.writable T.cmp y
@@ -30,7 +31,8 @@ pub fn equal_sets<T: Ord + Canonical, A: Allocator>()
     equal_by_bytes::<Set<T, A>>()
 }
 
-/// Two writable maps are equal exactly where their bytes are, whatever their keys and values are.
+/// Two writable maps are equal exactly where their encodings are, whatever their keys and values
+/// are.
 pub fn equal_maps<K: Ord + Canonical, V: Canonical, A: Allocator>()
     ensures { (x y : List (K × V))
         → IsWritableMap K.writable K.cmp V.writable x → IsWritableMap K.writable K.cmp V.writable y
@@ -39,7 +41,8 @@ pub fn equal_maps<K: Ord + Canonical, V: Canonical, A: Allocator>()
     equal_by_bytes::<Map<K, V, A>>()
 }
 
-/// Two writable bimaps are equal exactly where their bytes are, whatever their keys and values are.
+/// Two writable bimaps are equal exactly where their encodings are, whatever their keys and values
+/// are.
 pub fn equal_bimaps<K: Ord + Canonical, V: Canonical + Hash, A: Allocator>()
     ensures { (x y : List (K × V))
         → IsWritableBiMap K.writable K.cmp V.writable V.eq x
@@ -49,10 +52,10 @@ pub fn equal_bimaps<K: Ord + Canonical, V: Canonical + Hash, A: Allocator>()
     equal_by_bytes::<BiMap<K, V, A>>()
 }
 
-/// The value at the front of a text, and what is left of it.
+/// Decodes the value at the start of the input, and returns it with the rest of the input.
 ///
-/// Memory aside, the texts that are accepted are exactly those that a writable value within the
-/// limits writes, with anything after it.
+/// Allocation failures aside, the inputs that are accepted are exactly the encodings of writable
+/// values within the limits, with anything after them.
 pub fn decode<'a, T: Read<A>, A: Allocator>(
     alloc: A,
     text: &'a [u8],
@@ -66,13 +69,12 @@ pub fn decode<'a, T: Read<A>, A: Allocator>(
         (T.memory_free limits.now text.now)) }
 {
     let mut source = Source::new(text);
-    match T::read_cfg(alloc, &mut source, limits) {
-        Ok(value) => Ok((value, source.rest())),
-        Err(error) => Err(error),
-    }
+    let value = T::read_cfg(alloc, &mut source, limits)?;
+    Ok((value, source.rest()))
 }
 
-/// What a fault model answers for some participants.
+/// The numbers of a fault model for some participants. For 6 participants under `N3f1`,
+/// `max_faults` is 1 and `quorum` is 5.
 #[derive(Clone, Copy, Debug, PartialEq, Eq)]
 pub struct Numbers {
     /// How many of them may be faulty.
@@ -81,8 +83,8 @@ pub struct Numbers {
     pub quorum: u32,
 }
 
-/// What a fault model of a resilience `n >= kf + 1` answers for `n` participants, one of your own
-/// among them. `n` is at least 1.
+/// Returns the numbers of a fault model of a resilience `n >= kf + 1` for `n` participants, one of
+/// your own among them. It requires that `n` is at least 1.
 ///
 /// The faults are the greatest f for which any two subsets of n - f share at least (k - 2)f + 1,
 /// with all that `IsFaultTolerance` says; a quorum is n - f.
@@ -99,7 +101,8 @@ pub fn resilience_numbers<M: Resilience>(n: u32) -> Numbers
     }
 }
 
-/// What the models answer for `n` participants, `N3f1` first and then `N5f1`. `n` is at least 1.
+/// Returns the numbers of both models for `n` participants, `N3f1` first and then `N5f1`. It
+/// requires that `n` is at least 1.
 ///
 /// The faults of `N3f1` are the greatest f for which any two subsets of n - f share at least
 /// f + 1, those of `N5f1` the greatest for which they share at least 3f + 1; a quorum is n - f.

@@ -1,7 +1,7 @@
-//! Ordered collections and quorums for consensus: one order of participants, one byte form of each
-//! collection.
+//! Ordered collections and quorums for Byzantine consensus: one order of participants, one
+//! canonical encoding of each collection.
 //!
-//! The crate gives its lower crates again, so that a user names it alone.
+//! The crate re-exports its lower crates, so that a user names it alone.
 #![tactic(auto)]
 
 #[cfg(test)]

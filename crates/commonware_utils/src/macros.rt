@@ -45,10 +45,10 @@ macro_rules! NZU64 {
 /// | Form | Items |
 /// |---|---|
 /// | `alloc => a, b` | these |
-/// | `alloc => e; n` | `e` so many times, a `usize` that isn't 0 |
+/// | `alloc => e; n` | `e`, `n` times, a `usize` that isn't 0 |
 /// | `alloc => e; NZUsize!(n)` | the same |
-/// | `alloc => e; @n` | `e` so many times, a `NonZeroUsize` |
-/// | `@items` | those of a `Vec`, which isn't empty; here the list itself is answered |
+/// | `alloc => e; @n` | `e`, `n` times, a `NonZeroUsize` |
+/// | `@items` | those of a `Vec`, which isn't empty; this form returns the list itself |
 #[macro_export]
 macro_rules! non_empty_vec {
     (@$items:expr) => {

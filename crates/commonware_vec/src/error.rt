@@ -4,7 +4,7 @@ ghost use Rattle.commonware_vec.specs.declared.error.Error.TheVariants.{Memory};
 
 use std::alloc::{AllocError, AllocFailed};
 
-/// Why no list that is never empty was made.
+/// Why no list that is never empty was made. A `Vec` without items gives `Empty`.
 #[derive(Debug, PartialEq, Eq, Drop, thiserror::Error)]
 pub enum Error {
     /// There are no items.

@@ -4,7 +4,7 @@
 --     inner_at, rule_at          where its fields lie
 --     parts                      a `&` to the allocator is one to each field
 --     Counts, counting           the contract of `refuses`, and what a call picks in it
---     counts_from, counts_to     what a call of it takes, and what it leaves: its answer, and the token
+--     counts_from, counts_to     what a call of it takes, and what it leaves: its result, and the token
 use Rattle.std.proofs.Common.{◌≡◌, ℕ, ◌+◌, ◌^◌, ◌<◌, Bool, List, [], ◌∷◌, refl, ap, w64}
 use seplogic.Ra.Ura.{Ura}
 use mir.Syntax.{Args, a_type, dnil, dcons}
@@ -82,7 +82,7 @@ module _ {M : Type 1} {𝓤 : Ura M} (𝓛 : Logic 𝓤) (at_mem : Memory → SP
       move ! (2 ∷ []) $ feq_i ! (List Val) (vptr p.0 p.1 ∷ []) (vptr p.0 p.1 ∷ []) refl $ fjoin ! $
       fjoin ! $ nothing ! $ move ! (2 ∷ 1 ∷ 0 ∷ []) $ join ! $ done !
 
-  -- It leaves its answer, which is some `bool`, and the token.
+  -- It leaves its result, which is some `bool`, and the token.
   pub counts_to : (v : Val) → ent 𝓤 ((Counts 𝓛 at_mem run).post (counting 𝓛 at_mem run κ q p c n) v)
       (H.⇛ (ex 𝓤 (λ (b : Bool). guard 𝓤 (v ≡ vbool b) (A.lft κ q))))
   counts_to v =

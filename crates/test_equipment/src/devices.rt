@@ -15,8 +15,10 @@ pub enum ReadFault {
     GivesOneByte,
 }
 
-/// Gives at most `step` bytes a call. At the end of its bytes it ends, or fails at every call. One
-/// call of `read` may go wrong.
+/// A reader that gives at most `step` bytes a call. At the end of its bytes it ends, or fails at
+/// every call. One call of `read` may go wrong.
+///
+/// Of the bytes `b"abcd"`, 2 a call, where call 1 gives one byte: the calls return 2, 1, 1 and 0.
 #[derive(Drop)]
 pub struct ScriptedReader<'a> {
     /// The bytes that no call has given yet.
@@ -109,14 +111,16 @@ pub enum WriteFault {
     Fails(io::ErrorKind),
     /// It takes nothing and fails with this kind of error, and so does every later call.
     Breaks(io::ErrorKind),
-    /// It takes nothing and says so: it answers `Ok(0)`.
+    /// It takes nothing and says so: it returns `Ok(0)`.
     TakesNothing,
     /// It takes one byte, where there is one, whatever its step, unless that is 0.
     TakesOneByte,
 }
 
-/// Takes at most `step` bytes a call, and keeps them. One call of `write` may go wrong, or each
-/// from one on, and `flush` may fail.
+/// A writer that takes at most `step` bytes a call, and keeps them. One call of `write` may go
+/// wrong, or each from one on, and `flush` may fail.
+///
+/// Calls with 3 bytes, 2 a call, where call 1 takes one byte: they return 2, 1, 2 and 2.
 #[derive(Drop)]
 pub struct ScriptedWriter<A: Allocator> {
     /// The bytes that it has taken.

@@ -1,10 +1,13 @@
-//! An allocator that refuses one request, all from one on, or each one that is too large.
+//! An allocator that refuses one request, all from one on, or each one that is too large: each
+//! refusal is an allocation failure for its caller.
 
 use std::alloc::{AllocError, Allocator};
 use std::cell::Cell;
 
 /// Passes every request on to another allocator, but refuses one of them, or all from one on, or
-/// each one for more than so many bytes.
+/// each one for more than a number of bytes.
+///
+/// Of `Refusing::all_after(alloc, 1)` the first request is granted, and every later one refused.
 ///
 /// A call of `grow` or `shrink` counts as a request too, since it allocates a new block: one for
 /// all the bytes of that. A test passes it as `&Refusing<B>`, which is an allocator as well, and
@@ -18,7 +21,7 @@ pub struct Refusing<B: Allocator> {
 /// Which requests are refused.
 #[derive(Drop)]
 struct Refusals {
-    /// How many bytes a request may ask for at most.
+    /// The most bytes that a request may be for.
     most: usize,
     /// Whether those after the first refused one are refused as well.
     lasting: bool,
@@ -29,7 +32,7 @@ struct Refusals {
 }
 
 impl Refusals {
-    /// Requests for at most so many bytes, of which so many are granted.
+    /// Grants the first `granted` requests that are for at most `most` bytes.
     fn new(most: usize, lasting: bool, granted: u64) -> Refusals {
         Refusals {
             most,
@@ -41,10 +44,10 @@ impl Refusals {
 }
 
 impl<B: Allocator> Refusing<B> {
-    /// An allocator over `inner` that grants so many requests and refuses the next one alone: it
-    /// grants the later ones again.
+    /// Returns an allocator over `inner` that grants `granted` requests and refuses the next one
+    /// alone: it grants the later ones again.
     ///
-    /// With `u64::MAX` it refuses none that a program lives to ask for.
+    /// With `u64::MAX` it refuses none that a program can reach.
     pub fn after(inner: B, granted: u64) -> Refusing<B> {
         Refusing {
             inner,
@@ -52,7 +55,7 @@ impl<B: Allocator> Refusing<B> {
         }
     }
 
-    /// An allocator over `inner` that grants so many requests and refuses all later ones.
+    /// Returns an allocator over `inner` that grants `granted` requests and refuses all later ones.
     pub fn all_after(inner: B, granted: u64) -> Refusing<B> {
         Refusing {
             inner,
@@ -60,7 +63,7 @@ impl<B: Allocator> Refusing<B> {
         }
     }
 
-    /// An allocator over `inner` that refuses each request for more than so many bytes, and
+    /// Returns an allocator over `inner` that refuses each request for more than `most` bytes, and
     /// grants all others.
     pub fn above(inner: B, most: usize) -> Refusing<B> {
         Refusing {
@@ -69,7 +72,7 @@ impl<B: Allocator> Refusing<B> {
         }
     }
 
-    /// From now on it grants so many requests, and refuses as it did at first, whatever came
+    /// From now on it grants `granted` requests, and refuses as it did at first, whatever came
     /// before. Those that are too large for it stay refused.
     pub fn restart(&self, granted: u64) {
         self.refusals.granted.set(granted);
@@ -88,7 +91,7 @@ impl<B: Allocator> Refusing<B> {
     }
 }
 
-/// Counts a request for so many bytes, and says whether it is refused.
+/// Counts a request for `size` bytes, and returns whether it is refused.
 fn refuses(refusals: &Refusals, size: usize) -> bool {
     let granted = refusals.granted.get();
     refusals.granted.set(granted.saturating_sub(1));

@@ -1,5 +1,5 @@
-//! Each request for memory of a call refused in turn, alone and with all that come after it,
-//! counting upwards until a run meets no refusal.
+//! Each allocation of a call made to fail in turn, alone and with all that come after it, counting
+//! upwards until a run meets no failure.
 ghost use Rattle.std.specs.Prelude.{◌≡◌, if◌then◌else◌};
 ghost use Rattle.test_equipment.specs.declared.walk.Outcome.TheVariants.{Full, Refused, Wrong};
 
@@ -12,12 +12,12 @@ const ENOUGH: u64 = 1000;
 /// An allocator that refuses requests.
 pub type Heap<'a> = &'a Refusing<Global>;
 
-/// What a run of a call came to.
+/// What a run of a call returned.
 #[derive(Clone, Copy, Debug, PartialEq, Eq)]
 pub enum Outcome {
     /// The full result.
     Full,
-    /// A refusal for memory, after which all is as it has to be.
+    /// An allocation failure, after which all is as it has to be.
     Refused,
     /// Neither.
     Wrong,
@@ -30,7 +30,7 @@ pub fn full(right: bool) -> Outcome
     if right { Outcome::Full } else { Outcome::Wrong }
 }
 
-/// A refusal for memory, if all is as it has to be after it.
+/// An allocation failure, if all is as it has to be after it.
 pub fn refused(right: bool) -> Outcome
     ensures { result ≡ (if right then Refused else Wrong) }
 {
@@ -41,10 +41,10 @@ pub fn refused(right: bool) -> Outcome
     }
 }
 
-/// A call that takes memory.
+/// A call that allocates.
 pub trait Refusable {
-    /// What the call comes to where its request after so many granted ones is refused. The heap
-    /// refuses none before.
+    /// Returns what the call does where its request after `granted` granted ones is refused. The
+    /// heap refuses none before.
     fn outcome(&self, heap: Heap<'_>, granted: u64) -> Outcome;
 
     /// Whether the call may give the full result though a request was refused, as one for more
@@ -63,9 +63,9 @@ enum Refusal {
     AllLater,
 }
 
-/// How many requests the call makes where none is refused, and then it gives the full result.
-/// `None` where that isn't so, or where a run with one of them refused comes to anything else
-/// than it may.
+/// Returns how many requests the call makes where none is refused, and then it gives the full
+/// result. `None` where that isn't so, or where a run with one of them refused returns anything
+/// else than it may.
 fn walk<C: Refusable>(alloc: Global, call: &C, refusal: Refusal) -> Option<u64> {
     for granted in 0..ENOUGH {
         let heap = match refusal {
@@ -84,15 +84,15 @@ fn walk<C: Refusable>(alloc: Global, call: &C, refusal: Refusal) -> Option<u64> 
     None
 }
 
-/// How many requests the call makes, as the walks over them find it that refuse each alone and
-/// with all that come after it. `None` where one of them comes to anything else than it may.
+/// Returns how many requests the call makes, as the walks over them find it that refuse each alone
+/// and with all that come after it. `None` where one of them returns anything else than it may.
 pub fn requests<C: Refusable>(alloc: Global, call: &C) -> Option<u64> {
     let asked = walk(alloc, call, Refusal::One)?;
     let again = walk(alloc, call, Refusal::AllLater)?;
     (asked == again).then_some(asked)
 }
 
-/// Whether the call makes at least so many requests, or none where that is 0, and comes to what it
+/// Whether the call makes at least `least` requests, or none where that is 0, and returns what it
 /// may where each is refused in turn.
 pub fn asks_for<C: Refusable>(alloc: Global, call: &C, least: u64) -> bool {
     match requests(alloc, call) {

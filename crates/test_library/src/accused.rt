@@ -6,7 +6,7 @@ use commonware_utils::{N3f1, N5f1, Participant};
 use std::alloc::{AllocError, Global};
 use uses_certificates::{accused, conflict_under};
 
-/// The signers of two certificates for different values, of a committee of so many members; those
+/// The signers of two certificates for different values, of a committee of this many members; those
 /// of both, or the error, under `N3f1` and under `N5f1`.
 struct Row {
     members: u32,
@@ -40,7 +40,7 @@ const ROWS: [Row; 3] = [
     },
 ];
 
-/// Whether these participants are answered, or this error.
+/// Whether these participants are returned, or this error.
 fn answers(
     answer: Result<Set<Participant, Global>, ConflictError>,
     wanted: Result<&[u32], ConflictError>,
@@ -52,7 +52,7 @@ fn answers(
     }
 }
 
-/// Whether so many participants are counted as are wanted, or the wanted error is answered.
+/// Whether the wanted number of participants is counted, or the wanted error is returned.
 fn counts(answer: Result<usize, ConflictError>, wanted: Result<&[u32], ConflictError>) -> bool {
     match (answer, wanted) {
         (Ok(count), Ok(indices)) => count == indices.len(),

@@ -1,4 +1,4 @@
-//! Certificates that are read, written and cloned, and texts that are none.
+//! Certificates that are read, written and cloned, and inputs that are none.
 use crate::signers::are;
 use committee_certificates::{Certificate, ConflictError};
 use commonware_utils::Participant;
@@ -6,7 +6,7 @@ use commonware_utils::codec::{EncodeSize, Error, RangeCfg, Read, Source, Write};
 use commonware_utils::ordered::Set;
 use std::alloc::{AllocError, Global};
 
-/// A text that begins with a certificate: its value, its signers, and how many bytes follow.
+/// An input that begins with a certificate: its value, its signers, and how many bytes follow.
 struct Accepted {
     bytes: &'static [u8],
     value: &'static [u8],
@@ -41,7 +41,7 @@ const ACCEPTED: [Accepted; 4] = [
     },
 ];
 
-/// Texts and their first faults.
+/// Inputs and their first faults.
 const REFUSED: [(&[u8], Error); 11] = [
     (b"", Error::EndOfBuffer),
     (b"\x21", Error::InvalidLength(33)),
@@ -94,7 +94,7 @@ fn is_written(alloc: Global, row: &Accepted) -> Option<bool> {
     Some(written && whole && sized && certificate.clone().ok()? == certificate)
 }
 
-/// Whether the text is refused for this, and the source stays.
+/// Whether the input is refused for this, and the source stays.
 fn is_refused(alloc: Global, bytes: &[u8], wanted: &Error) -> bool {
     let mut src = Source::new(bytes);
     match read(alloc, &mut src) {
@@ -122,7 +122,7 @@ fn other_texts_are_refused(rt: HostRuntime) {
     }
 }
 
-/// Where a certificate is cut short, the end of its text is its fault, wherever the cut is.
+/// Where a certificate is truncated, its fault is the end of the input, wherever it is truncated.
 #[test]
 fn beginnings_are_refused(rt: HostRuntime) {
     for row in &ACCEPTED {

@@ -1,4 +1,4 @@
-//! The members that signed both of two certificates, with each request for memory refused in turn.
+//! The members that signed both of two certificates, with each allocation failing in turn.
 use crate::signers::{are, certificate};
 use committee_certificates::{Certificate, ConflictError, conflict, conflict_among};
 use commonware_utils::Participant;
@@ -131,7 +131,7 @@ pub(super) fn conflict_of<M: Faults, A: Allocator + Copy>(
     Some(conflict::<M, _, _>(alloc, committee, first, second))
 }
 
-/// What the answer comes to where this one is wanted.
+/// The outcome of a result where the wanted one is this.
 fn outcome_of(
     both: Option<Result<Set<Participant, Heap<'_>>, ConflictError>>,
     wanted: Result<&[u32], ConflictError>,
@@ -185,7 +185,7 @@ impl Refusable for Row {
     }
 }
 
-/// An answer takes one request, and a refusal that isn't for memory takes none.
+/// A result takes one allocation, and an error that isn't an allocation failure takes none.
 #[test]
 fn signers_of_both_are_named(rt: HostRuntime) {
     for (at, row) in ROWS.iter().enumerate() {

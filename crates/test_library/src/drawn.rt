@@ -1,11 +1,11 @@
-//! An iterator that counts how often it is asked.
+//! An iterator that counts how often `next` is called.
 ghost use Rattle.std.specs.Prelude.{length};
 ghost use Rattle.std.specs.Iterator.{at_most};
 ghost use Rattle.std.specs.Iterator.SizeHint.{IsWithinCount};
 
 use std::cell::Cell;
 
-/// Gives the items of a list, and counts the questions for one.
+/// Gives the items of a list, and counts the calls of `next`.
 #[derive(Drop)]
 pub struct Drawn<'a, T> {
     rest: &'a [T],

@@ -1,4 +1,4 @@
-//! Which allocator a set and a map answer, where there are two.
+//! Which allocator a set and a map return, where there are two.
 use commonware_utils::TryFromIterator;
 use commonware_utils::ordered::{BiMap, Error, Map, Set};
 use std::alloc::Global;
@@ -13,7 +13,7 @@ fn is_heap(allocator: Heap<'_>, heap: Heap<'_>) -> bool {
     refused
 }
 
-/// Whether a set, a map and a bimap answer the heap that they were made on, and no other one.
+/// Whether a set, a map and a bimap return the heap that they were made on, and no other one.
 fn are_held(heap: Heap<'_>, other: Heap<'_>) -> Result<bool, Error> {
     let set = Set::try_from_iter(heap, [3u8, 1, 2])?;
     let map = Map::try_from_iter(heap, [(3u8, 30u8), (1, 10)])?;
@@ -25,8 +25,8 @@ fn are_held(heap: Heap<'_>, other: Heap<'_>) -> Result<bool, Error> {
     Ok(held)
 }
 
-/// Whether a map of keys on one heap and values on another answers that of the keys, and its keys
-/// do.
+/// Whether a map of keys on one heap and values on another returns that of the keys, and so do its
+/// keys.
 fn is_that_of_the_keys(keys: Heap<'_>, values: Heap<'_>) -> Result<bool, Error> {
     let set = Set::try_from_iter(keys, [1u8, 2])?;
     let list = Vec::from_slice(values, &[10u8, 20])?;

@@ -14,8 +14,8 @@ fn key(number: u32) -> Member {
     Member::new(bytes)
 }
 
-/// Whether, in the set of the keys of so many even numbers, each has its place, and that of no odd
-/// number has one.
+/// Whether, in the set of the keys of the first `count` even numbers, each has its place, and that
+/// of no odd number has one.
 fn are_found(alloc: Global, count: u32) -> Result<bool, Error> {
     let set = Set::try_from_iter(alloc, (0..count).map(|place| key(place.wrapping_mul(2))))?;
     for place in 0..count {

@@ -1,5 +1,5 @@
 //! What is done with collections of 70,000 entries, more than every buffer and every first room of
-//! the library: with ample memory each call answers.
+//! the library: with ample memory each call succeeds.
 use crate::large_inputs::{COUNT, are_all, are_at, pairs};
 use committee_certificates::Certificate;
 use commonware_utils::codec::{RangeCfg, Read, Source, Write};
@@ -87,7 +87,7 @@ fn a_large_certificate_is_cloned_and_read_back(rt: HostRuntime) {
     assert!(rt; is_certified(rt.alloc()) == Ok(true));
 }
 
-/// Whether the values of a map are answered for, each of which is the position of its key.
+/// Whether the value maps are right, where each value is the position of its key.
 fn are_mapped(map: Map<u32, u32, Global>) -> Result<bool, MapError<u32>> {
     let borrowed = map.map_values(|_, value| *value)?;
     let tried = map.try_map_values(|_, value| Ok(*value))?;

@@ -1,5 +1,5 @@
 //! Builders and `conflict` at inputs that are longer than every buffer and every first room of the
-//! library, in an order that is neither rising nor falling: with ample memory they answer.
+//! library, in an order that is neither increasing nor decreasing: with ample memory they succeed.
 use crate::conflicts::conflict_of;
 use committee_certificates::Certificate;
 use commonware_utils::faults::N3f1;
@@ -12,7 +12,7 @@ use std::ops::Range;
 pub(super) const COUNT: u32 = 70_000;
 
 /// The number at a position: 27,449 has no divisor in common with 70,000, so each number below
-/// 70,000 stands at one position.
+/// 70,000 is at one position.
 fn number(position: u32) -> u32 {
     (u64::from(position) * 27_449 % u64::from(COUNT)) as u32
 }
@@ -31,7 +31,7 @@ pub(super) fn are_all(keys: &[u32]) -> bool {
     keys.iter().copied().eq(0..COUNT)
 }
 
-/// Whether the number of each key stands at the position that is its value.
+/// Whether the number of each key is at the position that is its value.
 pub(super) fn are_at(keys: &[u32], values: &[u32]) -> bool {
     for (key, position) in keys.iter().zip(values) {
         if number(*position) != *key {

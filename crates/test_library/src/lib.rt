@@ -1,6 +1,6 @@
-//! Tests of the library with each request for memory refused in turn, with a heap that refuses
-//! large ones, and of what is answered without memory: the collections, readers and writers, the
-//! headline and certificates. Beside them stand those of the equipment that refuses and fails.
+//! Tests of the library with each allocation failing in turn, with a heap that refuses large ones,
+//! and of what allocates nothing: the collections, readers and writers, the
+//! headline and certificates. Beside them are those of the equipment that refuses and fails.
 #![tactic(auto)]
 
 #[cfg(test)]

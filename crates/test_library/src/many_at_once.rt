@@ -1,6 +1,6 @@
 //! Bytes, words of four bytes and members of a committee, of which many are written and read at
-//! once: more of them than any list has room for at first, with each request for memory refused in
-//! turn, and texts that end before the last of them.
+//! once: more of them than any list has room for at first, with each allocation failing in turn,
+//! and inputs that end before the last of them.
 use crate::readings::outcome;
 use crate::refused_codec::{ACTS, Act, Trial};
 use committee_core::Member;
@@ -13,7 +13,7 @@ use test_equipment::walk::{Heap, Outcome, Refusable, asks_for, full, refused, re
 /// How many items there are.
 const MANY: u32 = 5000;
 
-/// The bytes of a list of so many: 5,000 is 39 · 128 + 8.
+/// The bytes of the length 5,000, which is 39 · 128 + 8.
 const LENGTH: [u8; 2] = [0x88, 0x27];
 
 /// Items, the bytes of all of them, and the bytes of the list of them.
@@ -34,7 +34,7 @@ impl<T: Drop> Row<T> {
         })
     }
 
-    /// Puts an item last, which has these bytes.
+    /// Appends an item, which has these bytes.
     fn push(&mut self, item: T, bytes: &[u8]) -> Result<(), AllocError> {
         self.items.push(item)?;
         self.bytes.extend_from_slice(bytes)?;
@@ -230,7 +230,7 @@ impl<'r> Refusable for Listed<'r> {
     }
 }
 
-/// Lists and sets of many are written, read and cloned with each request refused in turn.
+/// Lists and sets of many are written, read and cloned with each allocation failing in turn.
 #[test]
 fn lists_of_many_ask_for_little(rt: HostRuntime) {
     let rows = many_of_each(rt.alloc()).expect(&rt, "memory");
@@ -256,7 +256,7 @@ impl Form {
         }
     }
 
-    /// What reading the form from the bytes comes to.
+    /// What reading the form from the bytes returns.
     fn read(self, heap: Heap<'_>, bytes: &[u8]) -> (Option<Error>, usize) {
         let limits = (RangeCfg::from(..), ());
         match self {
@@ -269,7 +269,7 @@ impl Form {
     }
 }
 
-/// Whether each beginning of the text but the whole ends too soon, and asks for no memory.
+/// Whether each proper prefix of the input ends too soon, and allocates nothing.
 fn is_cut_everywhere(alloc: Global, form: Form, list: &[u8]) -> bool {
     let heap = Refusing::all_after(alloc, 0);
     for length in 0..list.len() {
@@ -280,7 +280,7 @@ fn is_cut_everywhere(alloc: Global, form: Form, list: &[u8]) -> bool {
     !heap.has_refused()
 }
 
-/// A text that ends too soon is refused without memory, wherever it ends.
+/// An input that ends too soon is refused without an allocation, wherever it ends.
 #[test]
 fn a_cut_text_asks_for_no_memory(rt: HostRuntime) {
     let rows = many_of_each(rt.alloc()).expect(&rt, "memory");

@@ -1,4 +1,4 @@
-//! Texts that are read or refused without memory, the first request for it being refused.
+//! Inputs that are decoded or refused without an allocation: the first one would fail.
 use crate::readings::outcome;
 use commonware_utils::codec::{Error, RangeCfg};
 use commonware_utils::ordered::{BiMap, Map, Set};
@@ -7,7 +7,7 @@ use std::num::NonZeroUsize;
 use test_equipment::Refusing;
 use test_equipment::walk::Heap;
 
-/// What a text is read as.
+/// What an input is decoded as.
 #[derive(Clone, Copy)]
 enum Form {
     Set,
@@ -70,7 +70,7 @@ const TEXTS: [(Form, &[u8], Option<Error>); 23] = [
 ];
 
 impl Form {
-    /// What reading the form from the bytes comes to.
+    /// What reading the form from the bytes returns.
     fn read(self, heap: Heap<'_>, bytes: &[u8]) -> (Option<Error>, usize) {
         let any = RangeCfg::from(..);
         let some: RangeCfg<NonZeroUsize> = RangeCfg::from(..);
@@ -86,7 +86,7 @@ impl Form {
     }
 }
 
-/// Whether the row's text is read to its end, or refused for its error and not read.
+/// Whether the row's input is read to its end, or refused for its error and not read.
 fn is_read(heap: Heap<'_>, row: &(Form, &[u8], Option<Error>)) -> bool {
     let (form, bytes, wanted) = row;
     let (error, read) = form.read(heap, bytes);

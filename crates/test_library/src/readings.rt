@@ -1,4 +1,4 @@
-//! What is said of a text that is read.
+//! What is said of an input that is decoded.
 use commonware_utils::codec::{Error, Read, Source};
 use std::alloc::Allocator;
 

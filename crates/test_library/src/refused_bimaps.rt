@@ -1,5 +1,5 @@
-//! The builders of bimaps and their pairs with each request for memory refused in turn, and the
-//! calls that take none.
+//! The builders of bimaps and their pairs with each allocation failing in turn, and the calls that
+//! allocate nothing.
 use commonware_utils::ordered::{BiMap, Error, Map};
 use commonware_utils::{TryCollect, TryFromIterator};
 use std::alloc::Global;
@@ -35,7 +35,7 @@ const PAIRS: [([(u8, u8); 4], Result<&[u8], Error>); 3] = [
     ([(5, 1), (1, 3), (5, 4), (9, 1)], Err(Error::DuplicateKey)),
 ];
 
-/// What the builder answers for the pairs.
+/// What the builder returns for the pairs.
 fn build<'a>(
     builder: Builder,
     heap: Heap<'a>,
@@ -52,7 +52,7 @@ fn build<'a>(
     }
 }
 
-/// A builder at some pairs, and what it has to answer.
+/// A builder at some pairs, and what it has to return.
 #[derive(Drop)]
 struct Building {
     builder: Builder,
@@ -110,7 +110,7 @@ impl Refusable for FromMap {
     }
 }
 
-/// Whether the builder answers what it has to for all the pairs.
+/// Whether the builder returns what it has to for all the pairs.
 fn is_right(alloc: Global, builder: Builder) -> bool {
     for (pairs, answer) in PAIRS {
         let call = Building {
@@ -133,7 +133,7 @@ fn each_request_is_refused_in_turn(rt: HostRuntime) {
     assert!(rt; asks_for(rt.alloc(), &IntoPairs, 1) && asks_for(rt.alloc(), &FromMap, 1));
 }
 
-/// Whether the map is refused for memory when it is made a bimap.
+/// Whether the map is refused by an allocation failure when it is made a bimap.
 fn is_refused(map: Map<u8, u8, Heap<'_>>) -> bool {
     BiMap::try_from_map(map).err() == Some(Error::Memory)
 }
@@ -156,7 +156,7 @@ fn is_looked_up(bimap: &Numbers<'_>) -> bool {
         && bimap.iter_pairs().next_back() == Some((&3, &10))
 }
 
-/// Whether the keys of one {1: 30, 2: 20, 3: 10} and the first pair of another are given up.
+/// Whether the keys of one {1: 30, 2: 20, 3: 10} and the first pair of another are consumed.
 fn are_given_up(bimap: Numbers<'_>, other: Numbers<'_>) -> bool {
     let first = other.into_iter().next();
     bimap.into_keys().as_slice() == [1, 2, 3].as_slice() && first == Some((1, 30))

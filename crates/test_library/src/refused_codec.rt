@@ -1,5 +1,5 @@
-//! Values of each byte form written, read, cloned and written to be read again, with each request
-//! for memory refused in turn: what was lent is as it was.
+//! Values of each encoding written, read, cloned and written to be read again, with each allocation
+//! failing in turn: what was borrowed is as it was.
 ghost use Rattle.std.specs.Prelude.{IfOk};
 
 use committee_certificates::Certificate;
@@ -49,8 +49,8 @@ enum Form {
     Certificate,
 }
 
-/// Each form, and at least how many requests it takes to write it, to read it, to clone it, and to
-/// write it and read it again. Where that is 0, it takes none.
+/// Each form, and at least how many allocations it takes to write it, to read it, to clone it, and
+/// to write it and read it again. Where that is 0, it takes none.
 const FORMS: [(Form, [u64; 4]); 13] = [
     (Form::Byte, [1, 0, 0, 1]),
     (Form::Word, [1, 0, 0, 1]),
@@ -133,12 +133,12 @@ fn read<T: Read<A>, A: Allocator>(alloc: A, bytes: &[u8], cfg: &T::Cfg) -> Resul
 }
 
 impl<'a> Trial<'a> {
-    /// The act, with the request after so many granted ones refused.
+    /// The act, with the allocation after `granted` granted ones failing.
     pub(super) fn new(act: Act, heap: Heap<'a>, granted: u64) -> Self {
         Trial { act, heap, granted }
     }
 
-    /// What the act on the value comes to that the bytes stand for. The value has to stay as it is.
+    /// What the act returns on the value that the bytes encode. The value has to stay as it is.
     pub(super) fn on<T: Read<Heap<'a>> + Write<Heap<'a>> + Canonical + Clone + Drop>(
         &self,
         bytes: &[u8],
@@ -162,7 +162,7 @@ impl<'a> Trial<'a> {
         }
     }
 
-    /// The value written into a sink, which a refusal leaves as it was. Its size takes no memory.
+    /// The value written into a sink, which a refusal leaves as it was. Its size allocates nothing.
     fn write<T: Write<Heap<'a>>>(&self, value: &T, bytes: &[u8]) -> Outcome {
         match vec![in self.heap; 0xaau8, 0xbb, 0xcc] {
             Ok(mut sink) => self.write_after(value, &mut sink, bytes),
@@ -247,7 +247,7 @@ impl Refusable for ListRead {
     }
 }
 
-/// A list of as many bytes as room is made for at once, read from its text.
+/// A list of as many bytes as room is reserved for at once, decoded.
 #[derive(Drop)]
 struct LongRead<'a>(&'a [u8]);
 
@@ -263,7 +263,7 @@ impl<'b> Refusable for LongRead<'b> {
     }
 }
 
-/// The text of a list of 1,024 bytes.
+/// The encoding of a list of 1,024 bytes.
 fn long(alloc: Global) -> Result<Vec<u8>, AllocError> {
     let mut bytes = b"\x80\x08".to_vec(alloc)?;
     for _ in 0..1024 {
@@ -279,7 +279,7 @@ fn a_list_takes_one_request(rt: HostRuntime) {
     assert!(rt; requests(rt.alloc(), &LongRead(&bytes)) == Some(1));
 }
 
-/// Whether each act on a value of the form makes so many requests at least.
+/// Whether each act on a value of the form makes at least this many allocations.
 fn acts_ask_for(alloc: Global, form: Form, least: [u64; 4]) -> bool {
     for (act, least) in ACTS.into_iter().zip(least) {
         if !asks_for(alloc, &Call { form, act }, least) {
@@ -297,7 +297,7 @@ fn each_request_is_refused_in_turn(rt: HostRuntime) {
     assert!(rt; asks_for(rt.alloc(), &ListRead, 3));
 }
 
-/// A sink of so many bytes.
+/// A sink of `length` bytes.
 fn sink_of(heap: Heap<'_>, length: usize) -> Result<Vec<u8, Heap<'_>>, AllocError> {
     let mut bytes = Vec::new(heap);
     for _ in 0..length {
@@ -306,8 +306,8 @@ fn sink_of(heap: Heap<'_>, length: usize) -> Result<Vec<u8, Heap<'_>>, AllocErro
     Ok(bytes)
 }
 
-/// Whether the varint is written, or is refused and leaves the sink, with no memory but the sink's.
-/// How often it is refused is counted.
+/// Whether the varint is written, or fails and leaves the sink, with no memory but the sink's. How
+/// often it fails is counted.
 fn is_written(heap: Heap<'_>, sink: &mut Vec<u8, Heap<'_>>, refusals: &mut u32) -> bool {
     let length = sink.len();
     heap.restart(0);

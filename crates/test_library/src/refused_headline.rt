@@ -1,4 +1,4 @@
-//! The headline's decoder with each request for memory refused in turn.
+//! The headline's decoder with each allocation failing in turn.
 use commonware_utils::codec::{Error, RangeCfg};
 use commonware_utils::headline::decode;
 use commonware_utils::ordered::Set;

@@ -1,5 +1,5 @@
-//! The builders of sets and maps at many items in many orders, with each request for memory
-//! refused in turn, and lists that are sets already.
+//! The builders of sets and maps at many items in many orders, with each allocation failing in
+//! turn, and lists that are sets already.
 use crate::builders::{BUILDERS, Builder};
 use crate::{refused_maps, refused_sets};
 use commonware_utils::ordered::{Error, Set};
@@ -114,7 +114,7 @@ fn each_request_of_a_map_is_refused_in_turn(rt: HostRuntime) {
     }
 }
 
-/// Whether the numbers below the count are taken as a set without memory.
+/// Whether the numbers below the count are taken as a set without an allocation.
 fn are_taken(heap: Heap<'_>, items: Vec<u32, Heap<'_>>, count: u32) -> Result<bool, Error> {
     heap.restart(0);
     let set = Set::try_from_vec(items)?;

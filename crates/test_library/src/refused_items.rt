@@ -1,5 +1,5 @@
-//! Collections whose items take memory of their own, with each request refused in turn, so that
-//! the refusal falls on an item too: what was lent is as it was.
+//! Collections whose items take memory of their own, with each allocation failing in turn, so that
+//! the refusal falls on an item too: what was borrowed is as it was.
 use commonware_utils::NZUsize;
 use commonware_utils::ordered::{BiMap, Map, MapError, Set};
 use commonware_utils::vec::{Bounded, NonEmptyVec};
@@ -73,8 +73,8 @@ enum Build {
     ListOfArray,
 }
 
-/// What the call answers for the items, as whether it is right. `None` if it was refused for
-/// memory.
+/// What the call returns for the items, as whether it is right. `None` if it was refused by an
+/// allocation failure.
 fn built<'a>(call: Build, heap: Heap<'a>, items: &[Item<'a>; 3]) -> Option<bool> {
     match call {
         Build::SetOfSlice => Some(is_in_order(&Set::try_from_slice(heap, items).ok()?)),
@@ -128,8 +128,8 @@ fn bimap_is_in_order(bimap: &ItemsBothWays<'_>) -> bool {
     is_in_order(bimap.keys()) && are(bimap.values(), &IN_ORDER)
 }
 
-/// What the call answers for the pairs, as whether it is right. `None` if it was refused for
-/// memory.
+/// What the call returns for the pairs, as whether it is right. `None` if it was refused by an
+/// allocation failure.
 fn built_of_pairs<'a>(call: BuildPairs, heap: Heap<'a>, pairs: &[Pair<'a>; 3]) -> Option<bool> {
     let right = match call {
         BuildPairs::MapOfSlice => map_is_in_order(&Map::try_from_slice(heap, pairs).ok()?),

@@ -1,6 +1,6 @@
-//! Lists that are never empty, with each of their requests for memory refused in turn: what was
-//! lent is as it was, what was pushed comes back, and a closure was called for no item. The calls
-//! that take none are answered.
+//! Lists that are never empty, with each of their allocations failing in turn: what was borrowed is
+//! as it was, what was pushed comes back, and a closure was called for no item. The calls that
+//! allocate nothing succeed.
 use commonware_utils::codec::EncodeSize;
 use commonware_utils::vec::{Error, Mutate, NonEmptyVec};
 use commonware_utils::{NZUsize, TryCollect, TryFromIterator, non_empty_vec};
@@ -126,7 +126,7 @@ const MAKES: [(Make, &[u8]); 10] = [
     (Make::MacroOfVariable, &[4, 4, 4]),
 ];
 
-/// What the call answers for 1, 2, 3.
+/// What the call returns for 1, 2, 3.
 fn made_by<'a>(call: Make, heap: Heap<'a>, items: &[u8]) -> Result<List<'a>, Error> {
     match call {
         Make::One => NonEmptyVec::new(heap, 7u8),
@@ -145,8 +145,7 @@ fn made_by<'a>(call: Make, heap: Heap<'a>, items: &[u8]) -> Result<List<'a>, Err
     }
 }
 
-/// What the answer comes to where these items are wanted, and no closure is called before a
-/// refusal.
+/// The outcome of a result where these items are wanted, and no closure is called before a failure.
 fn outcome_of(made: Result<List<'_>, Error>, wanted: &[u8], calls: u32) -> Outcome {
     match made {
         Ok(made) => full(made.as_slice() == wanted),
@@ -199,7 +198,7 @@ fn counted(item: u8, calls: &mut u32) -> u8 {
     item
 }
 
-/// What the call answers for the list, lent and owned, and how often a closure was called.
+/// What the call returns for the list, borrowed and owned, and how often a closure was called.
 fn remade_by<'a>(call: Remake, list: &List<'a>, owned: List<'a>) -> (Result<List<'a>, Error>, u32) {
     let mut calls = 0u32;
     let made = match call {
@@ -237,8 +236,8 @@ fn each_request_is_refused_in_turn(rt: HostRuntime) {
     }
 }
 
-/// Takes four of six items away, and answers whether the two that came back are right and no
-/// closure was called.
+/// Removes four of six items, and returns whether the two that came back are right and no closure
+/// was called.
 fn shorten(list: &mut List<'_>) -> Result<bool, Error> {
     if list.len().get() != 6 {
         return Ok(false);
@@ -279,7 +278,7 @@ fn is_changed(list: &mut List<'_>) -> bool {
     list.len().get() == 2 && *list.last() == 1 && list[0] == 7
 }
 
-/// The items of a list that is given up and taken twice.
+/// The items of a list that is consumed and rebuilt twice.
 fn given_up(list: List<'_>) -> Result<Vec<u8, Heap<'_>>, Error> {
     let items = NonEmptyVec::from_unchecked(list.into_vec()).into_vec();
     Ok(NonEmptyVec::try_from(items)?.into())

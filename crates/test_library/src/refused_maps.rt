@@ -1,5 +1,5 @@
-//! The builders of maps and their pairs with each request for memory refused in turn, and the
-//! calls that take none.
+//! The builders of maps and their pairs with each allocation failing in turn, and the calls that
+//! allocate nothing.
 use crate::builders::{BUILDERS, Builder};
 use commonware_utils::codec::EncodeSize;
 use commonware_utils::ordered::{Error, Map, Set};
@@ -14,7 +14,7 @@ const PAIRS: [(u32, u8); 4] = [(5, 50), (1, 10), (9, 90), (3, 30)];
 /// Pairs of which two have the key 5.
 const REPEAT: [(u32, u8); 4] = [(5, 50), (1, 10), (5, 90), (3, 30)];
 
-/// What the builder answers for the pairs.
+/// What the builder returns for the pairs.
 pub(super) fn build<'a, const N: usize>(
     builder: Builder,
     heap: Heap<'a>,
@@ -34,7 +34,7 @@ pub(super) fn build<'a, const N: usize>(
 /// The keys and the values of a map, or the repeat.
 type Answer = Result<(&'static [u32], &'static [u8]), Error>;
 
-/// A builder at some pairs, and the keys and values of the map that it has to answer.
+/// A builder at some pairs, and the keys and values of the map that it has to return.
 #[derive(Drop)]
 struct Building {
     builder: Builder,
@@ -78,7 +78,7 @@ impl Refusable for IntoPairs {
     }
 }
 
-/// What the builder has to answer where two pairs have the key 5.
+/// What the builder has to return where two pairs have the key 5.
 fn answer_of_repeat(builder: Builder) -> Answer {
     match builder {
         Builder::Dedup => Ok((&[1, 3, 5], &[10, 30, 50])),

@@ -1,5 +1,5 @@
-//! Bounded queues with each of their requests for memory refused in turn, and their calls that
-//! take none.
+//! Bounded queues with each of their allocations failing in turn, and their calls that allocate
+//! nothing.
 use commonware_utils::NZUsize;
 use commonware_utils::vec::Bounded;
 use std::collections::VecDeque;

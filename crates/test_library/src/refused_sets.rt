@@ -1,5 +1,5 @@
-//! The builders of sets with each request for memory refused in turn, and the calls on sets that
-//! take none.
+//! The builders of sets with each allocation failing in turn, and the calls on sets that allocate
+//! nothing.
 use crate::builders::{BUILDERS, Builder};
 use commonware_utils::codec::EncodeSize;
 use commonware_utils::ordered::{Error, Quorum, Set};
@@ -15,7 +15,7 @@ const ITEMS: [([u32; 5], &[u32], bool); 3] = [
     ([5, 1, 3, 1, 9], &[1, 3, 5, 9], false),
 ];
 
-/// What the builder answers for the items.
+/// What the builder returns for the items.
 pub(super) fn build<'a, const N: usize>(
     builder: Builder,
     heap: Heap<'a>,
@@ -32,7 +32,7 @@ pub(super) fn build<'a, const N: usize>(
     }
 }
 
-/// A builder at some items, and what it has to answer.
+/// A builder at some items, and what it has to return.
 #[derive(Drop)]
 struct Building {
     builder: Builder,
@@ -55,7 +55,7 @@ impl Refusable for Building {
     }
 }
 
-/// Whether the builder answers what it has to for all the items.
+/// Whether the builder returns what it has to for all the items.
 fn is_right(alloc: Global, builder: Builder) -> bool {
     let keeps_first = matches!(builder, Builder::Dedup);
     let least = if keeps_first { 2 } else { 1 };
@@ -106,7 +106,7 @@ fn is_before<'a>(set: &Set<u32, Heap<'a>>, other: &Set<u32, Heap<'a>>) -> bool {
     *set < *other && *set != *other && set.is_writable()
 }
 
-/// Whether the items of {1, 3, 5} and the last of {1, 5} are given up.
+/// Whether the items of {1, 3, 5} and the last of {1, 5} are consumed.
 fn are_given_up(set: Set<u32, Heap<'_>>, other: Set<u32, Heap<'_>>) -> bool {
     let last = other.into_iter().next_back();
     let items: Vec<u32, Heap<'_>> = set.into();

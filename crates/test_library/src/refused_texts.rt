@@ -1,4 +1,4 @@
-//! Sets, maps and bimaps shown as a text on a heap, with each request refused in turn.
+//! Sets, maps and bimaps shown as a text on a heap, with each allocation failing in turn.
 use commonware_utils::TryFromIterator;
 use commonware_utils::ordered::{BiMap, Error, Map, Set};
 use std::fmt::{Debug, Display};
@@ -29,7 +29,7 @@ const SHOWN: [Shown; 6] = [
     ),
 ];
 
-/// The text of a value on the heap. `None` if it was refused for memory.
+/// The text of a value on the heap. `None` if it was refused by an allocation failure.
 fn text_of<'a, T: Display + Debug>(
     heap: Heap<'a>,
     value: &T,
@@ -43,7 +43,7 @@ fn text_of<'a, T: Display + Debug>(
 }
 
 impl Shown {
-    /// The text of the collection, for which so many requests are granted before one is refused.
+    /// The text of the collection, for which `granted` requests are granted before one is refused.
     fn text<'a>(&self, heap: Heap<'a>, granted: u64) -> Result<Option<String<Heap<'a>>>, Error> {
         let Shown(collection, debug, _) = *self;
         match collection {

@@ -1,4 +1,4 @@
-//! The unions of bytes with each request for memory refused in turn.
+//! The unions of bytes with each allocation failing in turn.
 use commonware_utils::{union, union_unique};
 use test_equipment::walk::{Heap, Outcome, Refusable, asks_for, full, refused};
 

@@ -1,5 +1,5 @@
-//! The value maps with each of their requests for memory refused in turn: before a refusal the
-//! closure was called for no entry, or for every one where the clone of the keys is refused.
+//! The value maps with each of their allocations failing in turn: before a refusal the closure was
+//! called for no entry, or for every one where the clone of the keys is refused.
 use commonware_utils::ordered::{Map, MapError, Set};
 use test_equipment::walk::{Heap, Outcome, Refusable, full, refused, requests};
 
@@ -40,8 +40,8 @@ fn half(value: u8, calls: &mut u32) -> u8 {
     value / 2
 }
 
-/// What the call answers where the closure halves a value or fails with its key, and how often
-/// the closure was called.
+/// What the call returns where the closure halves a value or fails with its key, and how often the
+/// closure was called.
 fn call_on<'a>(
     call: Call,
     map: &Tens<'a>,
@@ -63,8 +63,7 @@ fn call_on<'a>(
     (answer, calls)
 }
 
-/// What the answer comes to, after so many calls of the closure, where so many requests were
-/// granted.
+/// The outcome of a result and of the calls of the closure, where `granted` requests were granted.
 fn outcome_of(answer: (Result<Tens<'_>, MapError<u8>>, u32), granted: u64) -> Outcome {
     match answer.0 {
         Ok(halves) => full(halves.values() == [5, 10, 15].as_slice()),

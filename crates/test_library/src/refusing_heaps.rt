@@ -3,7 +3,7 @@ use std::alloc::Global;
 use test_equipment::Refusing;
 use test_equipment::walk::Heap;
 
-/// Whether room for so many bytes is granted.
+/// Whether room for `count` bytes is granted.
 fn grants(heap: Heap<'_>, count: usize) -> bool {
     let bytes: Result<Vec<u8, Heap<'_>>, _> = Vec::with_capacity(heap, count);
     bytes.is_ok()

@@ -1,5 +1,5 @@
-//! Inputs in which an item is repeated and a request for memory refused: the one that is met first
-//! is the answer, and after a repeat nothing more is asked for.
+//! Inputs in which an item is repeated and an allocation fails: the one that is met first is the
+//! error, and after a repeat no further item is drawn.
 use crate::drawn::Drawn;
 use commonware_utils::TryFromIterator;
 use commonware_utils::ordered::{Error, Map, Set};
@@ -8,8 +8,8 @@ use std::cell::Cell;
 use test_equipment::Refusing;
 use test_equipment::walk::{Heap, Outcome, Refusable, full, refused, requests};
 
-/// More items than there is room for in the first two rooms that are made, even if 4096 items fit
-/// into the first.
+/// More items than there is room for in the first two rooms that are reserved, even if 4096 items
+/// fit into the first.
 const MANY: u32 = 10_000;
 
 /// More requests than the first few items take, and fewer than room for many does where it is
@@ -34,7 +34,8 @@ const WAYS: [Way; 4] = [
     Way(Kind::Map, true),
 ];
 
-/// How many requests make room for the first item, at most: keys and values may have a room each.
+/// How many requests reserve room for the first item, at most: keys and values may have a room
+/// each.
 const ROOMS: u64 = 2;
 
 /// The item with a value.
@@ -42,13 +43,12 @@ fn pair(item: u32) -> (u32, char) {
     (item, 'v')
 }
 
-/// What the items come to: the refusal that they are answered, if they are refused, whether a
-/// request for memory was refused, and how often an item was asked for.
+/// What the items give: the error, if there is one, whether an allocation failed, and how often an
+/// item was drawn.
 type Answer = (Option<Error>, bool, usize);
 
 impl Way {
-    /// The refusal that the items are answered, if they are refused. The questions for one are
-    /// counted.
+    /// The error that the items give, if there is one. The calls of `next` are counted.
     fn refusal(self, heap: Heap<'_>, items: &[u32], asked: &Cell<u32>) -> Option<Error> {
         let items = Drawn::new(items, asked, self.1);
         match self.0 {
@@ -57,7 +57,7 @@ impl Way {
         }
     }
 
-    /// What the items come to where the request after so many granted ones is refused.
+    /// What the items give where the allocation after `granted` granted ones fails.
     fn answer(self, alloc: Global, items: &[u32], granted: u64) -> Answer {
         let asked = Cell::new(0);
         let heap = Refusing::after(alloc, granted);

@@ -3,10 +3,10 @@ use std::io::{Error, ErrorKind, Read, Write};
 use std::test::Fail;
 use test_equipment::{ReadFault, ScriptedReader, ScriptedWriter, WriteFault};
 
-/// What a call answers: how many bytes, or the kind of its error.
+/// What a call returns: how many bytes, or the kind of its error.
 type Answer = Result<usize, ErrorKind>;
 
-/// What the call answered.
+/// What the call returned.
 fn answer_of(answered: Result<usize, Error>) -> Answer {
     match answered {
         Ok(count) => Ok(count),
@@ -45,8 +45,8 @@ fn a_reader_ends_or_fails_after_its_bytes(rt: HostRuntime) {
     }
 }
 
-/// Of a reader of four bytes, two a call: the call that goes wrong, how, and what each call
-/// answers and leaves.
+/// Of a reader of four bytes, two a call: the call that goes wrong, how, and what each call returns
+/// and leaves.
 const READS: [(u32, ReadFault, [(Answer, &[u8]); 4]); 6] = [
     (
         0,
@@ -90,7 +90,7 @@ const READS: [(u32, ReadFault, [(Answer, &[u8]); 4]); 6] = [
     ),
 ];
 
-/// Whether a call of the reader answers this, and leaves these bytes.
+/// Whether a call of the reader returns this, and leaves these bytes.
 fn is_call(input: &mut ScriptedReader<'_>, wanted: Answer, rest: &[u8]) -> bool {
     let mut buf = [0; 9];
     let before = input.rest;
@@ -99,7 +99,7 @@ fn is_call(input: &mut ScriptedReader<'_>, wanted: Answer, rest: &[u8]) -> bool 
     answer == wanted && input.rest == rest && before.starts_with(&buf[..given])
 }
 
-/// Whether a reader whose call at a place goes wrong answers and leaves this, in so many calls.
+/// Whether a reader whose call at a place goes wrong returns and leaves this, call by call.
 fn goes_wrong(at: u32, way: ReadFault, calls: &[(Answer, &[u8]); 4]) -> bool {
     let mut input = ScriptedReader::new(b"abcd", 2).with_fault(at, way);
     for (wanted, rest) in calls {
@@ -118,7 +118,7 @@ fn a_reader_goes_wrong_at_one_call_alone(rt: HostRuntime) {
 }
 
 /// Of a writer that takes two bytes a call: how its second call goes wrong, what each call with
-/// three bytes answers, and what was taken in all.
+/// three bytes returns, and what was taken in all.
 const WRITES: [(WriteFault, [Answer; 4], &[u8]); 5] = [
     (
         WriteFault::Fails(ErrorKind::Interrupted),

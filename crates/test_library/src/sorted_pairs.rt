@@ -1,5 +1,5 @@
-//! Pairs that are put at their places: the room that is made for them, and what is left of them
-//! where a request for memory is refused.
+//! Pairs that are inserted at their places: the room that is reserved for them, and what is left of
+//! them after an allocation failure.
 use commonware_ordered::SortedEntries;
 use std::alloc::{AllocError, Global};
 use test_equipment::Refusing;
@@ -29,9 +29,9 @@ fn run(heap: Heap<'_>) -> Result<SortedEntries<u32, u32, Heap<'_>>, AllocError> 
     Ok(entries)
 }
 
-/// What an insertion of the least key comes to where its request after so many granted ones is
-/// refused: whether one was, and whether the pairs are then as they have to be. `None` where one
-/// before or after it is refused.
+/// What an insertion of the least key gives where its allocation after `granted` granted ones
+/// fails: whether one did, and whether the pairs are then as they have to be. `None` where one
+/// before or after it fails.
 fn insertion(heap: Heap<'_>, granted: u64) -> Option<(bool, bool)> {
     let mut entries = run(heap).ok()?;
     heap.restart(granted);
@@ -49,8 +49,8 @@ fn insertion(heap: Heap<'_>, granted: u64) -> Option<(bool, bool)> {
     })
 }
 
-/// A prefix of the pairs is left where a request is refused, tried at the first one and each 37th
-/// after it, up to the first walk that meets no refusal. The tree makes at least one.
+/// A prefix of the pairs is left after an allocation failure, tried at the first allocation and
+/// each 37th after it, up to the first walk that meets no failure. The tree makes at least one.
 #[test]
 fn a_refused_insertion_leaves_a_prefix(rt: HostRuntime) {
     let mut has_refused = false;

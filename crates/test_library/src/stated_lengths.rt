@@ -1,10 +1,10 @@
-//! Texts read with a heap that refuses each request for more than so many bytes.
+//! Inputs read with a heap that refuses each request for more than a number of bytes.
 //!
-//! With its first item a reader of lists makes room for as many items as the text states, as there
-//! are bytes after the length, and as 1,024 allow, whichever are the fewest; once these are read,
-//! for as many more as the bytes hold that are left. A reader that made room for a stated length,
-//! or for all the bytes there are, would be refused memory for it here: it would answer `Memory`,
-//! or read on and have been refused.
+//! With its first item a reader of lists reserves room for as many items as the input states, as
+//! there are bytes after the length, and as 1,024 allow, whichever are the fewest; once these are
+//! read, for as many more as the bytes hold that are left. A reader that reserved room for a stated
+//! length, or for all the bytes there are, would fail to allocate it here: it would return
+//! `Memory`, or read on and have been refused.
 use crate::readings::outcome;
 use commonware_utils::codec::{Error, RangeCfg};
 use commonware_utils::ordered::{BiMap, Map, Set};
@@ -17,13 +17,13 @@ use test_equipment::walk::Heap;
 /// More than a reader of few items needs at once.
 const MOST_BYTES: usize = 512;
 
-/// For how many items room is made with the first, at most.
+/// For how many items room is reserved with the first, at most.
 const MOST_ROOM: usize = 1024;
 
 /// How many bytes a number of the type `usize` takes in memory.
 const NUMBER: usize = 8;
 
-/// What a text is read as.
+/// What an input is decoded as.
 #[derive(Clone, Copy)]
 enum Form {
     List,
@@ -46,7 +46,7 @@ enum Form {
 }
 
 impl Form {
-    /// What reading the form from the bytes comes to.
+    /// What reading the form from the bytes returns.
     fn read(self, heap: Heap<'_>, bytes: &[u8]) -> (Option<Error>, usize) {
         let any = RangeCfg::from(..);
         let some: RangeCfg<NonZeroUsize> = RangeCfg::from(..);
@@ -71,7 +71,7 @@ impl Form {
 /// The bytes of the lengths 100000 and 4294967295.
 const STATED: [&[u8]; 2] = [b"\xa0\x8d\x06", b"\xff\xff\xff\xff\x0f"];
 
-/// A form, and what stands before and after the stated length: good items, and too few.
+/// A form, and what is before and after the stated length: good items, and too few.
 const SHORT: [(Form, &[u8], &[u8]); 10] = [
     (Form::List, b"", b"\x01\x02\x03\x04\x05"),
     (Form::Set, b"", b"\x01\x02\x03\x04\x05"),
@@ -85,7 +85,7 @@ const SHORT: [(Form, &[u8], &[u8]); 10] = [
     (Form::Lists, b"\x01\x09\x01", b"\x05\x06"),
 ];
 
-/// Whether reading the form from the bytes comes to this with little memory at once, and none is
+/// Whether reading the form from the bytes returns this with little memory at once, and none is
 /// refused.
 fn comes_to(alloc: Global, form: Form, bytes: &[u8], wanted: (Option<Error>, usize)) -> bool {
     let heap = Refusing::above(alloc, MOST_BYTES);
@@ -105,7 +105,7 @@ fn joined(
     Ok(bytes)
 }
 
-/// Whether the end of the text is met after each stated length, between these bytes.
+/// Whether the end of the input is met after each stated length, between these bytes.
 fn is_short(alloc: Global, form: Form, before: &[u8], after: &[u8]) -> Result<bool, AllocError> {
     for stated in STATED {
         let bytes = joined(alloc, before, stated, after)?;
@@ -144,7 +144,7 @@ fn short_lists_are_accepted(rt: HostRuntime) {
     }
 }
 
-/// The length, so many times a number, and so many bytes `ff`, which begin no number.
+/// The length, a number repeated, and bytes `ff`, which begin no number.
 fn numbers(
     alloc: Global,
     length: &[u8],
@@ -162,9 +162,10 @@ fn numbers(
     Ok(bytes)
 }
 
-/// Numbers of which so many are read before a fault, in so many bytes that begin none, and for how
-/// many the greatest request is: for a number a byte, and for no more than 1,024, until these are
-/// read; then for as many more as the bytes hold, if each takes as many as those that are read.
+/// A number, how often it is read before a fault, how many bytes follow that begin none, and for
+/// how many numbers the greatest allocation is: for a number a byte, and for no more than 1,024,
+/// until these are read; then for as many more as the bytes hold, if each takes as many as those
+/// before.
 const ROOMS: [(&[u8], usize, usize, usize); 7] = [
     (b"\x07", 1, 7, 8),
     (b"\x07", 1, 99, 100),
@@ -175,7 +176,7 @@ const ROOMS: [(&[u8], usize, usize, usize); 7] = [
     (b"\x87\x01", MOST_ROOM + 1, 9000, MOST_ROOM + 1 + 4500),
 ];
 
-/// Whether the fault is met with so many bytes at once, and with one less memory is refused.
+/// Whether the fault is met with `most` bytes at once, and with one less an allocation fails.
 fn takes(alloc: Global, form: Form, bytes: &[u8], most: usize) -> bool {
     let heap = Refusing::above(alloc, most);
     let less = Refusing::above(alloc, most.saturating_sub(1));

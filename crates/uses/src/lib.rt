@@ -1,4 +1,4 @@
-//! The library as a user calls it, who names `commonware_utils` alone: a file a module.
+//! The library as a user calls it, who names `commonware_utils` alone: one file for each module.
 #![tactic(auto)]
 
 mod committees;

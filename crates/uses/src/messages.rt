@@ -7,8 +7,8 @@ use commonware_utils::codec::{EncodeSize, Error, RangeCfg, Read, Source, Write};
 use commonware_utils::ordered::Set;
 use std::alloc::{AllocError, Global};
 
-/// The members at the front of the bytes, as many as are allowed, and how many bytes they take; or
-/// the first fault.
+/// Decodes the members at the start of the bytes, as many as are allowed, and returns how many
+/// bytes they take; or the first fault.
 pub fn read_members(
     alloc: Global,
     bytes: &[u8],
@@ -28,7 +28,7 @@ pub fn read_members(
     Ok((members, source.position()))
 }
 
-/// The bytes of the members, or `None` where they can't be written.
+/// Returns the encoding of the members, or `None` where they can't be encoded.
 pub fn write_members(
     alloc: Global,
     members: &Set<Participant, Global>,

@@ -54,7 +54,7 @@ impl Resilience for N4f1 {
     ghost divides = { (Prim.omega arith, λ n h l. refl) };
 }
 
-/// What `N2f1` answers: any two quorums share a participant, and for no greater f they do.
+/// What `N2f1` returns: any two quorums share a participant, and for no greater f they do.
 pub fn crash_numbers(n: u32) -> Numbers
     requires { 1 ≤ n }
     ensures greatest { Greatest 2 n result.max_faults }
@@ -63,7 +63,7 @@ pub fn crash_numbers(n: u32) -> Numbers
     resilience_numbers::<N2f1>(n)
 }
 
-/// What `N4f1` answers, and its smaller quorum: all that the library says of a resilience.
+/// What `N4f1` returns, and its smaller quorum: all that the library says of a resilience.
 pub fn fourth_numbers(n: u32) -> (Numbers, u32)
     requires { 1 ≤ n }
     ensures all { IsFaultTolerance 4 n result.0.max_faults }

@@ -1,4 +1,4 @@
-//! An item of one's own: a peer, and the laws that each collection asks of its items.
+//! An item of one's own: a peer, and the laws that each collection requires of its items.
 ghost use Rattle.std.specs.Prelude.{◌≡◌, ◌++◌, ◌==◌, ℕ, List, IfErr, IfOk, false, length, refl};
 ghost use Rattle.std.proofs.Common.{ap};
 ghost use Rattle.std.proofs.lemmas.Cmp.{nat_eq_equiv};
@@ -76,13 +76,11 @@ impl<A: Allocator> Read<A> for Peer {
         (λ n _ _. (record { number = n; heard = false }, refl)) word_laws };
 
     fn read_cfg(alloc: A, src: &mut Source<'_>, cfg: &()) -> Result<Peer, Error> {
-        match u32::read_cfg(alloc, src, cfg) {
-            Ok(number) => Ok(Peer {
-                number,
-                heard: false,
-            }),
-            Err(error) => Err(error),
-        }
+        let number = u32::read_cfg(alloc, src, cfg)?;
+        Ok(Peer {
+            number,
+            heard: false,
+        })
     }
 }
 
@@ -90,7 +88,7 @@ impl Canonical for Peer {
     ghost canonical = { canonical_on (λ p. p.number) word_bytes IsWord ◌==◌ word_canonical };
 }
 
-/// The peers at the front of the bytes, as many as are allowed, or the first fault.
+/// Decodes the peers at the start of the bytes, as many as are allowed, or returns the first fault.
 pub fn read_peers(
     alloc: Global,
     bytes: &[u8],

@@ -4,8 +4,8 @@ ghost use Rattle.std.specs.Prelude.{◌≡◌, ◌*◌, ◌-◌, ◌<◌, ◌≤
 use commonware_utils::vec::{Bounded, Error, Mutate, NonEmptyVec};
 use std::alloc::Global;
 
-/// Remembers a vote, and answers the one that is forgotten for it, or the vote itself where memory
-/// is refused.
+/// Remembers a vote, and returns the one that is forgotten for it, or the vote itself after an
+/// allocation failure.
 pub fn remember(votes: &mut Bounded<u32, Global>, vote: u32) -> Result<Option<u32>, u32>
     ensures room { length votes.old.items < votes.old.capacity → MatchResult result
         (λ out. (out ≡ None) × (votes.new.items ≡ votes.old.items ++ vote ∷ []))
@@ -18,7 +18,7 @@ pub fn remember(votes: &mut Bounded<u32, Global>, vote: u32) -> Result<Option<u3
     votes.push(vote)
 }
 
-/// The latest of the votes, of which there is one at least.
+/// The latest of the votes, of which there is at least one.
 pub fn latest(votes: &NonEmptyVec<u32, Global>) -> u32
     ensures { slice_get votes.now (length votes.now - 1) ≡ Some result }
 {

@@ -1,4 +1,4 @@
-//! The root: texts that are signed, wider numbers, and participants in their order.
+//! The root: bytes that are signed, wider numbers, and participants in their order.
 ghost use Rattle.std.specs.Prelude.{◌≡◌, ◌<◌, ◌≤◌, ◌^◌, ◌↔◌, IfOk, IfSome, IsSome, IsTrue, length};
 ghost use Rattle.std.specs.Int.NonZero.{non_zero_u32_get};
 ghost use Rattle.commonware_utils.specs.Roots.{union_text};
@@ -7,8 +7,8 @@ use commonware_utils::{MAX_ALLOCATION_BYTES, Participant, Widen, max, union_uniq
 use std::alloc::{AllocError, Global};
 use std::num::NonZeroU32;
 
-/// The text that is signed for a message: the length of the namespace as a varint, the namespace,
-/// and the message. `None` where the namespace is too long.
+/// Returns the bytes that are signed for a message: the length of the namespace as a varint, the
+/// namespace, and the message. `None` where the namespace is too long.
 pub fn signed_text(
     alloc: Global,
     namespace: &[u8],
@@ -24,7 +24,7 @@ pub fn signed_text(
     union_unique(alloc, namespace, message).map(Some)
 }
 
-/// How many bytes to make room for, at least one for each participant.
+/// Returns how many bytes to reserve room for, at least one for each participant.
 pub fn room(participants: NonZeroU32, wanted: usize) -> usize
     ensures most { result ≤ MAX_ALLOCATION_BYTES }
     ensures enough { (non_zero_u32_get participants ≤ result)

@@ -1,4 +1,4 @@
-//! The members that signed two different values.
+//! Accountability: the members that signed two different values, which is equivocation.
 ghost use Rattle.std.specs.Prelude.{◌≡◌, ◌≢◌, ◌+◌, ◌-◌, ◌*◌, ◌/◌, ◌≤◌, ◌⊎◌, ◌↔◌, ℕ, List, IfOk, IsErrOf, Ok, length, pos};
 ghost use Rattle.committee_certificates.specs.declared.conflicts.ConflictError.TheVariants.{Outside, TooFew};
 ghost use Rattle.committee_certificates.specs.Signers.{AreInBoth, AreMembers, AreTooFew};
@@ -11,9 +11,9 @@ use commonware_utils::faults::{Faults, N3f1, Resilience, resilience_law};
 use commonware_utils::ordered::Set;
 use std::alloc::Global;
 
-/// The members that signed both of two certificates for different values, under any fault model of
-/// a resilience `n >= kf + 1`: more than k - 2 times its faults. From a k of 3 on, one of them is
-/// not faulty.
+/// Returns the members that signed both of two certificates for different values, under any fault
+/// model of a resilience `n >= kf + 1`: more than k - 2 times its faults. From a k of 3 on, one of
+/// them is not faulty.
 pub fn conflict_under<M: Resilience>(
     alloc: Global,
     members: &Set<u32, Global>,
@@ -32,8 +32,8 @@ pub fn conflict_under<M: Resilience>(
     conflict::<M, _, _>(alloc, members, first, second)
 }
 
-/// How many members signed two different values, under `N3f1`: no one where the values are the
-/// same. The committee has 1 to `u32::MAX` members.
+/// Returns how many members signed two different values (equivocation), under `N3f1`: 0 where the
+/// values are the same. It requires that the committee has 1 to `u32::MAX` members.
 pub fn accused(
     alloc: Global,
     members: &Set<u32, Global>,

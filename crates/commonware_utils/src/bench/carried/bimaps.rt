@@ -21,7 +21,7 @@ const LISTS: [([(u8, char); 3], Option<Error>); 3] = [
     ([(3, 'c'), (1, 'a'), (2, 'b')], None),
 ];
 
-/// Texts that are no bimap of bytes.
+/// Inputs that are no bimap of bytes.
 const NO_BIMAPS: [(&[u8], codec::Error); 4] = [
     (b"\x02\x01\x02\x02\x0a\x0a", REPEATED),
     (b"\x03\x01\x02\x03\x03\x0a\x14\x0a", REPEATED),
@@ -60,7 +60,7 @@ fn test_bimap_duplicate_value_error(rt: HostRuntime) {
     }
 }
 
-/// Whether the pair stands at the place, by each look-up.
+/// Whether the pair is at the place, by each look-up.
 fn stands_at(bimap: &BiMap<u8, char, Global>, place: usize, key: u8, value: char) -> bool {
     bimap.get_value(&key) == Some(&value)
         && bimap.get(place) == Some(&key)
@@ -134,7 +134,7 @@ fn bimaps_are_given_up_in_parts(rt: HostRuntime) {
     assert!(rt; pairs.as_slice() == [(1, 'a'), (2, 'b'), (3, 'c')].as_slice());
 }
 
-/// The lines on bimaps; those on maps stand with the pairs of maps.
+/// The lines on bimaps; those on maps are with the pairs of maps.
 #[test]
 fn test_pair_iterators(rt: HostRuntime) {
     let bimap = bimap_of(&rt, rt.alloc(), &[(3, 30), (1, 10), (2, 20)]);

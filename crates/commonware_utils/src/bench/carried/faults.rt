@@ -36,7 +36,7 @@ const NUMBERS: [(u32, (u32, u32), (u32, u32, u32)); 23] = [
     ),
 ];
 
-/// f and the quorum of a model for so many participants, of whom there is one at least.
+/// f and the quorum of a model for `n` participants, of whom there is at least one.
 fn numbers_of<M: Faults, N: Count + Copy>(n: N) -> Option<(u32, u32)> {
     match n.to_u32() {
         Some(1..) => Some((M::max_faults(n), M::quorum(n))),
@@ -44,8 +44,8 @@ fn numbers_of<M: Faults, N: Count + Copy>(n: N) -> Option<(u32, u32)> {
     }
 }
 
-/// f, the larger and the smaller quorum of `N5f1` for so many participants, of whom there is one at
-/// least.
+/// f, the larger and the smaller quorum of `N5f1` for `n` participants, of whom there is at least
+/// one.
 fn quorums_of<N: Count + Copy>(n: N) -> Option<(u32, u32, u32)> {
     match n.to_u32() {
         Some(1..) => Some((N5f1::max_faults(n), N5f1::l_quorum(n), N5f1::m_quorum(n))),

@@ -21,7 +21,7 @@ const LISTS: [(&[(u8, char)], Option<Parts>); 4] = [
 #[derive(Drop)]
 struct Opaque(u8);
 
-/// Whether the answer is the map of these parts, or, for `None`, that two keys are equal.
+/// Whether the result is the map of these parts, or, for `None`, that two keys are equal.
 fn answers(answer: Result<Map<u8, char, Global>, Error>, parts: Option<(&[u8], &[char])>) -> bool {
     match (answer, parts) {
         (Ok(map), Some((keys, values))) => map.as_slice() == keys && map.values() == values,
@@ -85,7 +85,7 @@ fn test_map_try_from_iter_duplicate(rt: HostRuntime) {
     assert!(rt; answers(Map::try_from_iter(rt.alloc(), pairs), None));
 }
 
-/// Whether an array, and a reference to it, are answered with the map of these parts.
+/// Whether an array, and a reference to it, give the map of these parts.
 fn arrays_answer<const N: usize>(
     alloc: Global,
     pairs: [(u8, char); N],

@@ -27,7 +27,7 @@ const BYTES: [(&[(u8, u8)], &[u8]); 3] = [
     (&[], b"\x00\x00"),
 ];
 
-/// Texts that are no map of bytes.
+/// Inputs that are no map of bytes.
 const NO_MAPS: [(&[u8], Error); 5] = [
     (b"\x02\x01\x02\x01\x0a", Error::InvalidLength(1)),
     (b"\x02\x01\x02\x02\x0a", Error::EndOfBuffer),
@@ -59,7 +59,7 @@ fn has_places(map: &Map<u8, u8, Global>, rows: &[(u8, Option<usize>, Option<&u8>
     true
 }
 
-/// Whether the pair stands at the place, and none after it.
+/// Whether the pair is at the place, and none after it.
 fn ends_with_pair(map: &Map<u8, u8, Global>, place: usize, key: u8, value: u8) -> bool {
     map.get(place) == Some(&key)
         && map.value(place) == Some(&value)
@@ -189,7 +189,7 @@ fn texts_that_are_no_map_are_refused(rt: HostRuntime) {
     assert!(rt; refuses::<Map<u8, u8, _>, _>(rt.alloc(), &any, &NO_MAPS));
 }
 
-/// Whether the text isn't a map of at most ten keys, as they aren't in order.
+/// Whether the input isn't a map of at most ten keys, as they aren't in order.
 fn is_unsorted(alloc: Global, text: &[u8]) -> bool {
     let short = (RangeCfg::from(0..=10), (), ());
     refuses::<Map<u8, u8, _>, _>(alloc, &short, &[(text, UNSORTED)])

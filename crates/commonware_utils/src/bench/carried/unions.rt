@@ -5,7 +5,7 @@ use crate::{
 };
 use std::num::{NonZeroU8, NonZeroU16, NonZeroU32, NonZeroU64};
 
-/// Two texts, and the one after the other.
+/// Two lists of bytes, and the one after the other.
 const UNIONS: [(&[u8], &[u8], &[u8]); 4] = [
     (b"", b"", b""),
     (b"", b"\x01\x02\x03", b"\x01\x02\x03"),

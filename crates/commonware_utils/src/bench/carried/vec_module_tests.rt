@@ -93,7 +93,7 @@ fn test_is_singleton(rt: HostRuntime) {
     );
 }
 
-/// Whether the answer is the list of these items.
+/// Whether the result is the list of these items.
 fn is_list(answer: Result<NonEmptyVec<u8, Global>, Error>, items: &[u8]) -> bool {
     match answer {
         Ok(list) => has(&list, items),
@@ -333,7 +333,7 @@ fn test_index(rt: HostRuntime) {
     assert!(rt; has(&v, &[10, 20, 30]));
 }
 
-/// The sum of the items that a loop is lent.
+/// The sum of the items that a loop borrows.
 fn sum_of(list: &NonEmptyVec<u8, Global>) -> u8 {
     let mut sum = 0u8;
     for item in list {
@@ -356,7 +356,7 @@ fn add_ten(list: &mut NonEmptyVec<u8, Global>) {
     }
 }
 
-/// Whether 1, 2 and 3 are lent, from both ends.
+/// Whether 1, 2 and 3 are borrowed, from both ends.
 fn lends(list: &NonEmptyVec<u8, Global>) -> bool {
     sum_of(list) == 6
         && list.into_iter().eq([1, 2, 3].iter())

@@ -100,10 +100,8 @@ impl<A: Allocator> Read<A> for Descending {
         (λ n _ _. (record { 0 = n }, refl)) byte_laws };
 
     fn read_cfg(alloc: A, src: &mut Source<'_>, cfg: &()) -> Result<Descending, Error> {
-        match u8::read_cfg(alloc, src, cfg) {
-            Ok(byte) => Ok(Descending(byte)),
-            Err(error) => Err(error),
-        }
+        let byte = u8::read_cfg(alloc, src, cfg)?;
+        Ok(Descending(byte))
     }
 }
 
@@ -132,7 +130,7 @@ fn the_greater_byte_comes_first(rt: HostRuntime) {
     }
 }
 
-/// Whether the answer is the set of the bytes 3, 2 and 1, in this order.
+/// Whether the result is the set of the bytes 3, 2 and 1, in this order.
 fn falls(answer: Result<Set<Descending, Global>, ordered::Error>) -> bool {
     match answer {
         Ok(set) => set.as_slice() == [Descending(3), Descending(2), Descending(1)].as_slice(),
@@ -183,8 +181,8 @@ fn maps_with_falling_keys_come_back(rt: HostRuntime) {
     );
 }
 
-/// The sets stand by their items: the one with the greater byte comes first, and the empty one
-/// before all.
+/// The sets are ordered by their items: the one with the greater byte comes first, and the empty
+/// one before all.
 #[test]
 fn sets_of_falling_sets_are_written_and_read(rt: HostRuntime) {
     let alloc = rt.alloc();

@@ -76,10 +76,8 @@ impl<A: Allocator> Read<A> for Labelled {
         (λ n _ _. (record { number = n; label = 114 }, refl)) byte_laws };
 
     fn read_cfg(alloc: A, src: &mut Source<'_>, cfg: &()) -> Result<Labelled, Error> {
-        match u8::read_cfg(alloc, src, cfg) {
-            Ok(number) => Ok(Labelled { number, label: 'r' }),
-            Err(error) => Err(error),
-        }
+        let number = u8::read_cfg(alloc, src, cfg)?;
+        Ok(Labelled { number, label: 'r' })
     }
 }
 

@@ -9,7 +9,7 @@ type Row = (&'static [u8], &'static [(u8, char)]);
 
 const LETTERS: &str = "abcdefghi";
 
-/// None, one, and numbers that rise, fall, or are equal to the one before.
+/// None, one, and numbers that increase, decrease, or are equal to the one before.
 const STRAIGHT: [Row; 7] = [
     (&[], &[]),
     (&[7], &[(7, 'a')]),
@@ -26,8 +26,8 @@ const STRAIGHT: [Row; 7] = [
     ),
 ];
 
-/// Numbers that rise, a lesser one that is new, and others: all new, or equal to one before, early
-/// or late.
+/// Numbers that increase, a lesser one that is new, and others: all new, or equal to one before,
+/// early or late.
 const BROKEN: [Row; 9] = [
     (
         &[2, 4, 6, 3, 7, 9],
@@ -67,8 +67,8 @@ const BROKEN: [Row; 9] = [
     ),
 ];
 
-/// Numbers that rise and a lesser one that came before, and two rows that rise, one after the
-/// other.
+/// Numbers that increase and a lesser one that came before, and two rows that increase, one after
+/// the other.
 const AGAIN: [Row; 5] = [
     (&[2, 1, 2], &[(1, 'b'), (2, 'a')]),
     (&[2, 4, 6, 2, 8], &[(2, 'a'), (4, 'b'), (6, 'c'), (8, 'e')]),

@@ -10,8 +10,8 @@ pub(in crate::bench) fn tens(rt: &impl Abort, alloc: Global) -> Map<u8, u8, Glob
     Map::from_parts(keys, values).expect(rt, "uneven")
 }
 
-/// Whether so many pairs are told at first, and each step, from the back where that is said, gives
-/// the pair beside it and tells so many that are left.
+/// Whether there are `count` pairs at first, and each step, from the back where that is said, gives
+/// the pair beside it and leaves this many.
 pub(in crate::bench) fn lends(
     mut pairs: Pairs<'_, u8, u8>,
     count: usize,
@@ -33,7 +33,7 @@ pub(in crate::bench) fn lends(
     true
 }
 
-/// The same of pairs that are given away.
+/// The same of pairs by value.
 pub(in crate::bench) fn gives(
     mut pairs: MapIntoIter<u8, u8, Global>,
     count: usize,
@@ -78,7 +78,7 @@ fn with_pair(digits: u32, key: u8, value: u8) -> u32 {
         .wrapping_add(u32::from(value))
 }
 
-/// The digits of the pairs that a loop is lent.
+/// The digits of the pairs that a loop borrows.
 fn walked(map: &Map<u8, u8, Global>) -> u32 {
     let mut digits = 0;
     for (key, value) in map {
@@ -96,7 +96,7 @@ fn taken(map: Map<u8, u8, Global>) -> u32 {
     digits
 }
 
-/// Adds the key to the value, and tells both as they were.
+/// Adds the key to the value, and returns both as they were.
 fn add_key(pair: Option<(&u8, &mut u8)>) -> Option<(u8, u8)> {
     let (key, value) = pair?;
     let previous = *value;
@@ -118,7 +118,7 @@ fn adds_keys(map: &mut Map<u8, u8, Global>) -> bool {
         && pairs.next_back().is_none()
 }
 
-/// The lines on maps; those on bimaps stand with the bimaps.
+/// The lines on maps; those on bimaps are with the bimaps.
 #[test]
 fn test_pair_iterators(rt: HostRuntime) {
     let mut map = tens(&rt, rt.alloc());

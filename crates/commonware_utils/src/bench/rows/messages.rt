@@ -36,7 +36,7 @@ const OF_LISTS: [(vec::Error, &str); 2] = [
     (vec::Error::Memory, "out of memory"),
 ];
 
-/// Whether each error says what stands beside it.
+/// Whether each error says what is beside it.
 fn say<E: Display>(alloc: Global, rows: &[(E, &str)]) -> bool {
     for (error, message) in rows {
         if !is_shown_as(alloc, error, message) {

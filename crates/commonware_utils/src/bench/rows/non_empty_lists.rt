@@ -33,7 +33,7 @@ fn holds(queue: &VecDeque<u8, Global>, items: &[u8]) -> bool {
     queue.iter().eq(items.iter())
 }
 
-/// The queue of at most so many of the items, the last ones.
+/// The queue of the last items, at most `capacity` of them.
 fn queue_of(alloc: Global, capacity: NonZeroUsize, items: &[u8]) -> Bounded<u8, Global> {
     let mut queue = Bounded::new(alloc, capacity);
     for item in items {

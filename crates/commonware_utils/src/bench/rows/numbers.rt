@@ -2,7 +2,7 @@
 use crate::bench::{is_coded_as, is_read_as, is_written_as, refuses};
 use crate::codec::{EncodeSize, Error, MaxEncodeSize, RangeCfg, UInt, varint_law};
 
-/// Numbers and the bytes that spell them.
+/// Numbers and the bytes that encode them.
 const VARINTS: [(u32, &[u8]); 16] = [
     (0, b"\x00"),
     (1, b"\x01"),
@@ -22,7 +22,7 @@ const VARINTS: [(u32, &[u8]); 16] = [
     (4294967295, b"\xff\xff\xff\xff\x0f"),
 ];
 
-/// Texts that spell no number.
+/// Inputs that encode no number.
 const NO_VARINTS: [(&[u8], Error); 8] = [
     (b"", Error::EndOfBuffer),
     (b"\x80", Error::EndOfBuffer),

@@ -1,4 +1,4 @@
-//! Texts that are accepted, and each of their beginnings, which are cut.
+//! Inputs that are accepted, and each of their prefixes, which are truncated.
 use crate::Participant;
 use crate::bench::{read, refuses};
 use crate::codec::{Error, RangeCfg, Read};
@@ -6,8 +6,8 @@ use crate::ordered::{BiMap, Map, Set};
 use crate::vec::NonEmptyVec;
 use std::alloc::Allocator;
 
-/// Whether the text is accepted and taken to its end, and each shorter beginning is cut, with the
-/// source where it stood.
+/// Whether the input is accepted and taken to its end, and each shorter prefix is truncated, with
+/// the source where it was.
 fn has_no_shorter_text<T: Read<A> + Drop, A: Allocator + Copy>(
     alloc: A,
     cfg: &T::Cfg,

@@ -16,7 +16,7 @@ const LISTS: [(&[u8], Option<&[u8]>); 6] = [
     (&[], Some(&[])),
 ];
 
-/// Whether the answer is the set of these items, or, for `None`, that two are equal.
+/// Whether the result is the set of these items, or, for `None`, that two are equal.
 fn answers(answer: Result<Set<u8, Global>, Error>, items: Option<&[u8]>) -> bool {
     match (answer, items) {
         (Ok(set), Some(items)) => set.as_slice() == items,
@@ -39,7 +39,7 @@ fn repeats_are_refused_by_each_builder(rt: HostRuntime) {
     }
 }
 
-/// Whether an array, and a reference to it, are answered with the set of these items.
+/// Whether an array, and a reference to it, give the set of these items.
 fn arrays_answer<const N: usize>(alloc: Global, list: [u8; N], items: Option<&[u8]>) -> bool {
     answers(Set::try_from_array_ref(alloc, &list), items)
         && answers(Set::try_from_array(alloc, list), items)
@@ -90,7 +90,7 @@ fn test_set_try_from_duplicate(rt: HostRuntime) {
     assert!(rt; Set::try_from_vec(items).err() == Some(Error::DuplicateKey));
 }
 
-/// What the builder answers for the items of a list: what `try_from_vec` answers for it, however
+/// What the builder returns for the items of a list: what `try_from_vec` returns for it, however
 /// far it reads them.
 fn try_from_items<T: Ord + Drop, A: Allocator + Copy>(
     alloc: A,

@@ -14,7 +14,7 @@ pub(in crate::bench) const UNSORTED: Error = Error::Invalid(
     "items must be sorted and unique",
 );
 
-/// Texts that are no set of bytes, under any range.
+/// Inputs that are no set of bytes, under any range.
 const NO_SETS: [(&[u8], Error); 5] = [
     (b"\x83\x00\x01\x02\x03", Error::InvalidVarint),
     (b"\xff\xff\xff\xff\x10", Error::InvalidVarint),
@@ -23,7 +23,7 @@ const NO_SETS: [(&[u8], Error); 5] = [
     (b"\xff\xff\xff\xff\x0f\x01", Error::EndOfBuffer),
 ];
 
-/// Texts that are no set of at most ten bytes.
+/// Inputs that are no set of at most ten bytes.
 const NO_SHORT_SETS: [(&[u8], Error); 2] = [
     (b"\x03\x02\x01", Error::EndOfBuffer),
     (b"\x0b", Error::InvalidLength(11)),
@@ -143,7 +143,7 @@ fn test_sorted_unique_codec_roundtrip(rt: HostRuntime) {
     assert!(rt; comes_back(rt.alloc(), &sorted, &(RangeCfg::from(0..=9), ())));
 }
 
-/// Whether the text isn't a set of at most ten bytes, as they aren't in order.
+/// Whether the input isn't a set of at most ten bytes, as they aren't in order.
 fn is_unsorted(alloc: Global, text: &[u8]) -> bool {
     let short = (RangeCfg::from(0..=10), ());
     refuses::<Set<u8, _>, _>(alloc, &short, &[(text, UNSORTED)])

@@ -1,4 +1,4 @@
--- Each answer of the closure is twice its vote, so all of them are the map of it.
+-- Each result of the closure is twice its vote, so all of them are the map of it.
 use Rattle.std.proofs.Common.{◌∙◌, ◌*◌, min}
 use Rattle.std.proofs.lemmas.Result.{IfOk-weaker}
 use Rattle.commonware_utils.specs.Roots.{answers_are}

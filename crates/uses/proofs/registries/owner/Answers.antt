@@ -1,4 +1,4 @@
--- What `get_key` says of its answer, whose key `copied` copies.
+-- What `get_key` says of its result, whose key `copied` copies.
 use Rattle.uses.proofs.registries.owner.Goals as goal
 
 pub returns : goal.returns

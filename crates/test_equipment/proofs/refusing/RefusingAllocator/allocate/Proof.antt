@@ -54,7 +54,7 @@ module _ (Z : Al) where
   abbrev stayed : Stays ended.signature.params ended.kept
   stayed = (stay_dropped (self Z) yes, (stay_dropped (plain (λ _. usize)) yes, (stay_dropped (plain (λ _. usize)) yes, tt)))
 
--- What an answer hands over, said by its flag and said by its value.
+-- What a result hands over, said by its flag and said by its value.
 module _ (Z : Al) {M : Type 1} {𝓤 : Ura M} (𝓛 : Logic 𝓤) where
   hands : (h : Z.row.Denot) (τ : Ty) (y : Bool) (b o : ℕ) → ent 𝓤 (sem 𝓛 (got (token Z h) τ y b o)) (sem 𝓛 (block_if_ok (token Z h) τ (result_of y b o)))
   hands h τ true b o = id⊢ 𝓤 _
@@ -73,7 +73,7 @@ module _ (Z : Al) {M : Type 1} {𝓤 : Ura M} (𝓛 : Logic 𝓤) (at_mem : Memo
   abbrev Counted : Contract 𝓤
   Counted = Counts 𝓛 at_mem run
 
-  -- One call: `&self` with its two lifetimes and their shares, the layout that is asked for, and the type that has it.
+  -- One call: `&self` with its two lifetimes and their shares, the layout that is requested, and the type that has it.
   module _ (κ ρ : Lft) (q s : Share) (out : κ ⊑ ρ) (r : Bor (Refuser Z).Denot) (n a : ℕ) (τ : Ty) where
     abbrev bound : (walk_of 𝓛 (ended Z) (stayed Z) clauses).Ghost
     bound = (((κ, (ρ, tt)), (q, (s, tt)), (out, tt), (r, (n, (a, tt))), (shr_vals r, (vint w64 n ∷ [], (vint w64 a ∷ [], tt)))), τ)
@@ -87,7 +87,7 @@ module _ (Z : Al) {M : Type 1} {𝓤 : Ura M} (𝓛 : Logic 𝓤) (at_mem : Memo
     abbrev Said : Type 0
     Said = (capped (size τ) ≡ n) × (capped (align τ) ≡ a)
 
-    -- Each way out: an answer, what it hands over, and both tokens.
+    -- Each way out: a result, what it hands over, and both tokens.
     leaves : (y : Bool) (b o : ℕ)
         → ent 𝓤 (⋆ 𝓛 (‵ (got (token Z r.now.inner) τ y b o) ∷ ‵ (flft κ q) ∷ (‵ (flft ρ s) ⊛ ‵ ftrue) ∷ [])) (Post (answer_val y b o))
     leaves y b o =
@@ -96,10 +96,10 @@ module _ (Z : Al) {M : Type 1} {𝓤 : Ura M} (𝓛 : Logic 𝓤) (at_mem : Memo
         use1 𝓛 (‵ (block_if_ok (token Z r.now.inner) τ (result_of y b o))) (hands Z 𝓛 r.now.inner τ y b o) $
         use0 𝓛 (‵ (Answer.own_val (result_of y b o) (answer_val y b o ∷ []))) (result_own 𝓛 y b o) $
         nothing ! $ nothing ! $ fjoin ! $ nothing ! $ fjoin ! $ nothing ! $ fjoin ! $ join ! $
-        -- [the parameters and the answer; what it hands over; the tokens]
+        -- [the parameters and the result; what it hands over; the tokens]
         move ! (2 ∷ 3 ∷ []) $ join ! $ join ! $ done !
 
-    -- The body: the count is asked, and then either the answer is an error or the inner allocator gives it.
+    -- The body: the count is read, and then either the result is an error or the inner allocator gives it.
     walk : n < 2 ^ 64 → a < 2 ^ 64 → ent 𝓤 ((walk_of 𝓛 (ended Z) (stayed Z) clauses).pre bound) (WpFn 𝓤 H 𝓣.C 𝓣.Λ (here Z) vs Post)
     walk fits_n fits_a =
         let h : (Refuser Z).Denot = r.now in

@@ -86,7 +86,7 @@ module _ (Z : Al) {M : Type 1} {𝓤 : Ura M} (𝓛 : Logic 𝓤) (at_mem : Memo
         -- [the parameters and the answer; the tokens; nothing]
         move ! (1 ∷ 0 ∷ []) $ join ! $ done !
 
-    -- The body: nothing lies at null, and a block goes to the inner allocator with the right to free it.
+    -- The body: nothing is at null, and a block goes to the inner allocator with the right to free it.
     walk : n < 2 ^ 64 → a < 2 ^ 64 → (x : Ptr) → ent 𝓤 ((walk_of 𝓛 (ended Z) (stayed Z) clauses).pre (bound x)) (WpFn 𝓤 H 𝓣.C 𝓣.Λ (here Z) (vs x) (Post x))
     walk fits_n fits_a null_ptr =
         qed 𝓛 (entry null_ptr ∷ (raw (fact 𝓤 (ρ ⊑ Z.row.lives)) ⊛ raw (fact 𝓤 Said) ⊛ ‵ (fsep ffalse (token Z r.now.inner τ null_ptr))) ∷ []) ∵
