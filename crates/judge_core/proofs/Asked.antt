@@ -6,7 +6,6 @@ use Rattle.judge_questions.specs.declared.collection.Collection.{Collection}
 use Rattle.judge_questions.specs.declared.collection.SetForm.{SetForm}
 use Rattle.judge_questions.specs.declared.task.Task.TheVariants as tasks
 use Rattle.judge_questions.specs.declared.verb.Verb.TheVariants.{Build, BuildUnique, Position, Faults, Refute, Conflict}
-use Rattle.std.proofs.Common.{Vec}
 use Rattle.judge_core.specs.Answered.{AsksBy}
 
 -- a model has a resilience of at least 2
@@ -20,15 +19,15 @@ by_unique : (line : List ℕ) (unique chosen : Bool) (c : Collection) (text : Li
 by_unique line unique chosen c text is h = subst (λ u. AsksBy line (build_verb u) (λ words. AsksToBuild words c text)) (sym is) h
 
 module _ {A : Type 0} (line : List ℕ) where
-  pub asked_build : (c : Collection) (unique : Bool) (text : Vec ℕ A) → IsTask line (tasks.Build c unique text) → AsksBy line (build_verb unique) (λ words. AsksToBuild words c text.items)
-  asked_build c unique text (Build, rest, is, h) = by_unique line unique false c text.items h.0 (rest, is, h.1)
-  asked_build c unique text (BuildUnique, rest, is, h) = by_unique line unique true c text.items h.0 (rest, is, h.1)
+  pub asked_build : (c : Collection) (unique : Bool) (text : List ℕ) → IsTask {A = A} line (tasks.Build c unique text) → AsksBy line (build_verb unique) (λ words. AsksToBuild words c text)
+  asked_build c unique text (Build, rest, is, h) = by_unique line unique false c text h.0 (rest, is, h.1)
+  asked_build c unique text (BuildUnique, rest, is, h) = by_unique line unique true c text h.0 (rest, is, h.1)
   asked_build c unique text (Position, rest, is, h) = absurd h
   asked_build c unique text (Faults, rest, is, h) = absurd h
   asked_build c unique text (Refute, rest, is, h) = absurd h
   asked_build c unique text (Conflict, rest, is, h) = absurd h
 
-  pub asked_position : (set : SetForm) (text item : Vec ℕ A) → IsTask line (tasks.Position set text item) → AsksBy line Position (λ words. AsksForPosition words set text.items item.items)
+  pub asked_position : (set : SetForm) (text item : List ℕ) → IsTask {A = A} line (tasks.Position set text item) → AsksBy line Position (λ words. AsksForPosition words set text item)
   asked_position set text item (Build, rest, is, h) = absurd h
   asked_position set text item (BuildUnique, rest, is, h) = absurd h
   asked_position set text item (Position, rest, is, h) = (rest, is, h)
@@ -52,7 +51,7 @@ module _ {A : Type 0} (line : List ℕ) where
   asked_refute k n f (Refute, rest, is, h) = (rest, is, h)
   asked_refute k n f (Conflict, rest, is, h) = absurd h
 
-  pub asked_conflict : (k n : ℕ) (one other : Vec ℕ A) → IsTask line (tasks.Conflict k n one other) → AsksBy line Conflict (λ words. AsksForConflict words k n one.items other.items)
+  pub asked_conflict : (k n : ℕ) (one other : List ℕ) → IsTask {A = A} line (tasks.Conflict k n one other) → AsksBy line Conflict (λ words. AsksForConflict words k n one other)
   asked_conflict k n one other (Build, rest, is, h) = absurd h
   asked_conflict k n one other (BuildUnique, rest, is, h) = absurd h
   asked_conflict k n one other (Position, rest, is, h) = absurd h

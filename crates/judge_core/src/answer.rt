@@ -23,7 +23,12 @@ pub fn answer_to<A: Allocator + Copy>(alloc: A, line: &[u8]) -> Result<Answer, A
 {
     match read_question(alloc, line)? {
         Ok(question) => {
-            let verdict = judge(alloc, question.form, &question.limits, &question.text)?;
+            let verdict = judge(
+                alloc,
+                question.form,
+                &question.limits,
+                question.text.as_slice(),
+            )?;
             Ok(Answer::Judged(verdict))
         }
         Err(what) => Ok(Answer::Unread(what)),

@@ -14,6 +14,7 @@ mod host;
 mod input;
 mod lines;
 mod report;
+mod runs;
 mod sessions;
 mod stream;
 
@@ -27,9 +28,10 @@ pub use judge_questions::{
     read_form, read_limit, read_model, read_question, read_size, read_task, read_text, read_verb,
 };
 pub use judge_verdicts::{
-    Counted, FaultNumbers, Found, Misread, NoConflict, NotBuilt, Refutation, Verdict, build,
+    CountItems, FaultNumbers, Found, Misread, NoConflict, NotBuilt, Refutation, Verdict, build,
     conflict_of, fault_numbers, judge, judge_as, position, refute,
 };
 pub use report::tell;
-pub use sessions::{run, session};
+pub use runs::run;
+pub use sessions::session;
 pub use stream::{answer_all, say_types};

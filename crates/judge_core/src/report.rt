@@ -59,9 +59,12 @@ fn tell_task<A: Allocator + Copy>(
             collection,
             unique,
             text,
-        } => write_built(said, &build(alloc, *collection, *unique, text)?),
+        } => write_built(said, &build(alloc, *collection, *unique, text.as_slice())?),
         Task::Position { set, text, item } => {
-            write_found(said, &position(alloc, *set, text, item)?)
+            write_found(
+                said,
+                &position(alloc, *set, text.as_slice(), item.as_slice())?,
+            )
         }
         Task::Faults { k, n } => write_numbers(said, &fault_numbers(*k, *n)),
         Task::Refute { k, n, f } => write_refuted(said, &refute(*k, *n, *f)),
@@ -70,7 +73,10 @@ fn tell_task<A: Allocator + Copy>(
             n,
             first,
             second,
-        } => write_conflict(said, &conflict_of(alloc, *k, *n, first, second)?),
+        } => write_conflict(
+            said,
+            &conflict_of(alloc, *k, *n, first.as_slice(), second.as_slice())?,
+        ),
     }
 }
 

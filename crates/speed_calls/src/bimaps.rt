@@ -8,7 +8,7 @@ use std::alloc::Global;
 use std::io::Write;
 use std::time::Clock;
 
-/// The lines of bimaps in which each of so many random numbers has itself as its value.
+/// The lines of bimaps in which each of `count` random numbers has itself as its value.
 pub fn time_bimaps<C: Clock, W: Write>(
     bench: &mut Bench<C, W>,
     count: u32,

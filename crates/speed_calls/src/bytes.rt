@@ -7,7 +7,7 @@ use std::alloc::{AllocError, Global};
 use std::io::Write;
 use std::time::Clock;
 
-/// The lines of a list of so many bytes written and read.
+/// The lines of a list of `entries` bytes written and read.
 pub(crate) fn time_bytes<C: Clock, W: Write>(
     bench: &mut Bench<C, W>,
     entries: u32,
@@ -31,7 +31,7 @@ fn bytes(alloc: Global, count: u32) -> Result<Vec<u8>, AllocError> {
     (0..count).map(|index| (index % 256) as u8).collect(alloc)
 }
 
-/// How many bytes the list at the front of the text has, or 1 where it is refused.
+/// How many bytes the list at the start of the input has, or 1 where it is refused.
 fn count_read(alloc: Global, text: &[u8]) -> Result<u64, Failure> {
     let limits = (RangeCfg::from(..), ());
     match read::<Vec<u8>>(alloc, text, &limits)? {

@@ -76,7 +76,7 @@ fn time_conflicts<C: Clock, W: Write>(
     Ok(())
 }
 
-/// The certificate for a value of one byte that the first so many members signed.
+/// The certificate for a value of one byte that the first `signers` members signed.
 fn certificate(alloc: Global, value: u8, signers: u32) -> Result<Certificate<Global>, AllocError> {
     Ok(Certificate {
         value: Vec::from_slice(alloc, &[value])?,
@@ -84,7 +84,7 @@ fn certificate(alloc: Global, value: u8, signers: u32) -> Result<Certificate<Glo
     })
 }
 
-/// How many members signed both certificates, or 1 where that isn't answered. Of two certificates
+/// How many members signed both certificates, or 1 where that is refused. Of two certificates
 /// for one value, and in a committee of none or of more than `u32::MAX`, none are looked for.
 fn count_both(
     alloc: Global,

@@ -16,7 +16,7 @@ pub(crate) fn written<T: Write<Global>>(alloc: Global, value: &T) -> Result<Vec<
     Ok(bytes)
 }
 
-/// The value at the front of the bytes, or `None` where they are refused.
+/// The value at the start of the bytes, or `None` where they are refused.
 pub(crate) fn read<T: Read<Global>>(
     alloc: Global,
     bytes: &[u8],

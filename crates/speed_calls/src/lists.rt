@@ -37,7 +37,7 @@ fn time_read<C: Clock, W: Write>(
     Ok(())
 }
 
-/// How many numbers the list at the front of the bytes has, or 1 where they are refused.
+/// How many numbers the list at the start of the bytes has, or 1 where they are refused.
 fn count_read(alloc: Global, bytes: &[u8]) -> Result<u64, Failure> {
     let limits = (RangeCfg::from(..), ());
     match read::<NonEmptyVec<u32, Global>>(alloc, bytes, &limits)? {

@@ -29,7 +29,7 @@ fn map_of(alloc: Global, numbers: &[u32]) -> Result<Map<u32, u32, Global>, Alloc
     Map::from_iter_dedup(alloc, numbers.iter().map(|number| (*number, *number)))
 }
 
-/// The line of the value of each number looked up. The answer is the check sum.
+/// The line of the value of each number looked up. It returns the check sum.
 fn time_lookups<C: Clock, W: Write>(
     bench: &mut Bench<C, W>,
     map: &Map<u32, u32, Global>,
@@ -74,7 +74,7 @@ fn time_read<C: Clock, W: Write>(
     Ok(())
 }
 
-/// How many pairs the map at the front of the bytes has, or 1 where they are refused.
+/// How many pairs the map at the start of the bytes has, or 1 where they are refused.
 fn count_read(alloc: Global, bytes: &[u8]) -> Result<u64, Failure> {
     let limits = (RangeCfg::from(..), (), ());
     match read::<Map<u32, u32, Global>>(alloc, bytes, &limits)? {

@@ -39,7 +39,7 @@ impl Timed {
 /// The lines of sets that are built of random numbers, of rising ones and of equal ones, and those
 /// of the set of the random ones.
 ///
-/// The answer is to be kept while the other lines are timed. The C library gives large blocks that
+/// The result is to be kept while the other lines are timed. The C library gives large blocks that
 /// nobody holds back to the kernel, and the next line would be counted the new pages.
 pub(crate) fn time_sets<C: Clock, W: Write>(
     bench: &mut Bench<C, W>,
@@ -146,7 +146,7 @@ fn time_codec<C: Clock, W: Write>(
     Ok(())
 }
 
-/// How many numbers the set at the front of the bytes has, or 1 where they are refused.
+/// How many numbers the set at the start of the bytes has, or 1 where they are refused.
 fn count_read(alloc: Global, bytes: &[u8]) -> Result<u64, Failure> {
     let limits = (RangeCfg::from(..), ());
     match read::<Set<u32, Global>>(alloc, bytes, &limits)? {

@@ -54,6 +54,7 @@ pub fn time_size<C: Clock, W: Write>(
     rounds: u64,
 ) -> Result<(), Failure> {
     let numbers = random(bench.alloc(), size)?;
+    // Kept to the end, as `time_sets` says.
     let _kept = time_sets(bench, &numbers, rounds)?;
     time_bytes(bench, size, rounds)?;
     time_maps(bench, &numbers, rounds)?;

@@ -58,7 +58,7 @@ fn time_codec<C: Clock, W: Write>(
     Ok(())
 }
 
-/// How many items the set at the front of the bytes has, or 1 where they are refused.
+/// How many items the set at the start of the bytes has, or 1 where they are refused.
 fn count_read(alloc: Global, bytes: &[u8]) -> Result<u64, Failure> {
     let limits = (RangeCfg::from(..), ());
     match read::<Set<Member, Global>>(alloc, bytes, &limits)? {

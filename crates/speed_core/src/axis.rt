@@ -14,7 +14,7 @@ pub struct Axis {
 
 impl Axis {
     /// The shortest axis of that many pixels, of one power of ten at least, on which all the
-    /// logarithms stand. They are in hundredths.
+    /// logarithms are drawn. They are in hundredths.
     pub fn around(logarithms: &[u32], length: u32) -> Axis
         ensures holds { All (λ l. (result.first * 100 ≤ l) × (l ≤ result.last * 100))
             logarithms.now }
@@ -31,8 +31,8 @@ impl Axis {
         }
     }
 
-    /// How many pixels from its beginning a logarithm stands. One that is off the axis stands at
-    /// the nearer end.
+    /// How many pixels from its beginning a logarithm is drawn. One that is off the axis is drawn
+    /// at the nearer end.
     pub fn place(self, logarithm: u32) -> u32
         ensures inside { result ≤ self.length }
         ensures beginning { logarithm ≤ self.first * 100 → result ≡ 0 }

@@ -15,7 +15,7 @@ const LARGE: usize = 65_536;
 #[derive(Drop)]
 pub struct Bench<C: Clock, W: Write> {
     alloc: Global,
-    /// The last large block that was asked for.
+    /// The last large block that was allocated.
     large: Vec<u8>,
     clock: C,
     output: Watched<W>,
@@ -62,10 +62,10 @@ impl<C: Clock, W: Write> Bench<C, W> {
         self.alloc
     }
 
-    /// Makes the call once a round and writes the line. The answer is the check sum, which goes
-    /// on from `sum` with what each call answers, modulo 2^64.
+    /// Makes the call once a round and writes the line. It returns the check sum, which goes on
+    /// from `sum` with what each call returns, modulo 2^64.
     ///
-    /// A large block is asked for before the clock starts. With such a request the C library
+    /// A large block is allocated before the clock starts. At such a request the C library
     /// merges the small ones that were given back, as the nodes of a tree, whoever makes it.
     pub fn line<F: FnMut() -> Result<u64, Failure>>(
         &mut self,
@@ -81,8 +81,8 @@ impl<C: Clock, W: Write> Bench<C, W> {
         Ok(sum)
     }
 
-    /// The same of a call that changes nothing, and takes and answers the sum. Where each call
-    /// goes on from what the one before answered, a compiler can't let one stand for all.
+    /// The same of a call that changes nothing, and takes and returns the sum. Where each call
+    /// goes on from what the one before returned, a compiler can't make one call for all.
     pub fn folded<F: FnMut(u64) -> Result<u64, Failure>>(
         &mut self,
         work: Work<'_>,
@@ -106,7 +106,7 @@ impl<C: Clock, W: Write> Bench<C, W> {
     }
 }
 
-/// The check sum after so many calls, and how long they took.
+/// The check sum after `rounds` calls, and how long they took.
 fn timed<C: Clock, F: FnMut() -> Result<u64, Failure>>(
     clock: &C,
     rounds: u64,

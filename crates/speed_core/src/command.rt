@@ -21,7 +21,7 @@ pub enum Command {
 }
 
 /// The command that the words ask for: `--help`, `--version` or `plot` alone, or a number alone,
-/// which is `Command::Time`: decimal digits, from 10 to 4294967295. The answer is `None` exactly
+/// which is `Command::Time`: decimal digits, from 10 to 4294967295. It returns `None` exactly
 /// where the words ask for no command.
 pub(crate) fn parse_args<A: Allocator>(words: &[String<A>]) -> Option<Command>
     ensures asked { IfSome result (IsAskedFor (map string_bytes words.now)) }

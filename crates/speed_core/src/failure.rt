@@ -9,7 +9,7 @@ use std::fmt;
 /// Why a run has stopped. Its text is the line that a run says.
 #[derive(Clone, Copy, PartialEq, Eq)]
 pub enum Failure {
-    /// A request for memory was refused.
+    /// An allocation failed.
     Memory,
     /// Standard input failed, or is no UTF-8 text.
     Read,

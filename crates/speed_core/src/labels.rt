@@ -13,11 +13,11 @@ pub struct Label<'a> {
     pub name: &'a str,
     /// The place of the curve among the curves.
     pub index: usize,
-    /// How many pixels below the top it stands.
+    /// How many pixels below the top it is drawn.
     pub top: u32,
 }
 
-/// The labels from the lowest to the highest, moved up where they stand too near to the one
+/// The labels from the lowest to the highest, moved up where they are too near to the one
 /// below.
 pub(crate) fn spread(mut labels: Vec<Label<'_>>) -> Result<Vec<Label<'_>>, AllocError> {
     labels.sort_by(lowest_first)?;

@@ -35,7 +35,8 @@ pub fn logarithm(number: NonZeroU64) -> u32
     decade * 100 + part as u32
 }
 
-/// The first seven digits of a number that has so many after its first, as if zeros followed it.
+/// The first seven digits of a number that has `decade` digits after its first, as if zeros
+/// followed it.
 fn leading(number: u64, decade: u32) -> u128
     requires { 10 ^ decade ≤ number }
     ensures { result ≡ number * 1_000_000 / 10 ^ decade }

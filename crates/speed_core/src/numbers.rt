@@ -32,7 +32,7 @@ pub fn random(alloc: Global, count: u32) -> Result<Vec<u32>, AllocError>
         .collect(alloc)
 }
 
-/// The first so many multiples of 7, modulo 2^32.
+/// The first `count` multiples of 7, modulo 2^32.
 pub fn rising(alloc: Global, count: u32) -> Result<Vec<u32>, AllocError>
     ensures { IfOk result (λ numbers. length numbers.items ≡ count) }
 {

@@ -24,7 +24,7 @@ const ACROSS: u32 = 1000;
 /// How many pixels high they are.
 const UP: u32 = 810;
 
-/// What stands before the curves: all text and the lines of the axes are of a middle grey.
+/// What comes before the curves: all text and the lines of the axes are of a middle grey.
 const HEAD: &str = "<svg xmlns=\"http://www.w3.org/2000/svg\" viewBox=\"0 0 1280 900\" \
     font-family=\"sans-serif\" font-size=\"12\" fill=\"none\">\n";
 
@@ -72,7 +72,7 @@ fn write_drawing(
     drawing.push_str("</svg>\n")
 }
 
-/// The axes on which all samples stand.
+/// The axes on which all samples are drawn.
 fn frame_of(alloc: Global, samples: &[Sample<'_>]) -> Result<Frame, AllocError> {
     let mut entries = Vec::new(alloc);
     let mut costs = Vec::new(alloc);
@@ -113,12 +113,12 @@ fn find_label<'l, 'a>(labels: &'l mut [Label<'a>], name: &str) -> Option<&'l mut
     None
 }
 
-/// How many pixels below the top a sample stands.
+/// How many pixels below the top a sample is drawn.
 fn top_of(frame: Frame, sample: &Sample<'_>) -> u32 {
     (TOP + UP).saturating_sub(frame.up.place(sample.cost))
 }
 
-/// How many pixels to the right a sample stands.
+/// How many pixels to the right a sample is drawn.
 fn left_of(frame: Frame, sample: &Sample<'_>) -> u32 {
     frame.across.place(sample.entries).min(ACROSS) + LEFT
 }

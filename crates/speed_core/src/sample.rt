@@ -16,7 +16,7 @@ pub struct Sample<'a> {
 }
 
 /// What the line says, or `None` where it isn't a name, the number of entries, a check sum and a
-/// cost, with one blank between two of them. A name has ASCII letters, digits and `_`, and there
+/// cost, with one space between two of them. A name has ASCII letters, digits and `_`, and there
 /// is an entry at least.
 pub fn parse_line(line: &str) -> Option<Sample<'_>> {
     let mut words = line.split(' ');
@@ -39,7 +39,7 @@ fn is_name(word: &str) -> bool {
     !word.is_empty() && word.bytes().all(is_letter)
 }
 
-/// Whether the byte can stand in the name of a call.
+/// Whether the byte can be in the name of a call.
 fn is_letter(byte: u8) -> bool {
     byte.is_ascii_alphanumeric() || byte == b'_'
 }

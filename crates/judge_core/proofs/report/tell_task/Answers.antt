@@ -25,18 +25,18 @@ pub returns-in_ok-build-in-Build : goal.returns-in_ok-build-in-Build
 returns-in_ok-build-in-Build g c =
     let b = c.in-Build in
     let made = items_of c.in_ok-build-in-Build.field-0 in
-    let right = subst (λ t. IsBuilt b.collection b.unique t made) c.deref.ensures.value c.in_ok-build-in-Build.ensures.built in
+    let right = subst (λ t. IsBuilt b.collection b.unique t made) c.as_slice.ensures c.in_ok-build-in-Build.ensures.built in
     appended c.write_built.result _ _ _ (λ x. (line : List ℕ) → IsTask line c.args.task.now → IsTold line (record { text = x; judged = true }))
-    (λ line task. built b.unique b.collection b.text.items made (asked_build line b.collection b.unique b.text (subst (IsTask line) b.is task)) right refl refl) c.write_built.ensures
+    (λ line task. built b.unique b.collection b.text made (asked_build {A = g.row.A.Denot} line b.collection b.unique b.text (subst (IsTask line) b.is task)) right refl refl) c.write_built.ensures
 
 pub returns-in_ok-position-in-Position : goal.returns-in_ok-position-in-Position
 returns-in_ok-position-in-Position g c =
     let p = c.in-Position in
     let place = c.in_ok-position-in-Position.field-0 in
-    let half = subst (λ t. IsFoundIn p.set t c.deref-in-Position-2.result.now place) c.deref-in-Position.ensures.value c.in_ok-position-in-Position.ensures.found in
-    let right = subst (λ t. IsFoundIn p.set p.text.items t place) c.deref-in-Position-2.ensures.value half in
+    let half = subst (λ t. IsFoundIn p.set t c.as_slice-in-Position-2.result.now place) c.as_slice-in-Position.ensures c.in_ok-position-in-Position.ensures.found in
+    let right = subst (λ t. IsFoundIn p.set p.text t place) c.as_slice-in-Position-2.ensures half in
     appended c.write_found.result _ _ _ (λ x. (line : List ℕ) → IsTask line c.args.task.now → IsTold line (record { text = x; judged = true }))
-    (λ line task. found p.set p.text.items p.item.items place (asked_position line p.set p.text p.item (subst (IsTask line) p.is task)) right refl refl) c.write_found.ensures
+    (λ line task. found p.set p.text p.item place (asked_position {A = g.row.A.Denot} line p.set p.text p.item (subst (IsTask line) p.is task)) right refl refl) c.write_found.ensures
 
 pub returns-in-Faults : goal.returns-in-Faults
 returns-in-Faults g c =
@@ -55,7 +55,7 @@ pub returns-in_ok-conflict_of-in-Conflict : goal.returns-in_ok-conflict_of-in-Co
 returns-in_ok-conflict_of-in-Conflict g c =
     let f = c.in-Conflict in
     let members = items_of c.in_ok-conflict_of-in-Conflict.field-0 in
-    let half = subst (λ t. IsConflict f.k f.n t c.deref-in-Conflict-2.result.now members) c.deref-in-Conflict.ensures.value c.in_ok-conflict_of-in-Conflict.ensures in
-    let right = subst (λ t. IsConflict f.k f.n f.first.items t members) c.deref-in-Conflict-2.ensures.value half in
+    let half = subst (λ t. IsConflict f.k f.n t c.as_slice-in-Conflict-2.result.now members) c.as_slice-in-Conflict.ensures c.in_ok-conflict_of-in-Conflict.ensures in
+    let right = subst (λ t. IsConflict f.k f.n f.first t members) c.as_slice-in-Conflict-2.ensures half in
     appended c.write_conflict.result _ _ _ (λ x. (line : List ℕ) → IsTask line c.args.task.now → IsTold line (record { text = x; judged = true }))
-    (λ line task. named f.k f.n f.first.items f.second.items members (asked_conflict line f.k f.n f.first f.second (subst (IsTask line) f.is task)) right refl refl) c.write_conflict.ensures
+    (λ line task. named f.k f.n f.first f.second members (asked_conflict {A = g.row.A.Denot} line f.k f.n f.first f.second (subst (IsTask line) f.is task)) right refl refl) c.write_conflict.ensures
