@@ -89,7 +89,7 @@ fn comes_back<T: Read<A> + Write<A> + PartialEq + Drop, A: Allocator + Copy>(
     is_read_as(alloc, &sink, cfg, value, sink.len())
 }
 
-/// Whether the value has this text.
+/// Whether the value has this `Display` text.
 fn is_shown_as<T: Display, A: Allocator + Copy>(alloc: A, value: &T, text: &str) -> bool {
     match format!(in alloc; "{value}") {
         Ok(shown) => shown.as_str() == text,
@@ -97,7 +97,7 @@ fn is_shown_as<T: Display, A: Allocator + Copy>(alloc: A, value: &T, text: &str)
     }
 }
 
-/// Whether the value has this text for one who looks for faults.
+/// Whether the value has this `Debug` text.
 fn is_debugged_as<T: Debug, A: Allocator + Copy>(alloc: A, value: &T, text: &str) -> bool {
     match format!(in alloc; "{value:?}") {
         Ok(shown) => shown.as_str() == text,

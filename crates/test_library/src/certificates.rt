@@ -135,7 +135,7 @@ fn beginnings_are_refused(rt: HostRuntime) {
     }
 }
 
-/// Whether a certificate is shown to one who looks for faults.
+/// Whether a certificate has its `Debug` text.
 fn is_shown(alloc: Global) -> Result<bool, AllocError> {
     let certificate = Certificate {
         value: Vec::from_slice(alloc, &[0xaau8, 0])?,

@@ -12,7 +12,7 @@ enum Collection {
     BiMap,
 }
 
-/// A collection of three entries, whether it is shown to one who looks for faults, and its text.
+/// A collection of three entries, whether it is shown by `Debug`, and its text.
 #[derive(Clone, Copy)]
 struct Shown(Collection, bool, &'static str);
 

@@ -83,7 +83,7 @@ module _ (Z : Al) {M : Type 1} {𝓤 : Ura M} (𝓛 : Logic 𝓤) (at_mem : Memo
         suffices ! _ (ends_at 𝓛 (ended Z) (stayed Z) clauses (bound x) vunit tt (tt, (tt, (tt, (tt, tt)))) (tt, (tt, (tt, (tt, tt))))) $
         join ! $ nothing ! $ move ! (1 ∷ []) $ feq_i ! (List Val) (vunit ∷ []) (vunit ∷ []) refl $
         nothing ! $ nothing ! $ fjoin ! $ nothing ! $ fjoin ! $ nothing ! $ fjoin ! $ nothing ! $ fjoin ! $ join ! $
-        -- [the parameters and the answer; the tokens; nothing]
+        -- [the parameters and the result; the tokens; nothing]
         move ! (1 ∷ 0 ∷ []) $ join ! $ done !
 
     -- The body: nothing is at null, and a block goes to the inner allocator with the right to free it.
