@@ -65,31 +65,25 @@ pub fn conflict<M: Faults, T: Ord, A: Allocator>(
 ) -> Result<Set<Participant, A>, ConflictError>
     requires differ { first.now.value.items ≢ second.now.value.items }
     requires some { IsCommitteeSize (pos (length committee.now)) }
-    ensures outside { IsErrOf result Outside
-        ↔ (HasOutsider (length committee.now) first.now.signers
-        ⊎ HasOutsider (length committee.now) second.now.signers) }
-    ensures too_few { IsErrOf result TooFew
-        ↔ (AreMembers (length committee.now) first.now.signers
-        × AreMembers (length committee.now) second.now.signers
-        × (AreTooFew M.faults (length committee.now) first.now.signers
-        ⊎ AreTooFew M.faults (length committee.now) second.now.signers)) }
-    ensures quorums { OnOk result
-        (AreQuorum M.faults (length committee.now) first.now.signers
-        × AreQuorum M.faults (length committee.now) second.now.signers) }
+    ensures outside { let n = length committee.now in IsErrOf result Outside
+        ↔ (HasOutsider n first.now.signers ⊎ HasOutsider n second.now.signers) }
+    ensures too_few { let n = length committee.now in IsErrOf result TooFew
+        ↔ (AreMembers n first.now.signers × AreMembers n second.now.signers
+        × (AreTooFew M.faults n first.now.signers ⊎ AreTooFew M.faults n second.now.signers)) }
+    ensures quorums { let n = length committee.now in OnOk result
+        (AreQuorum M.faults n first.now.signers × AreQuorum M.faults n second.now.signers) }
     ensures both { IfOk result (AreInBoth first.now.signers second.now.signers) }
-    ensures shared { IfOk result (λ both. length committee.now
-        ≤ 2 * M.faults (length committee.now) + length both) }
-    ensures thirds { Greatest3 (length committee.now) (M.faults (length committee.now))
-        → IfOk result (λ both. M.faults (length committee.now) + 1 ≤ length both) }
-    ensures fifths { Greatest5 (length committee.now) (M.faults (length committee.now))
-        → IfOk result (λ both. 3 * M.faults (length committee.now) + 1 ≤ length both) }
-    ensures leaves { 3 * M.faults (length committee.now) + 1 ≤ length committee.now
-        → IfOk result
-        (LeavesOneOutside (length committee.now) (M.faults (length committee.now))) }
-    ensures outlasts { (Greatest3 (length committee.now) (M.faults (length committee.now))
-        ⊎ Greatest5 (length committee.now) (M.faults (length committee.now)))
-        → IfOk result
-        (LeavesOneOutside (length committee.now) (M.faults (length committee.now))) }
+    ensures shared { let n = length committee.now in
+        IfOk result (λ both. n ≤ 2 * M.faults n + length both) }
+    ensures thirds { let n = length committee.now in Greatest3 n (M.faults n)
+        → IfOk result (λ both. M.faults n + 1 ≤ length both) }
+    ensures fifths { let n = length committee.now in Greatest5 n (M.faults n)
+        → IfOk result (λ both. 3 * M.faults n + 1 ≤ length both) }
+    ensures leaves { let n = length committee.now in 3 * M.faults n + 1 ≤ n
+        → IfOk result (LeavesOneOutside n (M.faults n)) }
+    ensures outlasts { let n = length committee.now in
+        (Greatest3 n (M.faults n) ⊎ Greatest5 n (M.faults n))
+        → IfOk result (LeavesOneOutside n (M.faults n)) }
 {
     let members = committee.len();
     conflict_among(alloc, members, M::max_faults(members), first, second)
