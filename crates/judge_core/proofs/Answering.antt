@@ -1,14 +1,25 @@
--- Answers to lines, one after another.
-use Rattle.std.proofs.Common.{◌≡◌, ℕ, ◌+◌, ◌<◌, ◌≤◌, ◌==◌, ◌&&◌, ◌||◌, Bool, true, false, cond, not, zero, suc, List, [], ◌∷◌, ◌++◌, filter, length, get_or, take, drop, position, Some, None, refl, sym, ap, subst, arith, ◌∙◌, append_assoc, append-nil, take-append-drop, add-one, drop-cons, nat_lt}
+-- Answers to numbered lines, one after another.
+use Rattle.std.proofs.Common.{◌≡◌, ℕ, ◌+◌, ◌-◌, ◌<◌, ◌≤◌, ◌==◌, ◌&&◌, ◌||◌, Bool, true, false, cond, not, zero, suc, List, [], ◌∷◌, ◌++◌, length, get_or, take, drop, position, Option, Some, None, inl, inr, refl, sym, ap, subst, arith, ◌∙◌, append_assoc, append-nil, take-append-drop, add-one, drop-cons, nat_lt}
 use Rattle.std.specs.List.{AllZip, flat_map, list_all, onto_first, position_or_len, slice_split}
 use Rattle.std.specs.Str.Lines.{lines, lines_of_parts, strip_carriage_return}
 use Rattle.std.proofs.lemmas.Bool.{cond-false, cond-true, eqb-true}
 use Rattle.std.proofs.lemmas.Bool.Decides.{nat_tests}
 use Rattle.std.proofs.lemmas.Grind.{flat_map-append}
-use Rattle.std.proofs.lemmas.List.Elements.{filter-append}
 use Rattle.std.proofs.lemmas.List.Folds.{list_all-append}
 use Rattle.std.proofs.lemmas.List.Quantifiers.{position-Some}
-use Rattle.judge_core.specs.Answered.{AreAnswered, Continues, HasNoFeed, IsTold, Told, is_asked}
+use Rattle.judge_core.specs.Answered.{AreAnswered, AreNoted, Continues, HasNoFeed, IsTold, Told, asked_from, is_asked, note_of, said_of}
+use Rattle.judge_core.specs.Lines.{IsComment, IsKept}
+
+-- a line and its number, and what is told of it
+abbrev Line : Type 0
+Line = ℕ × List ℕ
+
+abbrev Answer : Type 0
+Answer = ℕ × Told
+
+-- what is told of a numbered line is right
+abbrev IsRight : Line → Answer → Type 0
+IsRight line told = (told.0 ≡ line.0) × IsTold line.1 told.1
 
 -- lists of pairs that go together, one after another
 zip_append : {X Y : Type 0} (R : X → Y → Type 0) (a b : List X) (x y : List Y) → AllZip R a x → AllZip R b y → AllZip R (a ++ b) (x ++ y)
@@ -31,29 +42,62 @@ only_one : (b : Bool) → b ≡ b && true
 only_one true = refl
 only_one false = refl
 
--- its answer
-pub one_answered : (line : List ℕ) (told : Told) → is_asked line ≡ true → IsTold line told → AreAnswered (line ∷ []) told.text told.judged
-one_answered line told asked right = record {
-  answers = told ∷ [];
-  right = subst (λ ls. AllZip IsTold ls (told ∷ [])) (sym (cond-true (is_asked line) (line ∷ []) [] asked)) (right, tt);
-  text = sym (append-nil told.text);
+-- both are true
+pub both_true : (a b c : Bool) → c ≡ a && b → c ≡ true → (a ≡ true) × (b ≡ true)
+both_true true b c is all = (refl, sym is ∙ all)
+both_true false b c is all = absurd (cc)
+
+-- notes, and more notes
+notes_append : (a b : List Answer) (u v : List ℕ) → AreNoted a u → AreNoted b v → AreNoted (a ++ b) (u ++ v)
+notes_append [] b u v h k = subst (λ w. AreNoted b (w ++ v)) (sym h) k
+notes_append (told ∷ a) b u v (prefix, after, back, split, is, rest) k = (prefix, after ++ v, back, ap (λ w. w ++ v) split ∙ append_assoc prefix after v, is, notes_append a b after v rest k)
+
+-- the numbered lines of a line that asks for an answer
+pub only_asked : (n : ℕ) (line : List ℕ) → is_asked line ≡ true → asked_from n (line ∷ []) ≡ (n, line) ∷ []
+only_asked n line asked = cond-true (is_asked line) ((n, line) ∷ []) [] asked
+
+-- of one that asks for none
+none_asked : (n : ℕ) (line : List ℕ) (rest : List (List ℕ)) → is_asked line ≡ false → asked_from n (line ∷ rest) ≡ asked_from (n + 1) rest
+none_asked n line rest silent = cond-false (is_asked line) ((n, line) ∷ asked_from (n + 1) rest) (asked_from (n + 1) rest) silent
+
+-- of a line, and then of more
+pub asked_then : (n : ℕ) (line : List ℕ) (rest : List (List ℕ)) → asked_from n (line ∷ rest) ≡ asked_from n (line ∷ []) ++ asked_from (n + 1) rest
+asked_then n line rest = by (is_asked line) (asked_from (n + 1) rest)
+  where
+    by : (b : Bool) (more : List Line) → cond b ((n, line) ∷ more) more ≡ cond b ((n, line) ∷ []) [] ++ more
+    by true more = refl
+    by false more = refl
+
+-- no line, no answer
+pub none_answered : (numbered : Bool) → AreAnswered numbered [] [] [] true
+none_answered numbered = record { answers = []; right = tt; text = refl; notes = refl; verdicts = refl }
+
+-- a line that asks for no answer
+pub silent_answered : (numbered : Bool) (n : ℕ) (line : List ℕ) → is_asked line ≡ false → AreAnswered numbered (asked_from n (line ∷ [])) [] [] true
+silent_answered numbered n line silent = subst (λ asked. AreAnswered numbered asked [] [] true) (sym (none_asked n line [] silent)) (none_answered numbered)
+
+-- the answer to a line
+pub one_answered : (numbered : Bool) (n : ℕ) (line : List ℕ) (told : Told) (noted back : List ℕ) → is_asked line ≡ true → IsTold line told → note_of (n, told) ≡ noted ++ back
+    → AreAnswered numbered (asked_from n (line ∷ [])) (said_of numbered (n, told)) noted told.judged
+one_answered numbered n line told noted back asked right note = record {
+  answers = (n, told) ∷ [];
+  right = subst (λ ls. AllZip IsRight ls ((n, told) ∷ [])) (sym (only_asked n line asked)) ((refl, right), tt);
+  text = sym (append-nil (said_of numbered (n, told)));
+  notes = (noted, [], back, sym (append-nil noted), note, refl);
   verdicts = only_one told.judged;
 }
 
 -- the answers to lines, and then those to more lines
-pub both_answered : (l m : List (List ℕ)) (s t : List ℕ) (a b : Bool) → AreAnswered l s a → AreAnswered m t b → AreAnswered (l ++ m) (s ++ t) (a && b)
-both_answered l m s t a b h k = record {
+pub both_answered : (numbered : Bool) (l m : List Line) (s t u v : List ℕ) (a b : Bool) → AreAnswered numbered l s u a → AreAnswered numbered m t v b → AreAnswered numbered (l ++ m) (s ++ t) (u ++ v) (a && b)
+both_answered numbered l m s t u v a b h k = record {
   answers = h.answers ++ k.answers;
-  right = subst (λ ls. AllZip IsTold ls (h.answers ++ k.answers)) (sym (filter-append is_asked l m)) (zip_append IsTold (filter is_asked l) (filter is_asked m) h.answers k.answers h.right k.right);
-  text = ap (λ u. u ++ t) h.text ∙ ap (λ u. flat_map (λ told. told.text) h.answers ++ u) k.text ∙ sym (flat_map-append (λ (told : Told). told.text) h.answers k.answers);
-  verdicts = ap (λ u. u && b) h.verdicts ∙ ap (λ u. list_all (λ told. told.judged) h.answers && u) k.verdicts ∙ sym (list_all-append (λ (told : Told). told.judged) h.answers k.answers);
+  right = zip_append IsRight l m h.answers k.answers h.right k.right;
+  text = ap (λ w. w ++ t) h.text ∙ ap (λ w. flat_map (said_of numbered) h.answers ++ w) k.text ∙ sym (flat_map-append (said_of numbered) h.answers k.answers);
+  notes = notes_append h.answers k.answers u v h.notes k.notes;
+  verdicts = ap (λ w. w && b) h.verdicts ∙ ap (λ w. list_all (λ (told : Answer). told.1.judged) h.answers && w) k.verdicts ∙ sym (list_all-append (λ (told : Answer). told.1.judged) h.answers k.answers);
 }
 
--- no line, no answer
-none_answered : AreAnswered [] [] true
-none_answered = record { answers = []; right = tt; text = refl; verdicts = refl }
-
--- the test that cuts lines
+-- the test that splits lines
 abbrev feed : ℕ → Bool
 feed b = b == 10
 
@@ -118,49 +162,114 @@ no_feed text e =
     let outside : nat_lt (position_or_len feed text) (length text) ≡ false = none_place (nat_lt (position_or_len feed text) (length text)) (position_or_len feed text) e in
     nowhere text (grind (arith, nat_tests))
 
--- nothing came yet
-pub begins : (front : List ℕ) → Continues front [] front [] true
-begins front = ([], λ rest. refl, none_answered)
-
--- the line ended, and was answered
-pub line_ended : (front gone mid head said t : List ℕ) (a b : Bool) → Continues front gone mid said a → HasNoFeed mid → HasNoFeed head → AreAnswered (strip_carriage_return (mid ++ head) ∷ []) t b
-    → Continues front (gone ++ (head ++ (10 ∷ []))) [] (said ++ t) (a && b)
-line_ended front gone mid head said t a b (done, splits, answered) none none' h = (
-  done ++ (strip_carriage_return (mid ++ head) ∷ []),
-  (λ rest.
-      ap (λ u. lines (front ++ u)) (append_assoc gone (head ++ (10 ∷ [])) rest ∙ ap (λ u. gone ++ u) (append_assoc head (10 ∷ []) rest))
-      ∙ splits (head ++ 10 ∷ rest)
-      ∙ ap (λ u. done ++ lines u) (sym (append_assoc mid head (10 ∷ rest)))
-      ∙ ap (λ u. done ++ u) (line_then (mid ++ head) rest (no_feed-append mid head none none'))
-      ∙ sym (append_assoc done (strip_carriage_return (mid ++ head) ∷ []) (lines rest))),
-  both_answered done (strip_carriage_return (mid ++ head) ∷ []) said t a b answered h,
-)
-
--- one piece after another
-pub continues_on : (front one mid other back s t : List ℕ) (a b : Bool) → Continues front one mid s a → Continues mid other back t b → Continues front (one ++ other) back (s ++ t) (a && b)
-continues_on front one mid other back s t a b (done, splits, answered) (more, splits', answered') = (
-  done ++ more,
-  (λ rest.
-      ap (λ u. lines (front ++ u)) (append_assoc one other rest) ∙ splits (other ++ rest) ∙ ap (λ u. done ++ u) (splits' rest) ∙ sym (append_assoc done more (lines (back ++ rest)))),
-  both_answered done more s t a b answered answered',
-)
-
--- lines of which the same ask for an answer
-same_asked : (l m : List (List ℕ)) (s : List ℕ) (a : Bool) → filter is_asked l ≡ filter is_asked m → AreAnswered l s a → AreAnswered m s a
-same_asked l m s a e h = record { answers = h.answers; right = subst (λ ls. AllZip IsTold ls h.answers) e h.right; text = h.text; verdicts = h.verdicts }
-
 -- a last part that isn't empty is a line
 one_line : (b : ℕ) (back : List ℕ) → lines_of_parts ((b ∷ back) ∷ []) ≡ (b ∷ back) ∷ []
 one_line b back = let some : (length (b ∷ back) == 0) ≡ false = grind (arith, nat_tests) in cond-false (length (b ∷ back) == 0) [] ((b ∷ back) ∷ []) some
 
+-- a comment asks for no answer, and no more does what is left of one without a carriage return at its end
+comment_stripped : (rest : List ℕ) → is_asked (strip_carriage_return (35 ∷ rest)) ≡ false
+comment_stripped [] = refl
+comment_stripped (b ∷ rest) = by (get_or (35 ∷ b ∷ rest) (length (35 ∷ b ∷ rest) - 1) 0 == 13)
+  where
+    silent : (l : List ℕ) → is_asked (35 ∷ l) ≡ false
+    silent l = grind (arith, nat_tests)
+
+    shorter : take (length (35 ∷ b ∷ rest) - 1) (35 ∷ b ∷ rest) ≡ 35 ∷ take (length rest) (b ∷ rest)
+    shorter = let e : length (35 ∷ b ∷ rest) - 1 ≡ suc (length rest) = omega arith in ap (λ k. take k (35 ∷ b ∷ rest)) e
+
+    by : (last : Bool) → is_asked (cond last (take (length (35 ∷ b ∷ rest) - 1) (35 ∷ b ∷ rest)) (35 ∷ b ∷ rest)) ≡ false
+    by true = ap is_asked shorter ∙ silent (take (length rest) (b ∷ rest))
+    by false = silent (b ∷ rest)
+
+pub silent_comment : (line : List ℕ) → IsComment line → is_asked (strip_carriage_return line) ≡ false
+silent_comment line (rest, is) = ap (λ l. is_asked (strip_carriage_return l)) is ∙ comment_stripped rest
+
+-- a line asks what is kept of it asks
+pub kept_asked : (n : ℕ) (line kept : List ℕ) → IsKept line kept → asked_from n (strip_carriage_return line ∷ []) ≡ asked_from n (strip_carriage_return kept ∷ [])
+kept_asked n line kept (inl same) = ap (λ l. asked_from n (strip_carriage_return l ∷ [])) (sym same)
+kept_asked n line kept (inr (one, other)) = none_asked n (strip_carriage_return line) [] (silent_comment line one) ∙ sym (none_asked n (strip_carriage_return kept) [] (silent_comment kept other))
+
+-- the numbered lines of a comment that goes on with more text: those after it
+abbrev after_comment : ℕ → List ℕ → List Line
+after_comment n rest = elim (position feed rest) [ Some i ↦ asked_from (n + 1) (lines (drop (i + 1) rest)) | None ↦ [] ]
+
+comment_lines : (n : ℕ) (line rest : List ℕ) → IsComment line → HasNoFeed line → asked_from n (lines (line ++ rest)) ≡ after_comment n rest
+comment_lines n line rest comment none = by (position feed rest) refl
+  where
+    by : (at : Option ℕ) → position feed rest ≡ at → asked_from n (lines (line ++ rest)) ≡ elim at [ Some i ↦ asked_from (n + 1) (lines (drop (i + 1) rest)) | None ↦ [] ]
+    by (Some i) e =
+        let (head, around) = at_feed rest i e in
+        let longer : IsComment (line ++ take i rest) = (comment.0 ++ take i rest, ap (λ l. l ++ take i rest) comment.1) in
+        ap (λ r. asked_from n (lines (line ++ r))) around
+        ∙ ap (λ r. asked_from n (lines r)) (sym (append_assoc line (take i rest) (10 ∷ drop (i + 1) rest)))
+        ∙ ap (asked_from n) (line_then (line ++ take i rest) (drop (i + 1) rest) (no_feed-append line (take i rest) none head))
+        ∙ none_asked n (strip_carriage_return (line ++ take i rest)) (lines (drop (i + 1) rest)) (silent_comment (line ++ take i rest) longer)
+    by None e =
+        let whole = no_feed-append line rest none (no_feed rest e) in
+        ap (λ l. asked_from n (lines (l ++ rest))) comment.1
+        ∙ ap (λ parts. asked_from n (lines_of_parts parts)) (one_part (35 ∷ (comment.0 ++ rest)) (subst HasNoFeed (ap (λ l. l ++ rest) comment.1) whole))
+        ∙ ap (asked_from n) (one_line 35 (comment.0 ++ rest))
+        ∙ none_asked n (35 ∷ (comment.0 ++ rest)) [] (grind (arith, nat_tests))
+
+-- a line asks, whatever follows, what is kept of it asks
+kept_lines : (n : ℕ) (line kept rest : List ℕ) → IsKept line kept → HasNoFeed line → HasNoFeed kept → asked_from n (lines (line ++ rest)) ≡ asked_from n (lines (kept ++ rest))
+kept_lines n line kept rest (inl same) none none' = ap (λ l. asked_from n (lines (l ++ rest))) (sym same)
+kept_lines n line kept rest (inr (one, other)) none none' = comment_lines n line rest one none ∙ sym (comment_lines n kept rest other none')
+
+-- nothing came yet
+pub begins : (numbered : Bool) (n : ℕ) (front : List ℕ) → Continues numbered n front [] n front [] [] true
+begins numbered n front = ([], λ rest. refl, none_answered numbered)
+
+-- one piece after another
+pub continues_on : (numbered : Bool) (n : ℕ) (front one : List ℕ) (m : ℕ) (mid other : List ℕ) (o : ℕ) (back s t u v : List ℕ) (a b : Bool) → Continues numbered n front one m mid s u a → Continues numbered m mid other o back t v b
+    → Continues numbered n front (one ++ other) o back (s ++ t) (u ++ v) (a && b)
+continues_on numbered n front one m mid other o back s t u v a b (done, splits, answered) (more, splits', answered') = (
+  done ++ more,
+  (λ rest.
+      ap (λ w. asked_from n (lines (front ++ w))) (append_assoc one other rest) ∙ splits (other ++ rest) ∙ ap (λ w. done ++ w) (splits' rest) ∙ sym (append_assoc done more (asked_from o (lines (back ++ rest))))),
+  both_answered numbered done more s t u v a b answered answered',
+)
+
+-- a line ended, of which something was kept, and was answered
+pub line_ended : (numbered : Bool) (n : ℕ) (front head kept s u : List ℕ) (a : Bool) → IsKept (front ++ head) kept → HasNoFeed front → HasNoFeed head → AreAnswered numbered (asked_from n (strip_carriage_return kept ∷ [])) s u a
+    → Continues numbered n front (head ++ (10 ∷ [])) (n + 1) [] s u a
+line_ended numbered n front head kept s u a is none none' answered = (
+  asked_from n (strip_carriage_return kept ∷ []),
+  (λ rest.
+      ap (λ w. asked_from n (lines (front ++ w))) (append_assoc head (10 ∷ []) rest)
+      ∙ ap (λ w. asked_from n (lines w)) (sym (append_assoc front head (10 ∷ rest)))
+      ∙ ap (asked_from n) (line_then (front ++ head) rest (no_feed-append front head none none'))
+      ∙ asked_then n (strip_carriage_return (front ++ head)) (lines rest)
+      ∙ ap (λ w. w ++ asked_from (n + 1) (lines rest)) (kept_asked n (front ++ head) kept is)),
+  answered,
+)
+
 -- what is left at the end is a line, or nothing, which asks for no answer
-last_asked : (back : List ℕ) → HasNoFeed back → filter is_asked (back ∷ []) ≡ filter is_asked (lines back)
-last_asked [] none = refl
-last_asked (b ∷ back) none = ap (filter is_asked) (sym (one_line b back)) ∙ ap (λ parts. filter is_asked (lines_of_parts parts)) (sym (one_part (b ∷ back) none))
+pub last_asked : (n : ℕ) (back : List ℕ) → HasNoFeed back → asked_from n (back ∷ []) ≡ asked_from n (lines back)
+last_asked n [] none = refl
+last_asked n (b ∷ back) none = ap (asked_from n) (sym (one_line b back)) ∙ ap (λ parts. asked_from n (lines_of_parts parts)) (sym (one_part (b ∷ back) none))
+
+-- the lines of what came, and of the front of a line that came before
+pub all_lines : (numbered : Bool) (n : ℕ) (front text : List ℕ) (m : ℕ) (back s u : List ℕ) (a : Bool) (c : Continues numbered n front text m back s u a) → asked_from n (lines (front ++ text)) ≡ c.0 ++ asked_from m (lines back)
+all_lines numbered n front text m back s u a (done, splits, answered) =
+    ap (λ w. asked_from n (lines (front ++ w))) (sym (append-nil text)) ∙ splits [] ∙ ap (λ w. done ++ asked_from m (lines w)) (append-nil back)
 
 -- the whole text was answered
-pub text_ended : (text back said t : List ℕ) (a b : Bool) → Continues [] text back said a → HasNoFeed back → AreAnswered (back ∷ []) t b → AreAnswered (lines text) (said ++ t) (a && b)
-text_ended text back said t a b (done, splits, answered) none h =
-    let all : lines text ≡ done ++ lines back = ap lines (sym (append-nil text)) ∙ splits [] ∙ ap (λ u. done ++ lines u) (append-nil back) in
-    subst (λ ls. AreAnswered ls (said ++ t) (a && b)) (sym all)
-    (both_answered done (lines back) said t a b answered (same_asked (back ∷ []) (lines back) t b (last_asked back none) h))
+pub text_ended : (numbered : Bool) (n : ℕ) (text : List ℕ) (m : ℕ) (back s t u v : List ℕ) (a b : Bool) → Continues numbered n [] text m back s u a → HasNoFeed back → AreAnswered numbered (asked_from m (back ∷ [])) t v b
+    → AreAnswered numbered (asked_from n (lines text)) (s ++ t) (u ++ v) (a && b)
+text_ended numbered n text m back s t u v a b (done, splits, answered) none h =
+    let all : asked_from n (lines text) ≡ done ++ asked_from m (back ∷ []) = all_lines numbered n [] text m back s u a (done, splits, answered) ∙ ap (λ w. done ++ w) (sym (last_asked m back none)) in
+    subst (λ ls. AreAnswered numbered ls (s ++ t) (u ++ v) (a && b)) (sym all) (both_answered numbered done (asked_from m (back ∷ [])) s t u v a b answered h)
+
+-- a line went on after what was answered, and something of it was kept
+pub goes_on : (numbered : Bool) (n : ℕ) (front gone : List ℕ) (m : ℕ) (mid rest kept s u : List ℕ) (a : Bool) → Continues numbered n front gone m mid s u a → IsKept (mid ++ rest) kept → HasNoFeed (mid ++ rest) → HasNoFeed kept
+    → Continues numbered n front (gone ++ rest) m kept s u a
+goes_on numbered n front gone m mid rest kept s u a (done, splits, answered) is none none' = (
+  done,
+  (λ more.
+      ap (λ w. asked_from n (lines (front ++ w))) (append_assoc gone rest more)
+      ∙ splits (rest ++ more)
+      ∙ ap (λ w. done ++ asked_from m (lines w)) (sym (append_assoc mid rest more))
+      ∙ ap (λ w. done ++ w) (kept_lines m (mid ++ rest) kept more is none none')),
+  answered,
+)

@@ -1,4 +1,5 @@
 pub mod Answering
 pub mod Asked
-pub mod FormNames
+pub mod Freeness
+pub mod Saying
 pub mod Stopping

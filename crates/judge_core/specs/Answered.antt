@@ -1,5 +1,6 @@
 -- The answer to a line, and the text that says it.
-use Rattle.std.specs.Prelude.{◌≡◌, ℕ, List, [], ◌∷◌, ◌++◌, Bool, true, false, ◌==◌, ◌||◌, not, codes, filter}
+use Rattle.std.specs.Prelude.{◌≡◌, ℕ, ◌+◌, List, [], ◌∷◌, ◌++◌, Bool, true, false, ◌==◌, ◌||◌, not, codes}
+use Rattle.std.specs.Prelude.{if◌then◌else◌}
 use Rattle.std.specs.Prelude.{Option, Result, length, slice_index}
 use Rattle.std.specs.Fmt.{decimal}
 use Rattle.std.specs.List.{AllByRecursion, AllZip, flat_map, list_all}
@@ -48,21 +49,29 @@ is_judged (Unread what) = false
 abbrev pub is_asked : List ℕ → Bool
 is_asked line = not (length line == 0 || slice_index line 0 == 35)
 
+-- what says that this of a line can't be read
+abbrev pub unreadable_text : Unreadable → List ℕ
+unreadable_text Name = codes "unreadable type"
+unreadable_text Ranges = codes "unreadable ranges"
+unreadable_text Bytes = codes "unreadable bytes"
+unreadable_text Model = codes "unreadable model"
+unreadable_text Number = codes "unreadable number"
+
 -- the line that says an answer
 unfoldable pub answer_line : Answer → List ℕ
 answer_line (Judged (Accepted items left)) =
     codes "accepted " ++ (decimal items ++ (codes " " ++ (decimal left ++ (10 ∷ []))))
 answer_line (Judged (Refused error)) = error_text error ++ (10 ∷ [])
-answer_line (Unread Name) = codes "unreadable type" ++ (10 ∷ [])
-answer_line (Unread Ranges) = codes "unreadable ranges" ++ (10 ∷ [])
-answer_line (Unread Bytes) = codes "unreadable bytes" ++ (10 ∷ [])
-answer_line (Unread Model) = codes "unreadable model" ++ (10 ∷ [])
-answer_line (Unread Number) = codes "unreadable number" ++ (10 ∷ [])
+answer_line (Unread what) = unreadable_text what ++ (10 ∷ [])
 
 -- what is said of a line, and whether it is a verdict
 pub record Told : Type 0 where
   pub text : List ℕ
   pub judged : Bool
+
+-- what is told by an answer to a line that asks for a reading
+abbrev pub told_by : Answer → Told
+told_by answer = record { text = answer_line answer; judged = is_judged answer }
 
 -- a line that asks by the verb, followed by words of which Asks holds
 abbrev pub AsksBy : List ℕ → Verb → (List (List ℕ) → Type 0) → Type 0
@@ -89,21 +98,46 @@ pub data IsTold (line : List ℕ) (told : Told) : Type 0 where
   answered : HasNoVerb line → (answer : Answer) → IsAnswer line answer → told.text ≡ answer_line answer
       → told.judged ≡ is_judged answer → IsTold line told
 
--- The text says an answer to each of the lines that ask for one, in order, each of them right; and judged tells whether
--- all
--- of them are verdicts.
-pub record AreAnswered (lines : List (List ℕ)) (said : List ℕ) (judged : Bool) : Type 0 where
-  pub answers : List Told
-  pub right : AllZip IsTold (filter is_asked lines) answers
-  pub text : said ≡ flat_map (λ told. told.text) answers
-  pub verdicts : judged ≡ list_all (λ told. told.judged) answers
+-- the lines that ask for an answer, each with its number, where that of the first line is n
+abbrev pub asked_from : ℕ → List (List ℕ) → List (ℕ × List ℕ)
+asked_from n [] = []
+asked_from n (line ∷ rest) =
+    if is_asked line then (n, line) ∷ asked_from (n + 1) rest else asked_from (n + 1) rest
 
--- After the front of a line came more of the text, its whole lines were answered, and the back of it is left.
-abbrev pub Continues : List ℕ → List ℕ → List ℕ → List ℕ → Bool → Type 0
-Continues front more back said judged =
-    (done : List (List ℕ)) × ((rest : List ℕ) → lines (front ++ (more ++ rest)) ≡ done ++ lines (back ++ rest))
-    × AreAnswered done said judged
+-- what is said of a line on standard output, which begins with its number where lines are numbered
+abbrev pub said_of : Bool → ℕ × Told → List ℕ
+said_of true told = decimal told.0 ++ (codes ": " ++ told.1.text)
+said_of false told = told.1.text
 
--- no line feed stands in the text
+-- what is noted of a line on standard error: the number of one that can't be read
+abbrev pub note_of : ℕ × Told → List ℕ
+note_of told = if told.1.judged then [] else codes "line " ++ (decimal told.0 ++ (codes ": " ++ told.1.text))
+
+-- what was noted are the notes of these lines, of each a prefix, which is the whole where standard error takes it
+abbrev pub AreNoted : List (ℕ × Told) → List ℕ → Type 0
+AreNoted [] noted = noted ≡ []
+AreNoted (told ∷ rest) noted =
+    (prefix : List ℕ) × (after : List ℕ) × (back : List ℕ) × (noted ≡ prefix ++ after) × (note_of told ≡ prefix ++ back)
+    × AreNoted rest after
+
+-- What was said answers each of the numbered lines, in order, each answer right; what was noted names those that can't
+-- be read; and judged tells whether all answers are verdicts.
+pub record AreAnswered (numbered : Bool) (asked : List (ℕ × List ℕ)) (said noted : List ℕ) (judged : Bool)
+    : Type 0 where
+  pub answers : List (ℕ × Told)
+  pub right : AllZip (λ (line : ℕ × List ℕ) (told : ℕ × Told). (told.0 ≡ line.0) × IsTold line.1 told.1) asked answers
+  pub text : said ≡ flat_map (said_of numbered) answers
+  pub notes : AreNoted answers noted
+  pub verdicts : judged ≡ list_all (λ (told : ℕ × Told). told.1.judged) answers
+
+-- After the prefix of a line, of number n, came more of the text; its whole lines were answered, and the prefix of a
+-- line, of number m, is left.
+abbrev pub Continues : Bool → ℕ → List ℕ → List ℕ → ℕ → List ℕ → List ℕ → List ℕ → Bool → Type 0
+Continues numbered n front more m back said noted judged =
+    (done : List (ℕ × List ℕ))
+    × ((rest : List ℕ) → asked_from n (lines (front ++ (more ++ rest))) ≡ done ++ asked_from m (lines (back ++ rest)))
+    × AreAnswered numbered done said noted judged
+
+-- no line feed is in the text
 abbrev pub HasNoFeed : List ℕ → Type 0
 HasNoFeed = AllByRecursion (λ b. (b == 10) ≡ false)

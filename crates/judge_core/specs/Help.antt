@@ -5,10 +5,11 @@ use Rattle.std.specs.List.{flat_map}
 -- the lines on the words and the lines that the program takes
 abbrev pub help_lines : List (List ℕ)
 help_lines =
-    codes "usage: judge, judge types, judge --help, or judge --version"
+    codes "usage: judge, judge --number, judge types, judge --help, or judge --version"
     ∷ []
     ∷ codes "judge            answers the lines of standard input, a line each"
-    ∷ codes "judge types      names the types that have a byte form"
+    ∷ codes "judge --number   the same, each answer after the number of its line"
+    ∷ codes "judge types      names the types that have a canonical encoding"
     ∷ codes "judge --help     says this"
     ∷ codes "judge --version  says the version"
     ∷ []

@@ -2,5 +2,9 @@ pub mod Answered
 pub mod Command
 pub mod Faults
 pub mod Help
+pub mod Lines
+pub mod Memory
+pub mod Replies
+pub mod Said
 pub mod Session
 pub mod Tasks

@@ -3,10 +3,10 @@
 use program_io::WriteFailed;
 use std::alloc::AllocError;
 
-/// Why a run has not answered all lines. Its text is the line that a session says.
+/// Why a run has not answered all lines. Its `Display` is the line that a session says.
 #[derive(Clone, Copy, Debug, PartialEq, Eq, thiserror::Error)]
 pub enum Failure {
-    /// A request for memory was refused, or the reader gave more pieces than a `u64` counts.
+    /// An allocation failed.
     #[error("failed: out of memory")]
     Memory,
     /// The reader failed.
@@ -15,6 +15,9 @@ pub enum Failure {
     /// The writer failed, or took none of some bytes.
     #[error("failed: write")]
     WriteFailed,
+    /// The reader gave 2^64 - 1 pieces and had not ended.
+    #[error("failed: too many reads")]
+    TooLong,
 }
 
 impl From<AllocError> for Failure {

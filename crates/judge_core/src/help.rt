@@ -9,10 +9,11 @@ use std::io::Write;
 
 /// What `--help` says.
 const HELP: &str = "\
-usage: judge, judge types, judge --help, or judge --version
+usage: judge, judge --number, judge types, judge --help, or judge --version
 
 judge            answers the lines of standard input, a line each
-judge types      names the types that have a byte form
+judge --number   the same, each answer after the number of its line
+judge types      names the types that have a canonical encoding
 judge --help     says this
 judge --version  says the version
 

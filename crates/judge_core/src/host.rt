@@ -3,7 +3,7 @@ ghost use Rattle.std.specs.Prelude.{◌≡◌, ◌≢◌, ◌==◌, ◌≤◌, t
 ghost use Rattle.std.specs.Io.KnownBytes.{Appends};
 ghost use Rattle.program_io.specs.Arguments.{HasWords};
 ghost use Rattle.program_io.specs.Streams.{Gave};
-ghost use Rattle.judge_core.specs.Command.{AskForNone, IsAskedFor};
+ghost use Rattle.judge_core.specs.Command.{AskForNone, AskToJudge, IsAskedFor};
 ghost use Rattle.judge_core.specs.Session.{IsDone};
 ghost use Rattle.judge_core.specs.declared.command.Command.{Command};
 
@@ -19,8 +19,8 @@ use std::{env, io};
 
 /// The session of the words that follow the first argument, which is the program's name.
 ///
-/// Where the arguments can't be taken, for whatever cause, it is that of a program without
-/// memory: it says so, and the status is 3.
+/// Where the arguments can't be taken, for whatever cause, that counts as an allocation failure: it
+/// says so, and the status is 3.
 pub fn start<A: Allocator + Copy, R: Read, W: Write, E: Write>(
     alloc: A,
     arguments: io::Result<Args<A>>,
@@ -31,7 +31,8 @@ pub fn start<A: Allocator + Copy, R: Read, W: Write, E: Write>(
     ensures done { result ≤ 1 → HasWords arguments (λ words. (command : Command)
         × IsAskedFor words command
         × IsDone command (Gave (R.remaining input.old.inner) (R.remaining input.new.inner))
-        (Appends (W.contents output.old.inner) (W.contents output.new.inner)) (result == 0)) }
+        (Appends (W.contents output.old.inner) (W.contents output.new.inner))
+        (Appends (E.contents errors.old) (E.contents errors.new)) (result == 0)) }
     ensures usage { result ≡ 2 → HasWords arguments AskForNone }
     ensures untouched { result ≡ 2 → (input.new ≡ input.old) × (output.new ≡ output.old) }
     ensures not_taken { IfErr arguments (λ _.
@@ -39,9 +40,9 @@ pub fn start<A: Allocator + Copy, R: Read, W: Write, E: Write>(
     ensures statuses { result ≤ 3 }
 
     // The devices.
-    ensures silent { result ≤ 1 → errors.new ≡ errors.old }
+    ensures silent { result ≡ 0 → errors.new ≡ errors.old }
     ensures ended { result ≤ 1 → HasWords arguments (λ words.
-        IsAskedFor words Command.Judge → input.new.ended ≡ true) }
+        AskToJudge words → input.new.ended ≡ true) }
     ensures read_failed { input.old.failed ≡ false → input.new.failed ≡ true → result ≡ 3 }
     ensures write_failed { output.old.failed ≡ false → output.new.failed ≡ true → result ≡ 3 }
 {

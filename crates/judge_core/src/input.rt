@@ -8,7 +8,7 @@ use crate::error::Failure;
 use program_io::Watched;
 use std::io::Read;
 
-/// Reads into the room, once, and answers how many bytes there were: none only at the end.
+/// Reads into the room, once, and returns how many bytes there were: none only at the end.
 ///
 /// The error is `ReadFailed`.
 pub(crate) fn read_piece<R: Read>(input: &mut Watched<R>, room: &mut [u8]) -> Result<usize, Failure>

@@ -1,37 +1,42 @@
-//! The library of the program `judge`, which says of any text what it is as a value of any type
-//! that has a byte form: how many items and how many bytes left, or the first fault.
+//! The library of the program `judge`, which says of any input which value of any type with a
+//! canonical encoding it begins with: how many items and how many bytes left, or the first fault.
 //!
 //! Everything that the program does is generic over the allocator, the reader and the writers, so
-//! that each refused request for memory and each failing device can be tried. The program itself
-//! only hands in the real ones.
+//! that each allocation failure and each failing device can be tried. The program itself only hands
+//! in the real ones.
 #![tactic(auto)]
 
 mod answer;
 mod command;
 mod error;
+mod front;
 mod help;
 mod host;
 mod input;
 mod lines;
+mod notes;
+mod reply;
 mod report;
+mod room;
 mod runs;
 mod sessions;
 mod stream;
 
-pub use answer::{Answer, answer_to, write_answer};
+pub use answer::{Answer, answer_to};
 pub use command::{Command, parse_args};
 pub use error::Failure;
 pub use help::{say_help, say_version};
 pub use host::{on_host, start};
 pub use judge_questions::{
-    Collection, FORMS, Form, Limit, Limits, Question, SetForm, Task, Unreadable, VERBS, Verb,
-    read_form, read_limit, read_model, read_question, read_size, read_task, read_text, read_verb,
+    Bytes, Collection, FORMS, Form, Limit, Limits, Question, SetForm, Task, Unreadable, VERBS,
+    Verb, read_form, read_limit, read_model, read_question, read_size, read_task, read_text,
+    read_verb,
 };
 pub use judge_verdicts::{
     CountItems, FaultNumbers, Found, Misread, NoConflict, NotBuilt, Refutation, Verdict, build,
     conflict_of, fault_numbers, judge, judge_as, position, refute,
 };
-pub use report::tell;
+pub use reply::{Reply, reply_to};
 pub use runs::run;
 pub use sessions::session;
 pub use stream::{answer_all, say_types};

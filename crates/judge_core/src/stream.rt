@@ -1,40 +1,57 @@
 //! All lines of a reader, and their answers to a writer.
-ghost use Rattle.std.specs.Prelude.{◌≡◌, ◌≢◌, ◌↔◌, [], ◌∷◌, ℕ, List, string_bytes, Err, IfErr, IfOk, OnOk, true, false};
+ghost use Rattle.std.specs.Prelude.{◌≡◌, ◌≢◌, ◌↔◌, [], ◌∷◌, ℕ, List, Err, IfErr, IfOk, OnErr, OnOk, true, false};
 ghost use Rattle.std.specs.Io.KnownBytes.{Appends};
 ghost use Rattle.program_io.specs.Streams.{Gave};
 ghost use Rattle.judge_questions.specs.Forms.{types_text};
-ghost use Rattle.judge_core.specs.Answered.{AreAnswered, Continues, HasNoFeed};
-ghost use Rattle.judge_core.specs.Session.{IsAllAnswered, IsBeginningAnswered};
+ghost use Rattle.judge_core.specs.Answered.{AreAnswered, asked_from};
+ghost use Rattle.judge_core.specs.Memory.{AreMemoryFree};
+ghost use Rattle.judge_core.specs.Said.{Says};
+ghost use Rattle.judge_core.specs.Session.{IsAllAnswered, IsBeginningAnswered, IsTooLong, NeedsMemory};
 
 use crate::error::Failure;
+use crate::front::Front;
 use crate::input::read_piece;
 use crate::lines::{answer_line, answer_piece, both};
+use crate::report::{Part, say_parts};
+use crate::room::Room;
 use judge_questions::FORMS;
-use program_io::{Watched, write_whole};
-use std::alloc::{AllocError, Allocator};
+use program_io::{Watched, WriteFailed, write_whole};
+use std::alloc::Allocator;
 use std::io::{Read, Write};
 
-/// How many bytes are asked for at once.
+/// How many bytes are read at once.
 const ROOM: usize = 65536;
 
-/// Answers all lines that the reader gives, up to its end, and says whether all answers are
-/// verdicts.
+/// The most pieces that are read, since each loop has an end. No reader comes near it: with a piece
+/// each nanosecond that takes 584 years.
+const PIECES: u64 = u64::MAX;
+
+/// Answers all lines that the reader gives, up to its end, and returns whether all answers are
+/// verdicts. `numbered`: each answer begins with the number of its line, the first of which is 1.
 ///
 /// Before each read, the answers to all lines that came whole have been written and flushed, so
-/// whoever sends a line and waits has its answer. A last line needs no line feed. Memory is asked
-/// for the line that is under way, for the bytes and the value of a question, and for the answers
-/// to a piece of text. No call of a device is tried again.
-pub fn answer_all<A: Allocator + Copy, R: Read, W: Write>(
+/// whoever sends a line and waits has its answer. A last line needs no line feed. Each line that
+/// can't be read is noted on `errors` with its number, and where `errors` fails, nothing else
+/// changes. No call of a device is tried again.
+pub fn answer_all<A: Allocator + Copy, R: Read, W: Write, E: Write>(
     alloc: A,
+    numbered: bool,
     input: &mut Watched<R>,
     output: &mut Watched<W>,
+    errors: &mut E,
 ) -> Result<bool, Failure>
-    ensures done { IfOk result (IsAllAnswered
+    ensures done { IfOk result (IsAllAnswered numbered
         (Gave (R.remaining input.old.inner) (R.remaining input.new.inner))
-        (Appends (W.contents output.old.inner) (W.contents output.new.inner))) }
+        (Appends (W.contents output.old.inner) (W.contents output.new.inner))
+        (Appends (E.contents errors.old) (E.contents errors.new))) }
+    ensures quiet { result ≡ Ok true → errors.new ≡ errors.old }
     ensures stopped { IfErr result (λ failure. failure ≢ Failure.WriteFailed
-        → IsBeginningAnswered (R.remaining input.old.inner) (R.remaining input.new.inner)
+        → IsBeginningAnswered numbered (R.remaining input.old.inner) (R.remaining input.new.inner)
         (W.contents output.old.inner) (W.contents output.new.inner)) }
+    ensures memory { result ≡ Err Failure.Memory
+        → NeedsMemory (R.remaining input.old.inner) (R.remaining input.new.inner) }
+    ensures too_long { result ≡ Err Failure.TooLong
+        → IsTooLong (R.remaining input.old.inner) (R.remaining input.new.inner) }
 
     // The devices.
     ensures read_failed { input.old.failed ≡ false
@@ -44,90 +61,84 @@ pub fn answer_all<A: Allocator + Copy, R: Read, W: Write>(
     ensures ended { OnOk result (input.new.ended ≡ true) }
 {
     let mut room = [0u8; ROOM];
-    let mut front = Vec::new(alloc);
+    let mut front = Front::new(alloc);
+    let mut number = 1u128;
     let mut judged = true;
-    'pieces: for _ in 0..u64::MAX {
+    for _piece in 0..PIECES {
         let count = read_piece(input, &mut room)?;
         if count == 0 {
-            let last = say_last(alloc, front.as_slice(), output)?;
+            let last = answer_last(alloc, numbered, number, front.as_slice(), output, errors)?;
             return Ok(both(judged, last));
         }
-        let verdicts = say_piece(alloc, &mut front, &room[..count], output)?;
+        let verdicts = answer_piece(
+            alloc,
+            numbered,
+            &mut front,
+            &mut number,
+            &room[..count],
+            output,
+            errors,
+        )?;
         judged = both(judged, verdicts);
     }
-    Err(Failure::Memory)
-}
-
-/// Writes the answers to the whole lines of a piece of text, of which the front of the first came
-/// before, and flushes.
-fn say_piece<A: Allocator + Copy, W: Write>(
-    alloc: A,
-    front: &mut Vec<u8, A>,
-    piece: &[u8],
-    output: &mut Watched<W>,
-) -> Result<bool, Failure>
-    requires { HasNoFeed front.old.items }
-    ensures unfinished { OnOk result (HasNoFeed front.new.items) }
-    ensures answered { IfOk result (λ judged. (said : List ℕ)
-        × Appends (W.contents output.old.inner) (W.contents output.new.inner) said
-        × Continues front.old.items piece.now front.new.items said judged) }
-    ensures sound { OnOk result (output.new.failed ≡ output.old.failed) }
-
-    // Where it gives up.
-    ensures memory { result ≡ Err Failure.Memory → output.new ≡ output.old }
-    ensures failed { IfErr result (λ e. e ≢ Failure.Memory
-        → (e ≡ Failure.WriteFailed) × (output.new.failed ≡ true)) }
-{
-    let mut said = String::new(alloc);
-    let judged = answer_piece(alloc, front, piece, &mut said)?;
-    write_whole(output, said.as_bytes())?;
-    Ok(judged)
+    Err(Failure::TooLong)
 }
 
 /// Writes the answer to a last line that no line feed ends, and flushes.
-fn say_last<A: Allocator + Copy, W: Write>(
+fn answer_last<A: Allocator + Copy, W: Write, E: Write>(
     alloc: A,
+    numbered: bool,
+    number: u128,
     line: &[u8],
     output: &mut Watched<W>,
+    errors: &mut E,
 ) -> Result<bool, Failure>
-    ensures answered { IfOk result (λ judged. (said : List ℕ)
+    ensures answered { IfOk result (λ judged. (said noted : List ℕ)
         × Appends (W.contents output.old.inner) (W.contents output.new.inner) said
-        × AreAnswered (line.now ∷ []) said judged) }
+        × Appends (E.contents errors.old) (E.contents errors.new) noted
+        × AreAnswered numbered (asked_from number (line.now ∷ [])) said noted judged) }
+    ensures quiet { result ≡ Ok true → errors.new ≡ errors.old }
     ensures sound { OnOk result (output.new.failed ≡ output.old.failed) }
 
     // Where it gives up.
-    ensures memory { result ≡ Err Failure.Memory → output.new ≡ output.old }
+    ensures memory { result ≡ Err Failure.Memory → (output.new ≡ output.old)
+        × ¬ AreMemoryFree (asked_from number (line.now ∷ [])) }
     ensures failed { IfErr result (λ e. e ≢ Failure.Memory
         → (e ≡ Failure.WriteFailed) × (output.new.failed ≡ true)) }
 {
-    let mut said = String::new(alloc);
-    let judged = answer_line(alloc, line, &mut said)?;
-    write_whole(output, said.as_bytes())?;
+    let mut room = Room::new();
+    let judged = answer_line(alloc, numbered, number, line, &mut room, output, errors)?;
+    write_whole(output, room.as_slice())?;
     Ok(judged)
 }
 
 /// Writes the names of the types, each on a line with what its ranges are, and flushes.
-pub fn say_types<A: Allocator, W: Write>(alloc: A, output: &mut Watched<W>) -> Result<(), Failure>
+pub fn say_types<W: Write>(output: &mut Watched<W>) -> Result<(), Failure>
     ensures done { OnOk result
         (Appends (W.contents output.old.inner) (W.contents output.new.inner) types_text) }
-    ensures memory { result ≡ Err Failure.Memory → output.new ≡ output.old }
-    ensures reads { result ≢ Err Failure.ReadFailed }
+    ensures failed { IfErr result (λ failure. failure ≡ Failure.WriteFailed) }
     ensures write_failed { output.old.failed ≡ false
         → ((result ≡ Err Failure.WriteFailed) ↔ (output.new.failed ≡ true)) }
 {
-    let text = names(alloc)?;
-    Ok(write_whole(output, text.as_bytes())?)
+    let mut room = Room::new();
+    say_names(&mut room, output)?;
+    Ok(write_whole(output, room.as_slice())?)
 }
 
-/// The names of the types, each on a line with what its ranges are.
-fn names<A: Allocator>(alloc: A) -> Result<String<A>, AllocError>
-    ensures { IfOk result (λ text. string_bytes text ≡ types_text) }
+/// Says the names of the types, each on a line with what its ranges are.
+fn say_names<W: Write>(room: &mut Room, output: &mut Watched<W>) -> Result<(), WriteFailed>
+    ensures said { OnOk result (Says (W.contents output.old.inner) (W.contents output.new.inner)
+        room.old room.new types_text) }
+    ensures sound { OnOk result (output.new.failed ≡ output.old.failed) }
+    ensures failed { OnErr result (output.new.failed ≡ true) }
 {
-    let mut text = String::new(alloc);
     for form in &FORMS {
-        let name = form.name();
-        let ranges = form.ranges();
-        writeln!(text, "{name}{ranges}")?;
+        let parts = [
+            Part::Text(form.name()),
+            Part::Text(form.ranges()),
+            Part::Text("\n"),
+        ];
+        say_parts(room, output, &parts)?;
     }
-    Ok(text)
+    Ok(())
 }

@@ -1,4 +1,4 @@
-use Rattle.std.proofs.Common.{◌≡◌, ℕ, List, [], ◌∷◌, None, Option, Some, rules}
+use Rattle.std.proofs.Common.{◌≡◌, ℕ, List, [], ◌∷◌, None, Option, Some, true, false, rules}
 use Rattle.std.specs.Prelude.{IfNone}
 use Rattle.std.specs.String.{string_bytes}
 use Rattle.program_io.proofs.OneWord.{one_word}
@@ -9,7 +9,8 @@ use Rattle.judge_core.proofs.command.parse_args.Goals as goal
 
 -- one word that asks for no command is words that do
 asks_for_none : (words : List (List ℕ)) (word : List ℕ) → words ≡ word ∷ [] → ((command : Command) → ¬ AsksFor word command) → (command : Command) → ¬ IsAskedFor words command
-asks_for_none words word is none Judge e = absurd (cc)
+asks_for_none words word is none (Judge true) e = none (Judge true) (cc)
+asks_for_none words word is none (Judge false) e = absurd (cc)
 asks_for_none words word is none Types e = none Types (cc)
 asks_for_none words word is none Help e = none Help (cc)
 asks_for_none words word is none Version e = none Version (cc)

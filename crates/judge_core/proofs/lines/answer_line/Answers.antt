@@ -1,14 +1,26 @@
-use Rattle.std.proofs.Common.{◌≡◌, ◌++◌, [], ◌∷◌, ℕ, Bool, List, true, sym, ◌∙◌}
-use Rattle.std.specs.Prelude.{Err, IfOk, Ok, Result}
-use Rattle.judge_core.specs.Answered.{AreAnswered, IsTold, is_asked}
-use Rattle.judge_core.proofs.Answering.{asks, one_answered}
+use Rattle.std.proofs.Common.{◌≡◌, [], ◌∷◌, true, false, subst, sym, ◌∙◌}
+use Rattle.std.proofs.KnownBytes.{Appends-nil}
+use Rattle.judge_core.specs.Answered.{AreAnswered, asked_from, is_asked, said_of}
+use Rattle.judge_core.specs.Replies.{told_of}
+use Rattle.judge_core.proofs.Answering.{one_answered, silent_answered}
+use Rattle.judge_core.proofs.Saying.{says_nothing}
 use Rattle.judge_core.proofs.lines.answer_line.Goals as goal
 
--- what is told of a line that asks is the answer to it
-told_answers : {E : Type 0} (line old new : List ℕ) (judged : Result Bool E) → is_asked line ≡ true → IfOk judged (λ j. (more : List ℕ) × (new ≡ old ++ more) × IsTold line (record { text = more; judged = j }))
-    → IfOk judged (λ j. (more : List ℕ) × (new ≡ old ++ more) × AreAnswered (line ∷ []) more j)
-told_answers line old new (Ok j) asked (more, is, right) = (more, is, one_answered line (record { text = more; judged = j }) asked right)
-told_answers line old new (Err e) asked h = tt
+pub returns-clause-answered : goal.returns-clause-answered
+returns-clause-answered g c =
+    let silent : is_asked c.args.line.now ≡ false = sym c.asks.ensures ∙ c.if-asks.false in
+    ([], [], says_nothing _ _, Appends-nil _, silent_answered c.args.numbered c.args.number c.args.line.now silent)
 
-pub returns : goal.returns
-returns g c = told_answers c.args.line.now _ _ c.tell.result (asks c.args.line.now (sym c.is_empty.ensures ∙ c.if-is_empty.false) c.if-line-eq35.false) c.tell.ensures
+pub returns-then-asks-clause-answered : goal.returns-then-asks-clause-answered
+returns-then-asks-clause-answered g c =
+    let (noted, back, note, appended) = c.note_line.ensures.noted in
+    let n = c.args.number in
+    let line = c.args.line.now in
+    let told = told_of {A = g.row.A.Denot} c.in_ok-reply.reply in
+    let asked : is_asked line ≡ true = sym c.asks.ensures ∙ c.if-asks.true in (
+      said_of c.args.numbered (n, told),
+      noted,
+      c.in_ok-say_line.ensures.said,
+      appended,
+      subst (AreAnswered c.args.numbered (asked_from n (line ∷ [])) (said_of c.args.numbered (n, told)) noted) (sym c.is_verdict.ensures) (one_answered c.args.numbered n line told noted back asked c.in_ok-reply.ensures.told note),
+    )

@@ -1,0 +1,82 @@
+-- The reply to each task is told by its verdict; and where an allocation fails, a line that asks for the task isn't
+-- memory-free.
+use Rattle.std.proofs.Common.{ℕ, List, Option, Some, None, refl, subst}
+use Rattle.std.specs.Prelude.{IfNone, IfSome}
+use Rattle.judge_questions.specs.Tasks.{IsTask}
+use Rattle.judge_verdicts.specs.Builds.{MayFailToAllocateToBuild}
+use Rattle.judge_verdicts.specs.Collections.{IsBuilt, IsFoundIn, MayFailToAllocateToFindIn, lists_of}
+use Rattle.judge_verdicts.specs.Conflicts.{IsConflict}
+use Rattle.judge_verdicts.specs.Whole.{items_of}
+use Rattle.judge_verdicts.specs.declared.numbers.Refutation.{Refutation}
+use Rattle.judge_verdicts.proofs.Results.{on_error}
+use Rattle.judge_core.specs.Answered.{built, counted, found, named, refuted}
+use Rattle.judge_core.specs.Memory.{IsLineMemoryFree}
+use Rattle.judge_core.specs.Replies.{reply_text}
+use Rattle.judge_core.specs.Tasks.{IsRefuted}
+use Rattle.judge_core.proofs.Asked.{asked_build, asked_conflict, asked_faults, asked_position, asked_refute}
+use Rattle.judge_core.proofs.reply.reply_to_task.Goals as goal
+
+-- both cases of a refutation
+either_way : (k n f : ℕ) (why : Option Refutation) → IfSome why (λ r. IsRefuted k n f (Some r)) → IfNone why (IsRefuted k n f None) → IsRefuted k n f why
+either_way k n f (Some r) some none = some
+either_way k n f None some none = none
+
+pub returns-in_ok-build-in-Build-clause-told : goal.returns-in_ok-build-in-Build-clause-told
+unfolding reply_text
+returns-in_ok-build-in-Build-clause-told g c =
+    let b = c.in-Build in
+    let made = items_of c.in_ok-build-in-Build.field-0 in
+    let right = subst (λ t. IsBuilt b.collection b.unique t made) c.as_slice.ensures c.in_ok-build-in-Build.ensures.built in
+    λ line task. built b.unique b.collection b.text made (asked_build {A = g.row.A.Denot} line b.collection b.unique b.text (subst (IsTask line) b.is task)) right refl refl
+
+pub returns-in_ok-position-in-Position-clause-told : goal.returns-in_ok-position-in-Position-clause-told
+unfolding reply_text
+returns-in_ok-position-in-Position-clause-told g c =
+    let p = c.in-Position in
+    let place = c.in_ok-position-in-Position.field-0 in
+    let half = subst (λ t. IsFoundIn p.set t c.as_slice-in-Position-2.result.now place) c.as_slice-in-Position.ensures c.in_ok-position-in-Position.ensures.found in
+    let right = subst (λ t. IsFoundIn p.set p.text t place) c.as_slice-in-Position-2.ensures half in
+    λ line task. found p.set p.text p.item place (asked_position {A = g.row.A.Denot} line p.set p.text p.item (subst (IsTask line) p.is task)) right refl refl
+
+pub returns-in-Faults-clause-told : goal.returns-in-Faults-clause-told
+unfolding reply_text
+returns-in-Faults-clause-told g c =
+    let f = c.in-Faults in
+    λ line task. counted f.k f.n c.fault_numbers.result (asked_faults {A = g.row.A.Denot} line f.k f.n (subst (IsTask line) f.is task)) c.fault_numbers.ensures refl refl
+
+pub returns-in-Refute-clause-told : goal.returns-in-Refute-clause-told
+unfolding reply_text
+returns-in-Refute-clause-told g c =
+    let r = c.in-Refute in
+    let right = either_way r.k r.n r.f c.refute.result c.refute.ensures.refuted c.refute.ensures.tolerated in
+    λ line task. refuted r.k r.n r.f c.refute.result (asked_refute {A = g.row.A.Denot} line r.k r.n r.f (subst (IsTask line) r.is task)) right refl refl
+
+pub returns-in_ok-conflict_of-in-Conflict-clause-told : goal.returns-in_ok-conflict_of-in-Conflict-clause-told
+unfolding reply_text
+returns-in_ok-conflict_of-in-Conflict-clause-told g c =
+    let f = c.in-Conflict in
+    let members = items_of c.in_ok-conflict_of-in-Conflict.field-0 in
+    let half = subst (λ t. IsConflict f.k f.n t c.as_slice-in-Conflict-2.result.now members) c.as_slice-in-Conflict.ensures c.in_ok-conflict_of-in-Conflict.ensures in
+    let right = subst (λ t. IsConflict f.k f.n f.first t members) c.as_slice-in-Conflict-2.ensures half in
+    λ line task. named f.k f.n f.first f.second members (asked_conflict {A = g.row.A.Denot} line f.k f.n f.first f.second (subst (IsTask line) f.is task)) right refl refl
+
+pub returns-in_err-build-in-Build-clause-memory : goal.returns-in_err-build-in-Build-clause-memory
+returns-in_err-build-in-Build-clause-memory g c =
+    let b = c.in-Build in
+    let may = subst (λ t. MayFailToAllocateToBuild (lists_of b.collection) t) c.as_slice.ensures c.in_err-build-in-Build.ensures.memory in
+    on_error ((line : List ℕ) → IsTask line c.args.task.now → ¬ IsLineMemoryFree line) c.from_residual.result
+    (λ line task free. free.builds b.unique b.collection b.text (asked_build {A = g.row.A.Denot} line b.collection b.unique b.text (subst (IsTask line) b.is task)) may)
+
+pub returns-in_err-position-in-Position-clause-memory : goal.returns-in_err-position-in-Position-clause-memory
+returns-in_err-position-in-Position-clause-memory g c =
+    let p = c.in-Position in
+    let half = subst (λ t. MayFailToAllocateToFindIn p.set t c.as_slice-in-Position-2.result.now) c.as_slice-in-Position.ensures c.in_err-position-in-Position.ensures.memory in
+    let may = subst (λ t. MayFailToAllocateToFindIn p.set p.text t) c.as_slice-in-Position-2.ensures half in
+    on_error ((line : List ℕ) → IsTask line c.args.task.now → ¬ IsLineMemoryFree line) c.from_residual-in_err-position-in-Position.result
+    (λ line task free. free.positions p.set p.text p.item (asked_position {A = g.row.A.Denot} line p.set p.text p.item (subst (IsTask line) p.is task)) may)
+
+pub returns-in_err-conflict_of-in-Conflict-clause-memory : goal.returns-in_err-conflict_of-in-Conflict-clause-memory
+returns-in_err-conflict_of-in-Conflict-clause-memory g c =
+    let f = c.in-Conflict in
+    on_error ((line : List ℕ) → IsTask line c.args.task.now → ¬ IsLineMemoryFree line) c.from_residual-in_err-conflict_of-in-Conflict.result
+    (λ line task free. free.conflicts f.k f.n f.first f.second (asked_conflict {A = g.row.A.Denot} line f.k f.n f.first f.second (subst (IsTask line) f.is task)))
