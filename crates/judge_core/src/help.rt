@@ -27,7 +27,7 @@ conflict MODEL N BYTES BYTES  who of N members signed both certificates
 ";
 
 /// What `--version` says.
-const VERSION: &str = "judge 0.1.0\n";
+const VERSION: &str = "judge 1.0.0\n";
 
 /// Writes what words and what lines the program takes, and flushes.
 pub fn say_help<W: Write>(output: &mut Watched<W>) -> Result<(), Failure>
