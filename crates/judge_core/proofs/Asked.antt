@@ -8,12 +8,6 @@ use Rattle.judge_questions.specs.declared.task.Task.TheVariants as tasks
 use Rattle.judge_questions.specs.declared.verb.Verb.TheVariants.{Build, BuildUnique, Position, Faults, Refute, Conflict}
 use Rattle.judge_core.specs.Answered.{AsksBy}
 
--- a model has a resilience of at least 2
-pub model_resilience : (word : List ℕ) (k : ℕ) → IsModel word k → 2 ≤ k
-model_resilience word k (inl h) = omega (arith, h.1)
-model_resilience word k (inr (inl h)) = omega (arith, h.1)
-model_resilience word k (inr (inr (digits, w, n, two, short))) = two
-
 -- words that ask to build, where equal ones count once or none may be equal
 by_unique : (line : List ℕ) (unique chosen : Bool) (c : Collection) (text : List ℕ) → unique ≡ chosen → AsksBy line (build_verb chosen) (λ words. AsksToBuild words c text) → AsksBy line (build_verb unique) (λ words. AsksToBuild words c text)
 by_unique line unique chosen c text is h = subst (λ u. AsksBy line (build_verb u) (λ words. AsksToBuild words c text)) (sym is) h
