@@ -101,12 +101,12 @@ both_answered numbered l m s t u v a b h k = record {
 abbrev feed : ℕ → Bool
 feed b = b == 10
 
--- the parts of a text up to a line feed, and after it
+-- the parts of bytes up to a line feed, and after it
 parts_at : (front rest : List ℕ) → HasNoFeed front → slice_split feed (front ++ 10 ∷ rest) ≡ front ∷ slice_split feed rest
 parts_at [] rest none = refl
 parts_at (b ∷ front) rest none = rw none.0 (ap (onto_first b) (parts_at front rest none.1))
 
--- the only part of a text without one
+-- the only part of bytes without one
 one_part : (text : List ℕ) → HasNoFeed text → slice_split feed text ≡ text ∷ []
 one_part [] none = refl
 one_part (b ∷ text) none = rw none.0 (ap (onto_first b) (one_part text none.1))
@@ -126,7 +126,7 @@ line_then front rest none =
     let (first, more, e) = some_part rest in
     ap lines_of_parts (parts_at front rest none) ∙ ap (λ parts. lines_of_parts (front ∷ parts)) e ∙ ap (λ parts. strip_carriage_return front ∷ lines_of_parts parts) (sym e)
 
--- no line feed in two texts, none in both
+-- no line feed in either, none in both
 pub no_feed-append : (a b : List ℕ) → HasNoFeed a → HasNoFeed b → HasNoFeed (a ++ b)
 no_feed-append [] b h k = k
 no_feed-append (x ∷ a) b h k = (h.0, no_feed-append a b h.1 k)
@@ -138,7 +138,7 @@ before_place [] (suc i) h = tt
 before_place (b ∷ text) zero h = tt
 before_place (b ∷ text) (suc i) h = (h 0 (omega arith), before_place text i (λ k l. h (suc k) (omega arith)))
 
--- the first line feed of a text, and what stands around it
+-- the first line feed of bytes, and what is around it
 pub at_feed : (text : List ℕ) (i : ℕ) → position feed text ≡ Some i → HasNoFeed (take i text) × (text ≡ take i text ++ 10 ∷ drop (i + 1) text)
 at_feed text i e =
     let (inside, is, before) = position-Some feed text i 0 e in
@@ -189,7 +189,7 @@ pub kept_asked : (n : ℕ) (line kept : List ℕ) → IsKept line kept → asked
 kept_asked n line kept (inl same) = ap (λ l. asked_from n (strip_carriage_return l ∷ [])) (sym same)
 kept_asked n line kept (inr (one, other)) = none_asked n (strip_carriage_return line) [] (silent_comment line one) ∙ sym (none_asked n (strip_carriage_return kept) [] (silent_comment kept other))
 
--- the numbered lines of a comment that goes on with more text: those after it
+-- the numbered lines of a comment that goes on with more bytes: those after it
 abbrev after_comment : ℕ → List ℕ → List Line
 after_comment n rest = elim (position feed rest) [ Some i ↦ asked_from (n + 1) (lines (drop (i + 1) rest)) | None ↦ [] ]
 
@@ -249,12 +249,12 @@ pub last_asked : (n : ℕ) (back : List ℕ) → HasNoFeed back → asked_from n
 last_asked n [] none = refl
 last_asked n (b ∷ back) none = ap (asked_from n) (sym (one_line b back)) ∙ ap (λ parts. asked_from n (lines_of_parts parts)) (sym (one_part (b ∷ back) none))
 
--- the lines of what came, and of the front of a line that came before
+-- the lines of what came, and of the prefix of a line that came before
 pub all_lines : (numbered : Bool) (n : ℕ) (front text : List ℕ) (m : ℕ) (back s u : List ℕ) (a : Bool) (c : Continues numbered n front text m back s u a) → asked_from n (lines (front ++ text)) ≡ c.0 ++ asked_from m (lines back)
 all_lines numbered n front text m back s u a (done, splits, answered) =
     ap (λ w. asked_from n (lines (front ++ w))) (sym (append-nil text)) ∙ splits [] ∙ ap (λ w. done ++ asked_from m (lines w)) (append-nil back)
 
--- the whole text was answered
+-- the whole input was answered
 pub text_ended : (numbered : Bool) (n : ℕ) (text : List ℕ) (m : ℕ) (back s t u v : List ℕ) (a b : Bool) → Continues numbered n [] text m back s u a → HasNoFeed back → AreAnswered numbered (asked_from m (back ∷ [])) t v b
     → AreAnswered numbered (asked_from n (lines text)) (s ++ t) (u ++ v) (a && b)
 text_ended numbered n text m back s t u v a b (done, splits, answered) none h =

@@ -27,7 +27,7 @@ for_memory ReadFailed B fails memory other = absurd (other (fails (λ e. cc)))
 for_memory TooLong B fails memory other = absurd (other (fails (λ e. cc)))
 for_memory WriteFailed B fails memory other = absurd (other refl)
 
--- what was answered of the text, and what came after it
+-- what was answered of the input, and what came after it
 pub beginning : (numbered : Bool) (in_old in_mid in_new out_old out_new : Option (List ℕ)) (text after : List ℕ) (number : ℕ) (back said noted : List ℕ) (judged : Bool) → Consumes in_old in_mid text → Consumes in_mid in_new after → Appends out_old out_new said
     → Continues numbered 1 [] text number back said noted judged → IsBeginningAnswered numbered in_old in_new out_old out_new
 beginning numbered in_old in_mid in_new out_old out_new text after number back said noted judged given then written answered = record {

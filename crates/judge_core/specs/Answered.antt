@@ -1,4 +1,4 @@
--- The answer to a line, and the text that says it.
+-- The answer to a line, and the bytes that say it.
 use Rattle.std.specs.Prelude.{◌≡◌, ℕ, ◌+◌, List, [], ◌∷◌, ◌++◌, Bool, true, false, ◌==◌, ◌||◌, not, codes}
 use Rattle.std.specs.Prelude.{if◌then◌else◌}
 use Rattle.std.specs.Prelude.{Option, Result, length, slice_index}
@@ -32,7 +32,7 @@ use Rattle.judge_verdicts.specs.declared.verdict.Verdict.TheVariants.{Accepted, 
 use Rattle.judge_core.specs.Faults.{error_text}
 use Rattle.judge_core.specs.Tasks.{IsRefuted, built_line, conflict_line, found_line, numbers_line, refuted_line}
 
--- the answer is right: the line asks a question and the verdict on its text is right, or what is named of it can't be
+-- the answer is right: the line asks a question and the verdict on its input is right, or what is named of it can't be
 -- read
 abbrev pub IsAnswer : List ℕ → Answer → Type 0
 IsAnswer line (Judged verdict) =
@@ -130,7 +130,7 @@ pub record AreAnswered (numbered : Bool) (asked : List (ℕ × List ℕ)) (said 
   pub notes : AreNoted answers noted
   pub verdicts : judged ≡ list_all (λ (told : ℕ × Told). told.1.judged) answers
 
--- After the prefix of a line, of number n, came more of the text; its whole lines were answered, and the prefix of a
+-- After the prefix of a line, of number n, came more of the input; its whole lines were answered, and the prefix of a
 -- line, of number m, is left.
 abbrev pub Continues : Bool → ℕ → List ℕ → List ℕ → ℕ → List ℕ → List ℕ → List ℕ → Bool → Type 0
 Continues numbered n front more m back said noted judged =
@@ -138,6 +138,6 @@ Continues numbered n front more m back said noted judged =
     × ((rest : List ℕ) → asked_from n (lines (front ++ (more ++ rest))) ≡ done ++ asked_from m (lines (back ++ rest)))
     × AreAnswered numbered done said noted judged
 
--- no line feed is in the text
+-- no line feed is in the bytes
 abbrev pub HasNoFeed : List ℕ → Type 0
 HasNoFeed = AllByRecursion (λ b. (b == 10) ≡ false)

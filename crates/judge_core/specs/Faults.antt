@@ -1,4 +1,4 @@
--- The texts of first faults.
+-- The names of first faults.
 use Rattle.std.specs.Prelude.{List, ◌++◌, ℕ, codes}
 use Rattle.std.specs.Fmt.{decimal}
 use Rattle.commonware_utils.specs.CodecError.{Error, EndOfBuffer, Invalid, InvalidLength, InvalidVarint, Memory}

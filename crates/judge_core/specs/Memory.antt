@@ -38,6 +38,6 @@ abbrev pub AreMemoryFree : List (ℕ × List ℕ) → Type 0
 AreMemoryFree =
     AllByRecursion (λ (asked : ℕ × List ℕ). (length asked.1 < 4096) × IsLineMemoryFree asked.1)
 
--- so is each line of the text that asks for an answer
+-- so is each line of the input that asks for an answer
 abbrev pub IsTextMemoryFree : List ℕ → Type 0
 IsTextMemoryFree text = AreMemoryFree (asked_from 1 (lines text))

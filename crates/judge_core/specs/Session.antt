@@ -1,4 +1,4 @@
--- What a run makes of the text that its reader gave.
+-- What a run makes of the input that its reader gave.
 use Rattle.std.specs.Prelude.{◌≡◌, ◌-◌, ◌^◌, ◌≤◌, ℕ, List, [], ◌++◌, Bool, true, Option, length}
 use Rattle.std.specs.Io.KnownBytes.{Appends, Consumes}
 use Rattle.std.specs.Str.Lines.{lines}
@@ -9,7 +9,7 @@ use Rattle.judge_core.specs.Memory.{IsTextMemoryFree}
 use Rattle.judge_core.specs.declared.command.Command.{Command}
 use Rattle.judge_core.specs.declared.command.Command.TheVariants.{Judge, Types, Help, Version}
 
--- The whole text that was given was answered in what was written, and the lines that can't be read were noted; judged
+-- The whole input was answered in what was written, and the lines that can't be read were noted; judged
 -- tells whether all answers are verdicts.
 abbrev pub IsAllAnswered : Bool → (List ℕ → Type 0) → (List ℕ → Type 0) → (List ℕ → Type 0) → Bool → Type 0
 IsAllAnswered numbered Given Written Noted judged =
@@ -17,7 +17,7 @@ IsAllAnswered numbered Given Written Noted judged =
     × AreAnswered numbered (asked_from 1 (lines text)) said noted judged
 
 -- Where a run stops early and its writer has not failed: what it wrote are the answers to the whole lines of a prefix
--- of the text that the reader gave, and no answer was written to what came after that prefix.
+-- of the input, and no answer was written to what came after that prefix.
 pub record IsBeginningAnswered (numbered : Bool) (in_old in_new out_old out_new : Option (List ℕ)) : Type 0 where
   pub text : List ℕ
   pub after : List ℕ
@@ -30,7 +30,7 @@ pub record IsBeginningAnswered (numbered : Bool) (in_old in_new out_old out_new 
   pub written : Appends out_old out_new said
   pub answered : Continues numbered 1 [] text number back said noted judged
 
--- the reader gave a text of which some line can't be answered without an allocation
+-- the reader gave an input of which some line can't be answered without an allocation
 abbrev pub NeedsMemory : Option (List ℕ) → Option (List ℕ) → Type 0
 NeedsMemory in_old in_new = (text : List ℕ) × Consumes in_old in_new text × (¬ IsTextMemoryFree text)
 
@@ -38,7 +38,7 @@ NeedsMemory in_old in_new = (text : List ℕ) × Consumes in_old in_new text × 
 abbrev pub IsTooLong : Option (List ℕ) → Option (List ℕ) → Type 0
 IsTooLong in_old in_new = (text : List ℕ) × Consumes in_old in_new text × (2 ^ 64 - 1 ≤ length text)
 
--- what the command asks for is done, where Given holds of the text that the reader gave, Written of what was written,
+-- what the command asks for is done, where Given holds of the input that the reader gave, Written of what was written,
 -- and Noted of what was noted
 abbrev pub IsDone : Command → (List ℕ → Type 0) → (List ℕ → Type 0) → (List ℕ → Type 0) → Bool → Type 0
 IsDone (Judge numbered) Given Written Noted judged = IsAllAnswered numbered Given Written Noted judged

@@ -26,7 +26,7 @@ hex_digits b = digit_char (b / 16) ∷ digit_char (b % 16) ∷ []
 abbrev pub hex_text : List ℕ → List ℕ
 hex_text bytes = flat_map hex_digits bytes
 
--- the line that says why a text is not the whole of one value
+-- the line that says why an input is not the encoding of one value
 unfoldable pub misread_line : Misread → List ℕ
 misread_line (Fault error) = error_text error ++ (10 ∷ [])
 misread_line (LeftOver left) = codes "LeftOver " ++ (decimal left ++ (10 ∷ []))
@@ -38,7 +38,7 @@ built_line (Err builts.DuplicateKey) = codes "DuplicateKey" ++ (10 ∷ [])
 built_line (Err builts.DuplicateValue) = codes "DuplicateValue" ++ (10 ∷ [])
 built_line (Err (builts.Unread what)) = misread_line what
 
--- the line that says where an item stands
+-- the line that says the position of an item
 unfoldable pub found_line : Found → List ℕ
 found_line (places.At place) = codes "position " ++ (decimal place ++ (10 ∷ []))
 found_line places.Nowhere = codes "none" ++ (10 ∷ [])
@@ -75,7 +75,7 @@ conflict_line (Err conflicts.Outside) = codes "Outside" ++ (10 ∷ [])
 conflict_line (Err conflicts.TooFew) = codes "TooFew" ++ (10 ∷ [])
 conflict_line (Err (conflicts.Unread what)) = misread_line what
 
--- so many faults are refuted; or they are tolerated, so any two subsets of n - f share (k - 2)f + 1
+-- f faults are refuted; or they are tolerated, so any two subsets of n - f share (k - 2)f + 1
 abbrev pub IsRefuted : ℕ → ℕ → ℕ → Option Refutation → Type 0
 IsRefuted k n f (Some r) = IsRefutation k n f r
 IsRefuted k n f None = Overlap n (n - f) (n - f) ((k - 2) * f + 1)

@@ -1,4 +1,4 @@
-//! The lines of a text that comes in pieces.
+//! The lines of an input that comes in pieces.
 ghost use Rattle.std.specs.Prelude.{◌≡◌, ◌≢◌, ◌&&◌, ◌↔◌, ◌+◌, ◌^◌, ◌<◌, ◌≤◌, ◌++◌, ◌∷◌, [], ℕ, List, length, true, Err};
 ghost use Rattle.std.specs.Prelude.{IfErr, IfOk, IsTrue, OnErr, OnOk};
 ghost use Rattle.std.specs.Io.KnownBytes.{Appends};
@@ -21,8 +21,8 @@ use program_io::{Watched, WriteFailed, write_whole};
 use std::alloc::{AllocError, Allocator};
 use std::io::Write;
 
-/// Answers the whole lines of a piece of text, of which the front of the first came before, and
-/// keeps the front of the line that the piece doesn't end. The answers are written, and flushed.
+/// Answers the whole lines of a piece of the input, where a prefix of the first came before, and
+/// keeps the prefix of the line that the piece doesn't end. The answers are written, and flushed.
 /// Returns whether all of them are verdicts.
 ///
 /// `number` is that of the first line, and then of the one that is left. Where an allocation fails,

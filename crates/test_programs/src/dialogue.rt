@@ -17,6 +17,18 @@ struct Dialogue {
     late: Cell<bool>,
 }
 
+impl Dialogue {
+    /// Nothing yet.
+    fn new() -> Dialogue {
+        Dialogue {
+            asked: Cell::new(0),
+            written: Cell::new(0),
+            flushed: Cell::new(0),
+            late: Cell::new(false),
+        }
+    }
+}
+
 /// How many line feeds there are.
 fn feeds(bytes: &[u8]) -> usize {
     bytes.iter().filter(|byte| **byte == b'\n').count()
@@ -80,12 +92,8 @@ impl<'a> Write for Hearing<'a> {
 
 #[test]
 fn a_line_is_answered_before_the_next_is_read(rt: HostRuntime) {
-    let dialogue = Dialogue {
-        asked: Cell::new(0),
-        written: Cell::new(0),
-        flushed: Cell::new(0),
-        late: Cell::new(false),
-    };
+    let dialogue = Dialogue::new();
+    let notes = Dialogue::new();
     let pieces = [
         "u8 07\n",
         "u8 0",
@@ -103,11 +111,10 @@ fn a_line_is_answered_before_the_next_is_read(rt: HostRuntime) {
     let mut output = Watched::new(Hearing {
         dialogue: &dialogue,
     });
-    let mut errors = Hearing {
-        dialogue: &dialogue,
-    };
+    let mut errors = Hearing { dialogue: &notes };
     let status = session(rt.alloc(), &words, &mut input, &mut output, &mut errors);
     assert!(rt; status == 1);
     assert!(rt; !dialogue.late.get());
     assert!(rt; (dialogue.asked.get(), dialogue.flushed.get()) == (6, 6));
+    assert!(rt; notes.written.get() == 1);
 }

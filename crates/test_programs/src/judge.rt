@@ -1,13 +1,14 @@
 //! Sessions of the judge over scripted devices.
 
+use crate::session_trial::words_of;
 use judge_core::session;
 use program_io::Watched;
 use std::alloc::{AllocError, Global};
 use std::io::ErrorKind;
 use test_equipment::{ReadFault, Refusing, ScriptedReader, ScriptedWriter, WriteFault};
 
-/// More than any text of these tests has bytes.
-const WHOLE: usize = 2_000_000;
+/// More than any input of these tests has bytes.
+pub const WHOLE: usize = 2_000_000;
 
 /// More requests than any session of these tests makes.
 const ENOUGH: u64 = 1000;
@@ -18,8 +19,8 @@ const TEXT: &str = "# three\nset<u8> .. 020509ffff\nmap<u8,u8> .. 0201020214\nu8
 /// Their answers.
 const ANSWERS: &str = "accepted 2 2\nEndOfBuffer\naccepted 1 0\n";
 
-/// A line for each verb, and two that can't be read.
-const TASKS: &str = "build set<u8> 03020102\nbuild-unique set<u8> 03020102\n\
+/// A comment, a line for each verb, and two that can't be read.
+const TASKS: &str = "# verbs\nbuild set<u8> 03020102\nbuild-unique set<u8> 03020102\n\
 position set<u8> 0205c8 c8\nfaults n5f1 11\nrefute k=7 20 3\nrefute k=7 22 3\n\
 conflict n3f1 4 01aa03000102 01bb03010203\nfaults n4f1 7\nbuild u8 00\n";
 
@@ -28,49 +29,66 @@ const TASK_ANSWERS: &str = "built 020102\nDuplicateKey\nposition 1\nfaults 2 quo
 first 0..17 second 3..20 shared 14 needed 16\ntolerated\nmembers 020102\nunreadable model\n\
 unreadable type\n";
 
+/// The same after the number of each line.
+const NUMBERED_ANSWERS: &str = "2: built 020102\n3: DuplicateKey\n4: position 1\n\
+5: faults 2 quorum 9 m-quorum 5\n6: first 0..17 second 3..20 shared 14 needed 16\n7: tolerated\n\
+8: members 020102\n9: unreadable model\n10: unreadable type\n";
+
+/// What is noted of them.
+const NOTES: &str = "line 9: unreadable model\nline 10: unreadable type\n";
+
+/// What a session says that an allocation failure has stopped.
+const NO_MEMORY: &[u8] = b"failed: out of memory\n";
+
 /// A session.
 #[derive(Clone, Copy)]
-struct Session<'a> {
-    text: &'a [u8],
+pub struct Session<'a> {
+    pub words: &'a [&'a str],
+    pub text: &'a [u8],
     /// How many bytes the reader gives a call.
-    step: usize,
+    pub step: usize,
     read_fault: Option<(u32, ReadFault)>,
     /// How many bytes the writer takes a call.
     room: usize,
     write_fault: Option<(u32, WriteFault)>,
     flush_failure: Option<ErrorKind>,
-    /// How many requests for memory are granted before one is refused.
-    granted: u64,
+    /// The call at which standard error goes wrong, and how.
+    error_fault: Option<(u32, WriteFault)>,
+    /// How many allocations succeed before one fails.
+    pub granted: u64,
 }
 
-/// The session that answers the lines of a text, with devices that never fail.
-fn of(text: &[u8], step: usize) -> Session<'_> {
+/// The session that answers the lines of an input, with devices that never fail.
+pub fn of(text: &[u8], step: usize) -> Session<'_> {
     Session {
+        words: &[],
         text,
         step,
         read_fault: None,
         room: WHOLE,
         write_fault: None,
         flush_failure: None,
+        error_fault: None,
         granted: u64::MAX,
     }
 }
 
-/// What a session came to.
+/// What became of a session.
 #[derive(Drop)]
-struct Outcome {
-    status: u8,
-    written: Vec<u8>,
-    said: Vec<u8>,
+pub struct Outcome {
+    pub status: u8,
+    pub written: Vec<u8>,
+    pub said: Vec<u8>,
     reads: u32,
     flushes: u32,
-    refused: bool,
+    /// Whether an allocation failed.
+    pub refused: bool,
 }
 
 /// Holds a session.
-fn held(alloc: Global, wanted: &Session<'_>) -> Result<Outcome, AllocError> {
+pub fn held(alloc: Global, wanted: &Session<'_>) -> Result<Outcome, AllocError> {
     let heap = Refusing::after(alloc, u64::MAX);
-    let words = Vec::new(&heap);
+    let words = words_of(&heap, wanted.words)?;
     let mut reader = ScriptedReader::new(wanted.text, wanted.step);
     if let Some((at, way)) = wanted.read_fault {
         reader = reader.with_fault(at, way);
@@ -85,6 +103,9 @@ fn held(alloc: Global, wanted: &Session<'_>) -> Result<Outcome, AllocError> {
     let mut input = Watched::new(reader);
     let mut output = Watched::new(writer);
     let mut errors = ScriptedWriter::new(alloc, WHOLE);
+    if let Some((at, fault)) = wanted.error_fault {
+        errors = errors.with_fault(at, fault);
+    }
     heap.restart(wanted.granted);
     let status = session(&heap, &words, &mut input, &mut output, &mut errors);
     let refused = heap.has_refused();
@@ -100,7 +121,7 @@ fn held(alloc: Global, wanted: &Session<'_>) -> Result<Outcome, AllocError> {
 }
 
 /// Whether the session ends with status 3 and this line on standard error, and has written a
-/// beginning of the answers.
+/// prefix of the answers.
 fn stops(alloc: Global, wanted: &Session<'_>, line: &str) -> Result<bool, AllocError> {
     let outcome = held(alloc, wanted)?;
     Ok(
@@ -120,9 +141,31 @@ fn each_piece_is_answered_before_the_next(rt: HostRuntime) {
 #[test]
 fn each_verb_has_its_answer(rt: HostRuntime) {
     for step in [WHOLE, 1, 7] {
-        let outcome = held(rt.alloc(), &of(TASKS.as_bytes(), step)).expect(&rt, "memory");
+        let mut wanted = of(TASKS.as_bytes(), step);
+        for (words, answers) in [
+            ([].as_slice(), TASK_ANSWERS),
+            (&["--number"], NUMBERED_ANSWERS),
+        ] {
+            wanted.words = words;
+            let outcome = held(rt.alloc(), &wanted).expect(&rt, "memory");
+            assert!(rt; outcome.status == 1);
+            assert!(rt; outcome.written.as_slice() == answers.as_bytes());
+            assert!(rt; outcome.said.as_slice() == NOTES.as_bytes());
+        }
+    }
+}
+
+/// Each note in turn goes wrong: it is left, the next is written, and nothing else changes.
+#[test]
+fn a_failing_standard_error_changes_no_answer(rt: HostRuntime) {
+    let second = &NOTES.as_bytes()[25..];
+    for (at, said) in [(0, second), (1, &NOTES.as_bytes()[..25])] {
+        let mut wanted = of(TASKS.as_bytes(), 7);
+        wanted.error_fault = Some((at, WriteFault::Fails(ErrorKind::BrokenPipe)));
+        let outcome = held(rt.alloc(), &wanted).expect(&rt, "memory");
         assert!(rt; outcome.status == 1);
         assert!(rt; outcome.written.as_slice() == TASK_ANSWERS.as_bytes());
+        assert!(rt; outcome.said.as_slice() == said);
     }
 }
 
@@ -160,29 +203,37 @@ fn writers_that_fail(rt: HostRuntime) {
     assert!(rt; stops(rt.alloc(), &wanted, "failed: write\n") == Ok(true));
 }
 
-/// Whether a session that is refused each request in turn says so, and has written a beginning of
-/// these answers, until one is refused none and has written them all.
-fn is_refused_each(
+/// Whether what was said is a prefix of the notes, and then that an allocation failed.
+fn is_stop(said: &[u8], notes: &[u8]) -> bool {
+    match said.strip_suffix(NO_MEMORY) {
+        Some(before) => notes.starts_with(before),
+        None => false,
+    }
+}
+
+/// Whether a session, each of whose allocations fails in turn, says so, and has written a prefix of
+/// these answers and noted one of these notes, until none fails and it has written all.
+fn stops_at_each(
     alloc: Global,
-    text: &[u8],
+    session: &Session<'_>,
     answers: &[u8],
+    notes: &[u8],
     status: u8,
 ) -> Result<bool, AllocError> {
     for granted in 0..ENOUGH {
-        let mut wanted = of(text, 10);
+        let mut wanted = *session;
         wanted.granted = granted;
         let outcome = held(alloc, &wanted)?;
         let written = outcome.written.as_slice();
-        // A refusal of more room than is needed changes nothing.
+        let said = outcome.said.as_slice();
+        // A failed allocation of more room than is needed changes nothing.
         if outcome.status == 3 {
-            if !answers.starts_with(written)
-                || outcome.said.as_slice() != b"failed: out of memory\n".as_slice()
-            {
+            if !answers.starts_with(written) || !is_stop(said, notes) {
                 return Ok(false);
             }
             continue;
         }
-        if outcome.status != status || written != answers {
+        if outcome.status != status || written != answers || said != notes {
             return Ok(false);
         }
         if !outcome.refused {
@@ -193,10 +244,17 @@ fn is_refused_each(
 }
 
 #[test]
-fn memory_that_is_refused(rt: HostRuntime) {
-    let alloc = rt.alloc();
-    let readings = is_refused_each(alloc, TEXT.as_bytes(), ANSWERS.as_bytes(), 0);
-    assert!(rt; readings == Ok(true));
-    let tasks = is_refused_each(alloc, TASKS.as_bytes(), TASK_ANSWERS.as_bytes(), 1);
-    assert!(rt; tasks == Ok(true));
+fn each_allocation_fails_in_turn(rt: HostRuntime) {
+    let readings = of(TEXT.as_bytes(), 10);
+    let right = stops_at_each(rt.alloc(), &readings, ANSWERS.as_bytes(), b"", 0);
+    assert!(rt; right == Ok(true));
+    let mut tasks = of(TASKS.as_bytes(), 10);
+    for (words, answers) in [
+        ([].as_slice(), TASK_ANSWERS),
+        (&["--number"], NUMBERED_ANSWERS),
+    ] {
+        tasks.words = words;
+        let right = stops_at_each(rt.alloc(), &tasks, answers.as_bytes(), NOTES.as_bytes(), 1);
+        assert!(rt; right == Ok(true));
+    }
 }

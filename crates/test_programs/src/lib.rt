@@ -21,6 +21,8 @@ mod failing_devices;
 #[cfg(test)]
 mod judge;
 #[cfg(test)]
+mod judge_memory;
+#[cfg(test)]
 mod long_inputs;
 #[cfg(test)]
 mod refused_programs;
