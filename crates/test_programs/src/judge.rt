@@ -60,8 +60,13 @@ pub struct Session<'a> {
 
 /// The session that answers the lines of an input, with devices that never fail.
 pub fn of(text: &[u8], step: usize) -> Session<'_> {
+    asked_by(&[], text, step)
+}
+
+/// The session that these words ask for, with devices that never fail.
+pub fn asked_by<'a>(words: &'a [&'a str], text: &'a [u8], step: usize) -> Session<'a> {
     Session {
-        words: &[],
+        words,
         text,
         step,
         read_fault: None,
@@ -141,12 +146,11 @@ fn each_piece_is_answered_before_the_next(rt: HostRuntime) {
 #[test]
 fn each_verb_has_its_answer(rt: HostRuntime) {
     for step in [WHOLE, 1, 7] {
-        let mut wanted = of(TASKS.as_bytes(), step);
         for (words, answers) in [
             ([].as_slice(), TASK_ANSWERS),
             (&["--number"], NUMBERED_ANSWERS),
         ] {
-            wanted.words = words;
+            let wanted = asked_by(words, TASKS.as_bytes(), step);
             let outcome = held(rt.alloc(), &wanted).expect(&rt, "memory");
             assert!(rt; outcome.status == 1);
             assert!(rt; outcome.written.as_slice() == answers.as_bytes());
@@ -248,12 +252,11 @@ fn each_allocation_fails_in_turn(rt: HostRuntime) {
     let readings = of(TEXT.as_bytes(), 10);
     let right = stops_at_each(rt.alloc(), &readings, ANSWERS.as_bytes(), b"", 0);
     assert!(rt; right == Ok(true));
-    let mut tasks = of(TASKS.as_bytes(), 10);
     for (words, answers) in [
         ([].as_slice(), TASK_ANSWERS),
         (&["--number"], NUMBERED_ANSWERS),
     ] {
-        tasks.words = words;
+        let tasks = asked_by(words, TASKS.as_bytes(), 10);
         let right = stops_at_each(rt.alloc(), &tasks, answers.as_bytes(), NOTES.as_bytes(), 1);
         assert!(rt; right == Ok(true));
     }

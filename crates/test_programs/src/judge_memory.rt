@@ -1,6 +1,6 @@
 //! Lines that the judge answers without an allocation, and the first that need one.
 
-use crate::judge::{WHOLE, held, of};
+use crate::judge::{WHOLE, asked_by, held, of};
 use std::alloc::{AllocError, Global};
 
 /// Whether a session on this text ends with this status, answers this, and makes no allocation.
@@ -89,8 +89,7 @@ fn the_first_lengths_that_allocate(rt: HostRuntime) {
 fn other_commands_allocate_nothing(rt: HostRuntime) {
     for word in ["types", "--help", "--version"] {
         let words = [word];
-        let mut wanted = of(b"", 1);
-        wanted.words = &words;
+        let mut wanted = asked_by(&words, b"", 1);
         wanted.granted = 0;
         let outcome = held(rt.alloc(), &wanted).expect(&rt, "memory");
         assert!(rt; !outcome.refused && outcome.status == 0 && !outcome.written.is_empty());
