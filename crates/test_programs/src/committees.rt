@@ -1,4 +1,4 @@
-//! Committees of members of 32 bytes, and texts that are none.
+//! Committees of members of 32 bytes, and inputs that are none.
 use std::alloc::{AllocError, Global};
 
 /// The bytes of the committee of two members: 31 bytes 0 and a 1, and 32 bytes ff.

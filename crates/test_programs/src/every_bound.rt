@@ -81,7 +81,7 @@ fn report_on(alloc: Global, n: u64) -> Result<String, AllocError> {
     Ok(report)
 }
 
-/// Whether the run on so many members writes the report on them. The reader, which fails at each
+/// Whether the run on `n` members writes the report on them. The reader, which fails at each
 /// call, is not called.
 fn is_reported(alloc: Global, n: NonZeroU32) -> Result<bool, AllocError> {
     let report = report_on(alloc, u64::from(n.get()))?;

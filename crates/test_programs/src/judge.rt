@@ -43,10 +43,10 @@ const NO_MEMORY: &[u8] = b"failed: out of memory\n";
 /// A session.
 #[derive(Clone, Copy)]
 pub struct Session<'a> {
-    pub words: &'a [&'a str],
-    pub text: &'a [u8],
+    words: &'a [&'a str],
+    text: &'a [u8],
     /// How many bytes the reader gives a call.
-    pub step: usize,
+    step: usize,
     read_fault: Option<(u32, ReadFault)>,
     /// How many bytes the writer takes a call.
     room: usize,
@@ -58,12 +58,18 @@ pub struct Session<'a> {
     pub granted: u64,
 }
 
+/// The words that ask for plain answers.
+const NO_WORDS: &[&str] = &[];
+
+/// The words that ask for numbers.
+const NUMBER: &[&str] = &["--number"];
+
 /// The session that answers the lines of an input, with devices that never fail.
 pub fn of(text: &[u8], step: usize) -> Session<'_> {
-    asked_by(&[], text, step)
+    asked_by(NO_WORDS, text, step)
 }
 
-/// The session that these words ask for, with devices that never fail.
+/// The same of a session that these words ask for.
 pub fn asked_by<'a>(words: &'a [&'a str], text: &'a [u8], step: usize) -> Session<'a> {
     Session {
         words,
@@ -146,10 +152,7 @@ fn each_piece_is_answered_before_the_next(rt: HostRuntime) {
 #[test]
 fn each_verb_has_its_answer(rt: HostRuntime) {
     for step in [WHOLE, 1, 7] {
-        for (words, answers) in [
-            ([].as_slice(), TASK_ANSWERS),
-            (&["--number"], NUMBERED_ANSWERS),
-        ] {
+        for (words, answers) in [(NO_WORDS, TASK_ANSWERS), (NUMBER, NUMBERED_ANSWERS)] {
             let wanted = asked_by(words, TASKS.as_bytes(), step);
             let outcome = held(rt.alloc(), &wanted).expect(&rt, "memory");
             assert!(rt; outcome.status == 1);
@@ -252,10 +255,7 @@ fn each_allocation_fails_in_turn(rt: HostRuntime) {
     let readings = of(TEXT.as_bytes(), 10);
     let right = stops_at_each(rt.alloc(), &readings, ANSWERS.as_bytes(), b"", 0);
     assert!(rt; right == Ok(true));
-    for (words, answers) in [
-        ([].as_slice(), TASK_ANSWERS),
-        (&["--number"], NUMBERED_ANSWERS),
-    ] {
+    for (words, answers) in [(NO_WORDS, TASK_ANSWERS), (NUMBER, NUMBERED_ANSWERS)] {
         let tasks = asked_by(words, TASKS.as_bytes(), 10);
         let right = stops_at_each(rt.alloc(), &tasks, answers.as_bytes(), NOTES.as_bytes(), 1);
         assert!(rt; right == Ok(true));

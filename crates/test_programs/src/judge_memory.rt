@@ -3,7 +3,8 @@
 use crate::judge::{WHOLE, asked_by, held, of};
 use std::alloc::{AllocError, Global};
 
-/// Whether a session on this text ends with this status, answers this, and makes no allocation.
+/// Whether a session on this input ends with this status, writes these answers, and makes no
+/// allocation.
 fn allocates_nothing(
     alloc: Global,
     text: &[u8],
@@ -21,7 +22,7 @@ fn allocates_nothing(
     Ok(true)
 }
 
-/// Whether a session on this text is stopped by its first allocation.
+/// Whether a session on this input is stopped by its first allocation.
 fn allocates(alloc: Global, text: &[u8]) -> Result<bool, AllocError> {
     let mut wanted = of(text, WHOLE);
     wanted.granted = 0;
@@ -47,7 +48,7 @@ unreadable ranges\n"
     assert!(rt; allocates_nothing(rt.alloc(), unread, parts, 1) == Ok(true));
 }
 
-/// Bytes of this kind, so many of them, after a start.
+/// An input of `length` bytes that starts with these, all others of which are this byte.
 fn padded(alloc: Global, start: &[u8], byte: u8, length: usize) -> Result<Vec<u8>, AllocError> {
     let mut text = start.to_vec(alloc)?;
     text.resize(length, byte)?;
@@ -84,12 +85,14 @@ fn the_first_lengths_that_allocate(rt: HostRuntime) {
     assert!(rt; allocates(alloc, b"vec<u8> .. 0107\n") == Ok(true));
 }
 
-/// What is said of itself takes no allocation.
+/// The words that ask for no lines.
+const COMMANDS: [&[&str]; 3] = [&["types"], &["--help"], &["--version"]];
+
+/// What the program says of itself takes no allocation.
 #[test]
 fn other_commands_allocate_nothing(rt: HostRuntime) {
-    for word in ["types", "--help", "--version"] {
-        let words = [word];
-        let mut wanted = asked_by(&words, b"", 1);
+    for words in COMMANDS {
+        let mut wanted = asked_by(words, b"", 1);
         wanted.granted = 0;
         let outcome = held(rt.alloc(), &wanted).expect(&rt, "memory");
         assert!(rt; !outcome.refused && outcome.status == 0 && !outcome.written.is_empty());

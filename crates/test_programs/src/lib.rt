@@ -1,4 +1,4 @@
-//! Tests of the programs over scripted devices, and with each request for memory refused in turn:
+//! Tests of the programs over scripted devices, and with each allocation failing in turn:
 //! of the program `committee`, and in a file each of `judge` and `speed`.
 #![tactic(auto)]
 

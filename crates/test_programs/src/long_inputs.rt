@@ -13,15 +13,15 @@ const LENGTHS: [usize; 9] = [
 /// How many bytes of it are given a call.
 const STEPS: [usize; 5] = [WHOLE, 7, 65_535, 65_536, 8197];
 
-/// An input of so many bytes that starts with these.
+/// An input of `length` bytes that starts with these.
 fn input_of(alloc: Global, start: &[u8], length: usize) -> Result<Vec<u8>, AllocError> {
     let mut bytes = start.to_vec(alloc)?;
     bytes.resize(length, 0x07)?;
     Ok(bytes)
 }
 
-/// Whether the bytes are refused with this line, and nothing is written, where so many of them are
-/// given a call and so many requests for memory are granted.
+/// Whether the bytes are refused with this line, and nothing is written, where `step` of them are
+/// given a call and the first `granted` allocations succeed.
 fn is_refused_at<'a>(
     alloc: Global,
     bytes: &'a [u8],
@@ -44,7 +44,7 @@ fn is_refused_at<'a>(
     is_right(alloc, &wanted)
 }
 
-/// Whether they are at whatever step, where all memory is granted.
+/// Whether they are at whatever step, where all allocations succeed.
 fn is_refused<'a>(alloc: Global, bytes: &'a [u8], said: &'a str) -> Result<bool, AllocError> {
     for step in STEPS {
         if !is_refused_at(alloc, bytes, said, step, u64::MAX)? {
@@ -54,7 +54,7 @@ fn is_refused<'a>(alloc: Global, bytes: &'a [u8], said: &'a str) -> Result<bool,
     Ok(true)
 }
 
-/// Whether it is said how many bytes are left over where so many follow the committee.
+/// Whether it is said how many bytes are left over where `left` bytes follow the committee.
 fn are_left_over(alloc: Global, committee: &[u8], left: usize) -> Result<bool, AllocError> {
     let bytes = input_of(alloc, committee, committee.len().saturating_add(left))?;
     let said = format!(in alloc; "refused: {left} bytes left over\n")?;
@@ -82,7 +82,7 @@ fn each_byte_after_a_committee_is_left_over(rt: HostRuntime) {
     }
 }
 
-/// The first bytes of texts, and what is said of them whatever follows.
+/// The first bytes of inputs, and what is said of them whatever follows.
 const EARLY_FAULTS: [(&[u8], &str); 5] = [
     (b"\x00", "refused: length 0\n"),
     (b"\x81\x02", "refused: length 257\n"),
@@ -91,7 +91,7 @@ const EARLY_FAULTS: [(&[u8], &str); 5] = [
     (b"\xff\xff\xff\xff\x10", "refused: invalid varint\n"),
 ];
 
-/// The first bytes of a text whose members are equal.
+/// The first bytes of an input whose members are equal.
 const EQUAL_MEMBERS: (&[u8], &str) = (
     b"\x80\x02",
     "refused: Set: items must be sorted and unique\n",
@@ -111,7 +111,7 @@ fn the_first_fault_of_a_long_input_is_told(rt: HostRuntime) {
     }
 }
 
-/// What settles the answer is read without memory, whatever follows it.
+/// What determines the answer is read without memory, whatever follows it.
 #[test]
 fn early_faults_want_no_memory(rt: HostRuntime) {
     let alloc = rt.alloc();

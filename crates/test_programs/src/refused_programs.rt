@@ -1,4 +1,4 @@
-//! Runs and sessions with each request for memory refused in turn, whatever they come to: nothing
+//! Runs and sessions with each allocation failing in turn, whatever becomes of them: nothing
 //! is written, and the devices are whole.
 use crate::bounds::{MOST, TEN};
 use crate::committees::{
@@ -14,7 +14,7 @@ use std::io::ErrorKind;
 use test_equipment::ScriptedWriter;
 use test_equipment::walk::{Heap, Outcome, Refusable, asks_for, full, refused};
 
-/// What a program is asked and given, and what it comes to.
+/// What a program is asked and given, and what becomes of it.
 #[derive(Drop)]
 struct Asked<'a> {
     words: &'static [&'static str],
@@ -41,7 +41,7 @@ impl<'a> Asked<'a> {
         }
     }
 
-    /// A program that refuses these bytes, after so many requests at least.
+    /// A program that refuses these bytes, after at least `least` allocations.
     fn refusal(bytes: &'a [u8], error: RunError, line: &'static str, least: u64) -> Self {
         Asked {
             words: READ,
@@ -61,7 +61,7 @@ impl<'a> Asked<'a> {
         }
     }
 
-    /// What it writes where it isn't refused.
+    /// What it writes where no allocation fails.
     fn written(&self) -> &'a str {
         match self.outcome {
             Ok(report) => report,
@@ -81,7 +81,7 @@ impl<'a> Asked<'a> {
         output.taken.as_slice() == self.written().as_bytes()
     }
 
-    /// What a run comes to that answers this and has called the writer so.
+    /// The outcome of a run that returns this and has called the writer so.
     fn run_outcome(
         &self,
         answer: Result<(), RunError>,
@@ -95,7 +95,7 @@ impl<'a> Asked<'a> {
         }
     }
 
-    /// What a session comes to that ends with this status and has called the writers so.
+    /// The outcome of a session that ends with this status and has called the writers so.
     fn session_outcome(
         &self,
         status: u8,
@@ -206,7 +206,7 @@ impl<'b> Refusable for Session<'b> {
     }
 }
 
-/// Whether a run and a session make their requests, and are silent wherever one is refused.
+/// Whether a run and a session make their allocations, and are silent wherever one fails.
 fn is_silent_without_memory(alloc: Global, asked: &Asked<'_>) -> bool {
     let run = asks_for(alloc, &Run(alloc, asked), asked.least);
     run && asks_for(alloc, &Session(alloc, asked), asked.least)

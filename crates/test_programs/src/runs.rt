@@ -19,7 +19,7 @@ pub enum End {
 }
 
 impl End {
-    /// What the run answers.
+    /// What the run returns.
     fn answer(self) -> Result<(), RunError> {
         match self {
             End::Done => Ok(()),
@@ -38,7 +38,7 @@ impl End {
     }
 }
 
-/// A run, and what it has to come to.
+/// A run, and what has to become of it.
 #[derive(Clone, Copy)]
 pub struct Run<'a> {
     pub command: Command,
@@ -77,7 +77,7 @@ fn is_told(status: u8, errors: &ScriptedWriter<Global>, end: End) -> bool {
     status == wanted && errors.taken.as_slice() == line.as_bytes()
 }
 
-/// Whether `run` comes to what it has to, with the command.
+/// Whether `run` does what it has to, with the command.
 fn is_run(alloc: Global, wanted: &Run<'_>) -> bool {
     let heap = Refusing::after(alloc, u64::MAX);
     let mut input = wanted.input.reader();
@@ -86,7 +86,7 @@ fn is_run(alloc: Global, wanted: &Run<'_>) -> bool {
     answer == wanted.end.answer() && are_right(&input, &output, wanted)
 }
 
-/// Whether `session` comes to what it has to, with the words.
+/// Whether `session` does what it has to, with the words.
 fn is_session(alloc: Global, wanted: &Run<'_>) -> Result<bool, AllocError> {
     let heap = Refusing::after(alloc, u64::MAX);
     let words = words_of(&heap, wanted.words)?;
@@ -97,7 +97,7 @@ fn is_session(alloc: Global, wanted: &Run<'_>) -> Result<bool, AllocError> {
     Ok(is_told(status, &errors, wanted.end) && are_right(&input, &output, wanted))
 }
 
-/// Whether `start` comes to what it has to, with the words after the program's name.
+/// Whether `start` does what it has to, with the words after the program's name.
 fn is_start(alloc: Global, wanted: &Run<'_>) -> Result<bool, AllocError> {
     let heap = Refusing::after(alloc, u64::MAX);
     let arguments = Ok(arguments_of(&heap, wanted.words)?.into_iter());
@@ -108,7 +108,7 @@ fn is_start(alloc: Global, wanted: &Run<'_>) -> Result<bool, AllocError> {
     Ok(is_told(status, &errors, wanted.end) && are_right(&input, &output, wanted))
 }
 
-/// Whether the run comes to what it has to by itself, in a session, and from the program's
+/// Whether the run does what it has to by itself, in a session, and from the program's
 /// arguments.
 pub fn is_right(alloc: Global, wanted: &Run<'_>) -> Result<bool, AllocError> {
     Ok(is_run(alloc, wanted) && is_session(alloc, wanted)? && is_start(alloc, wanted)?)
@@ -129,7 +129,7 @@ pub fn read_run<'a>(bytes: &'a [u8], report: &'a str) -> Run<'a> {
     }
 }
 
-/// The run where the reader fails after so many calls, and nothing is written.
+/// The run where the reader fails after `reads` calls, and nothing is written.
 pub fn with_failed_read<'a>(whole: Run<'a>, input: Input<'a>, reads: u32) -> Run<'a> {
     Run {
         input,
@@ -142,7 +142,7 @@ pub fn with_failed_read<'a>(whole: Run<'a>, input: Input<'a>, reads: u32) -> Run
     }
 }
 
-/// The run where the writer fails at the last of so many calls, and has taken so many bytes.
+/// The run where the writer fails at the last of `writes` calls, and has taken `taken` bytes.
 pub fn with_failed_write(whole: Run<'_>, output: Output, writes: u32, taken: usize) -> Run<'_> {
     Run {
         output,
@@ -167,7 +167,7 @@ pub fn with_failed_flush(whole: Run<'_>, kind: ErrorKind) -> Run<'_> {
     }
 }
 
-/// The first so many bytes, or all if there are no more.
+/// The first `length` bytes, or all if there are no more.
 pub fn beginning(bytes: &[u8], length: usize) -> &[u8] {
     &bytes[..length.min(bytes.len())]
 }

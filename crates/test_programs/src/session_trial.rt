@@ -1,4 +1,4 @@
-//! A session over scripted devices, and whether it comes to what it has to.
+//! A session over scripted devices, and whether it does what it has to.
 use crate::committees::{TWO, TWO_REPORT};
 use crate::devices::{Input, Output, TAKEN};
 use committee_core::{Watched, session};
@@ -6,14 +6,14 @@ use std::alloc::{AllocError, Global};
 use test_equipment::walk::Heap;
 use test_equipment::{Refusing, ScriptedReader, ScriptedWriter};
 
-/// A session, and what it has to come to.
+/// A session, and what has to become of it.
 #[derive(Clone, Copy)]
 pub struct Session<'a> {
     pub words: &'a [&'a str],
     pub input: Input<'a>,
     pub output: Output,
     pub errors: Output,
-    /// How many requests for memory are granted before one is refused.
+    /// How many allocations succeed before one fails.
     pub granted: u64,
     pub status: u8,
     /// What is written, where that is one text.
@@ -89,7 +89,7 @@ fn are_right(
         && written
 }
 
-/// Whether the status is the wanted one, and standard error has taken what is said, and isn't
+/// Whether the status is the expected one, and standard error has taken what is said, and isn't
 /// called again where it failed.
 fn is_told(status: u8, errors: &ScriptedWriter<Global>, wanted: &Session<'_>) -> bool {
     status == wanted.status
@@ -97,7 +97,7 @@ fn is_told(status: u8, errors: &ScriptedWriter<Global>, wanted: &Session<'_>) ->
         && errors.taken.as_slice() == wanted.said.as_bytes()
 }
 
-/// Whether the session comes to what it has to.
+/// Whether the session does what it has to.
 pub fn is_right(alloc: Global, wanted: &Session<'_>) -> Result<bool, AllocError> {
     let heap = Refusing::after(alloc, u64::MAX);
     let words = words_of(&heap, wanted.words)?;

@@ -1,4 +1,4 @@
-//! What a session writes, says and answers.
+//! What a session writes, says and returns.
 use crate::bounds::{MOST, ONE, SIX, TEN};
 use crate::committees::{
     ONE_AND_A_BYTE, ONE_CUT_SHORT, TWO, TWO_EQUAL, TWO_FALLING, TWO_REPORT, committee_of_256,
@@ -103,7 +103,7 @@ const OTHER_WORDS: [&[&str]; 27] = [
     &["bounds", "6", ""],
 ];
 
-/// The first request for memory is refused, if there is one.
+/// The first allocation fails, if there is one.
 #[test]
 fn other_words_get_the_usage_line(rt: HostRuntime) {
     for words in OTHER_WORDS {

@@ -20,7 +20,7 @@ enum Failing {
     Reader,
     /// The first call of the writer.
     Writer,
-    /// The first request for memory.
+    /// The first allocation.
     Memory,
 }
 
@@ -101,7 +101,7 @@ fn session_on(
     Ok((status, device))
 }
 
-/// Whether the session has its status, and standard error takes these bytes in so many calls and
+/// Whether the session has its status, and standard error takes these bytes in `calls` calls and
 /// is never flushed.
 fn is_right(
     alloc: Global,

@@ -14,7 +14,7 @@ use test_equipment::{Refusing, ScriptedWriter};
 const USAGE: &str = "usage: committee read, or committee bounds <n>\n";
 
 /// The arguments of a program that reads the committee of two, or none that can be taken; and
-/// what it has to come to: its status, what is written, what is said.
+/// what has to become of it: its status, what is written, what is said.
 type Row = (
     Option<&'static [&'static str]>,
     u8,
@@ -22,7 +22,7 @@ type Row = (
     &'static str,
 );
 
-/// Whether a program comes to what it has to.
+/// Whether a program does what it has to.
 fn is_right(heap: Heap<'_>, alloc: Global, row: &Row) -> Result<bool, AllocError> {
     let (texts, wanted, written, said) = *row;
     let arguments = match texts {
@@ -66,7 +66,7 @@ struct Start<'a> {
 }
 
 impl<'a> Start<'a> {
-    /// What the start comes to that ends with this status, after these calls of its writer and
+    /// The outcome of a start that ends with this status, after these calls of its writer and
     /// these bytes on standard error.
     fn comes_to(&self, status: u8, output: &ScriptedWriter<Global>, said: &[u8]) -> Outcome {
         match status {
