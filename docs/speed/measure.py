@@ -6,7 +6,7 @@ Usage: measure.py RUNS COMMAND[,COMMAND..] COMMAND[,COMMAND..] >TABLE.csv
 A command is a program and its words, and prints lines `CALL N SUM HUNDREDTHS`: a call, how many entries it was timed
 over, a check sum, and the hundredths of a nanosecond that an entry took. Commands joined by commas are builds of one
 program, as many of the first as of the second. Each run starts every build once, each beside its counterpart, and the
-ratio is that of these two, so it does not hang on how fast the processor was at the time.
+ratio is that of these two, so it does not depend on how fast the processor was at the time.
 
 The table has for each line the call and N, the median nanoseconds of the first program, the median of the ratios with
 their quartiles, and the least and the greatest of the medians of single builds. A line whose check sums differ is told
