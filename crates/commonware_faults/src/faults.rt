@@ -29,7 +29,7 @@ pub trait Faults {
     /// requires that `n` is from 1 to `u32::MAX`.
     fn quorum<N: Count>(n: N) -> u32
         requires { IsCommitteeSize (N.number n) }
-        ensures { result + faults (amount (N.number n)) ≡ amount (N.number n) }
+        ensures { let total = amount (N.number n) in result + faults total ≡ total }
     {
         let n = n.to_u32().unwrap();
         n - Self::max_faults(n)
@@ -59,7 +59,8 @@ impl Faults for N3f1 {
         ensures at_most { result ≤ amount (N.number n) }
         ensures fits { GreatestFit 3 (amount (N.number n)) result }
         ensures greatest { Greatest3 (amount (N.number n)) result }
-        ensures meets { MeetsOutside (amount (N.number n)) (amount (N.number n) - result) result }
+        ensures meets { let total = amount (N.number n) in
+            MeetsOutside total (total - result) result }
     {
         let total = n.to_u32().unwrap();
         (total - 1) / 3
@@ -69,7 +70,7 @@ impl Faults for N3f1 {
     /// `max_faults(n)`. It requires that `n` is from 1 to `u32::MAX`.
     fn quorum<N: Count>(n: N) -> u32
         requires { IsCommitteeSize (N.number n) }
-        ensures value { result + n3f1_faults (amount (N.number n)) ≡ amount (N.number n) }
+        ensures value { let total = amount (N.number n) in result + n3f1_faults total ≡ total }
         ensures meets { let total = amount (N.number n) in
             MeetsOutside total result (n3f1_faults total) }
     {
@@ -98,7 +99,8 @@ impl Faults for N5f1 {
         ensures at_most { result ≤ amount (N.number n) }
         ensures fits { GreatestFit 5 (amount (N.number n)) result }
         ensures greatest { Greatest5 (amount (N.number n)) result }
-        ensures meets { MeetsOutside (amount (N.number n)) (amount (N.number n) - result) result }
+        ensures meets { let total = amount (N.number n) in
+            MeetsOutside total (total - result) result }
     {
         let total = n.to_u32().unwrap();
         (total - 1) / 5
@@ -108,7 +110,7 @@ impl Faults for N5f1 {
     /// `max_faults(n)`. It requires that `n` is from 1 to `u32::MAX`.
     fn quorum<N: Count>(n: N) -> u32
         requires { IsCommitteeSize (N.number n) }
-        ensures value { result + n5f1_faults (amount (N.number n)) ≡ amount (N.number n) }
+        ensures value { let total = amount (N.number n) in result + n5f1_faults total ≡ total }
         ensures meets { let total = amount (N.number n) in
             MeetsOutside total result (n5f1_faults total) }
     {
@@ -122,7 +124,7 @@ impl N5f1 {
     /// from 1 to `u32::MAX`.
     pub fn l_quorum<N: Count>(n: N) -> u32
         requires { IsCommitteeSize (N.number n) }
-        ensures { result + n5f1_faults (amount (N.number n)) ≡ amount (N.number n) }
+        ensures { let total = amount (N.number n) in result + n5f1_faults total ≡ total }
     {
         Self::quorum(n)
     }
@@ -133,7 +135,7 @@ impl N5f1 {
     pub fn m_quorum<N: Count>(n: N) -> u32
         requires { IsCommitteeSize (N.number n) }
         ensures value { result ≡ 2 * n5f1_faults (amount (N.number n)) + 1 }
-        ensures least { LeastM (amount (N.number n)) (n5f1_faults (amount (N.number n))) result }
+        ensures least { let total = amount (N.number n) in LeastM total (n5f1_faults total) result }
         ensures shares { let total = amount (N.number n) in
             OverlapAtLeast total (total - n5f1_faults total) result (n5f1_faults total + 1) }
     {

@@ -87,7 +87,7 @@ pub fn tolerated_faults(k: u32, n: u32) -> u32
 pub fn smaller_quorum<M: Resilience, N: Count>(n: N) -> u32
     requires { IsCommitteeSize (N.number n) }
     ensures value { result ≡ 2 * M.faults (amount (N.number n)) + 1 }
-    ensures least { LeastM (amount (N.number n)) (M.faults (amount (N.number n))) result }
+    ensures least { let total = amount (N.number n) in LeastM total (M.faults total) result }
     ensures shares { let total = amount (N.number n) in
         OverlapAtLeast total (total - M.faults total) result (M.faults total + 1) }
 {

@@ -222,8 +222,8 @@ varint_no_fault s n r (InvalidLength k) h e w = w
 varint_no_fault s n r (Invalid what why) h e w = w
 
 -- A truncated input has no byte that ends a number, and no fifth.
-truncated_not_misspelled : (s : List ℕ) → IsTruncated s → IsOverlongOrTooGreat s → ⊥
-truncated_not_misspelled s c w =
+truncated_not_overlong : (s : List ℕ) → IsTruncated s → IsOverlongOrTooGreat s → ⊥
+truncated_not_overlong s c w =
     let a : AreContinued (w.prefix ++ w.last ∷ w.rest) = subst AreContinued w.begins c.high in
     let n : length s ≡ length (w.prefix ++ w.last ∷ w.rest) = ap length w.begins in
     elim w.wrong [
@@ -234,8 +234,8 @@ truncated_not_misspelled s c w =
 -- An input has at most one fault.
 pub varint_one_fault : (s : List ℕ) (f g : Fault) → varint_fault s f → varint_fault s g → f ≡ g
 varint_one_fault s EndOfBuffer EndOfBuffer p q = refl
-varint_one_fault s EndOfBuffer InvalidVarint p q = absurd (truncated_not_misspelled s p q)
-varint_one_fault s InvalidVarint EndOfBuffer p q = absurd (truncated_not_misspelled s q p)
+varint_one_fault s EndOfBuffer InvalidVarint p q = absurd (truncated_not_overlong s p q)
+varint_one_fault s InvalidVarint EndOfBuffer p q = absurd (truncated_not_overlong s q p)
 varint_one_fault s InvalidVarint InvalidVarint p q = refl
 varint_one_fault s (InvalidLength k) g p q = absurd p
 varint_one_fault s (Invalid a b) g p q = absurd p

@@ -4,7 +4,7 @@ use Rattle.commonware_base.specs.Source.{rest_of}
 use Rattle.committee_core.specs.Run.{members_range, committee_fault, refusal_of, IsCommitteeMemoryFree, IsRefusal}
 use Rattle.committee_core.specs.declared.error.RunError.TheVariants.{Memory}
 use Rattle.committee_core.proofs.CommitteePrefixes.{prefix_refused}
-use Rattle.program_io.proofs.Errors.{err_along}
+use Rattle.commonware_base.proofs.Errors.{err_along}
 use Rattle.committee_core.proofs.Refusals.{err_is, refused_by_reader, wanted_by_reader}
 use Rattle.committee_core.proofs.runs.read_members.Goals as goal
 
