@@ -184,9 +184,9 @@ static void test_certificate(void) {
     CHECK(written.status == COMMONWARE_OK && written.size == 6 && written.count == 3);
     CHECK(memcmp(text, first, 6) == 0 && text[6] == 0xee);
     written = commonware_certificate_write(first + 1, 1, OF(large), OF(text));
-    const uint8_t spelt[] = {1, 0xaa, 3, 127, 128, 1, 255, 255, 255, 255, 15};
-    CHECK(written.status == COMMONWARE_OK && written.size == sizeof spelt);
-    CHECK(memcmp(text, spelt, sizeof spelt) == 0);
+    const uint8_t encoded[] = {1, 0xaa, 3, 127, 128, 1, 255, 255, 255, 255, 15};
+    CHECK(written.status == COMMONWARE_OK && written.size == sizeof encoded);
+    CHECK(memcmp(text, encoded, sizeof encoded) == 0);
     written = commonware_certificate_write(NULL, 0, NULL, 0, OF(text));
     CHECK(written.status == COMMONWARE_OK && written.size == 2 && text[0] == 0 && text[1] == 0);
     CHECK(commonware_certificate_write(NULL, 0, NULL, 0, NULL, 0).status == COMMONWARE_ROOM);

@@ -13,6 +13,9 @@ use commonware_ordered::Set;
 use std::alloc::Global;
 
 /// What two certificates prove, for a caller in C.
+///
+/// Among 4 members at a resilience of 3, `01 aa 03 00 01 02` and `01 bb 03 01 02 03` have status 0
+/// and count 2: members 1 and 2 signed both values.
 #[repr(C)]
 #[derive(Clone, Copy, Drop)]
 pub struct ConflictView {

@@ -9,6 +9,9 @@ use crate::checked::order;
 use std::cmp::Ordering;
 
 /// Where a key is among others.
+///
+/// Among keys that begin with 1 and 3, one that begins with 3 has status 0 and index 1 where the
+/// rest agrees, and one that begins with 2 has status 12 and index 1.
 #[repr(C)]
 #[derive(Clone, Copy, Drop)]
 pub struct PlaceView {
