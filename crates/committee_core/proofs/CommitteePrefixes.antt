@@ -4,7 +4,7 @@ use Rattle.std.specs.List.{flat_map}
 use Rattle.commonware_base.specs.Fault.{Fault}
 use Rattle.commonware_base.specs.laws.PrefixLaws.{list_memory_free_determined, determined_prefix}
 use Rattle.commonware_base.specs.Prefixes.{IsLongPrefix, IsDeterminedBy}
-use Rattle.commonware_base.specs.laws.ListLaws.{list_wants_memory}
+use Rattle.commonware_base.specs.laws.ListLaws.{list_needs_memory}
 use Rattle.commonware_base.specs.Lists.{IsListMemoryFree}
 use Rattle.commonware_base.specs.Range.{Bounds}
 use Rattle.commonware_base.specs.Refusal.{Refuses}
@@ -42,11 +42,11 @@ prefix_refused range text s prefix error by at f refuses =
     error (subst (Refused members_range) at (subst (λ r. Refused r text) by refuses))
 
 -- a committee isn't read without an allocation
-pub committee_wants_memory : (s : List ℕ) (members : List (List ℕ)) (rest : List ℕ) → IsCommittee s members rest → ¬ IsCommitteeMemoryFree s
-committee_wants_memory s [] rest a = absurd (omega (arith, a.allowed.in_range.above))
-committee_wants_memory s (b ∷ members) rest a =
+pub committee_needs_memory : (s : List ℕ) (members : List (List ℕ)) (rest : List ℕ) → IsCommittee s members rest → ¬ IsCommitteeMemoryFree s
+committee_needs_memory s [] rest a = absurd (omega (arith, a.allowed.in_range.above))
+committee_needs_memory s (b ∷ members) rest a =
     let all = flat_map member_bytes (b ∷ members) in
     let begins = a.begins ∙ append_assoc (varint (length (b ∷ members))) all rest in
     let enough : 32 ≤ length (all ++ rest) = omega (arith, a.writable.list.each.0.count, length-append b (flat_map member_bytes members), length-append all rest) in
-    list_wants_memory member_fault (λ _. Unit {0}) members_range s (length (b ∷ members)) (all ++ rest) a.writable.list.short (omega arith) a.allowed.in_range begins
+    list_needs_memory member_fault (λ _. Unit {0}) members_range s (length (b ∷ members)) (all ++ rest) a.writable.list.short (omega arith) a.allowed.in_range begins
     (λ free f w. omega (arith, w.0))

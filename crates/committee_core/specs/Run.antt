@@ -48,8 +48,8 @@ prefix_size = 8197
 
 -- a reader that had old left and has new left gave bytes that can't be decoded as a committee without an allocation, or
 -- more bytes than a `usize` counts
-abbrev pub WantsMemory : Option (List ℕ) → Option (List ℕ) → Type 0
-WantsMemory old new =
+abbrev pub NeedsMemory : Option (List ℕ) → Option (List ℕ) → Type 0
+NeedsMemory old new =
     (s : List ℕ) × ((Gave old new s × ¬ IsCommitteeMemoryFree s) ⊎ (Consumes old new s × (2 ^ 64 ≤ length s)))
 
 -- the error names the first fault of s, so it is no allocation failure

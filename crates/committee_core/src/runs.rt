@@ -4,7 +4,7 @@ ghost use Rattle.std.specs.Prelude.{Err, IfErr, IfOk, OnErr, OnOk, string_bytes}
 ghost use Rattle.std.specs.Io.KnownBytes.{Appends};
 ghost use Rattle.commonware_base.specs.Prefixes.{IsLongPrefix};
 ghost use Rattle.program_io.specs.Streams.{Gave};
-ghost use Rattle.committee_core.specs.Run.{IsCommittee, IsCommitteeMemoryFree, IsRefusal, IsReport, WantsMemory};
+ghost use Rattle.committee_core.specs.Run.{IsCommittee, IsCommitteeMemoryFree, IsRefusal, IsReport, NeedsMemory};
 ghost use Rattle.committee_core.specs.Run.{prefix_size};
 
 use crate::bounds_report::bounds_report;
@@ -21,10 +21,10 @@ use std::alloc::Allocator;
 use std::io::{Read, Write};
 
 /// The most members that a committee has.
-const MOST: usize = 256;
+const MOST_MEMBERS: usize = 256;
 
 /// How many first bytes determine what all are: a length has at most five, and each member has 32.
-const FRONT: usize = 5 + MOST * Member::MAX_ENCODE_SIZE;
+const PREFIX_SIZE: usize = 5 + MOST_MEMBERS * Member::MAX_ENCODE_SIZE;
 
 /// Executes the command: writes its report, and flushes.
 ///
@@ -52,7 +52,7 @@ pub fn run<A: Allocator + Copy, R: Read, W: Write>(
     ensures refused { IfErr result
         (IsRefusal (Gave (R.remaining input.old.inner) (R.remaining input.new.inner))) }
     ensures memory { command ≡ Command.Read → result ≡ Err RunError.Memory
-        → WantsMemory (R.remaining input.old.inner) (R.remaining input.new.inner) }
+        → NeedsMemory (R.remaining input.old.inner) (R.remaining input.new.inner) }
 
     // The devices.
     ensures nothing_written { OnErr result
@@ -94,14 +94,14 @@ fn read_report<A: Allocator + Copy, R: Read>(
     ensures refused { IfErr result
         (IsRefusal (Gave (R.remaining input.old.inner) (R.remaining input.new.inner))) }
     ensures memory { result ≡ Err RunError.Memory
-        → WantsMemory (R.remaining input.old.inner) (R.remaining input.new.inner) }
+        → NeedsMemory (R.remaining input.old.inner) (R.remaining input.new.inner) }
     ensures sound { result ≢ Err RunError.ReadFailed → input.new.failed ≡ input.old.failed }
     ensures failed { result ≡ Err RunError.ReadFailed → input.new.failed ≡ true }
     ensures reads { result ≢ Err RunError.WriteFailed }
     ensures ended { result ≢ Err RunError.ReadFailed → result ≢ Err RunError.Memory
         → input.new.ended ≡ true }
 {
-    let mut room = [0u8; FRONT];
+    let mut room = [0u8; PREFIX_SIZE];
     let counted = read_prefix(input, &mut room)?;
     let members = read_members(alloc, &room[..counted.kept], counted.total)?;
     match committee_report(alloc, members.as_slice()) {
@@ -129,7 +129,7 @@ fn read_members<A: Allocator + Copy>(
     ensures device { (result ≢ Err RunError.ReadFailed) × (result ≢ Err RunError.WriteFailed) }
 {
     let mut src = Source::new(prefix);
-    let limits = (RangeCfg::from(1..=MOST), ());
+    let limits = (RangeCfg::from(1..=MOST_MEMBERS), ());
     let members: Set<Member, A> = codec::Read::read_cfg(alloc, &mut src, &limits)?;
     let left = total - src.position();
     if left > 0 {

@@ -11,7 +11,7 @@ use Rattle.commonware_base.specs.Range.{Within}
 use Rattle.commonware_base.specs.Source.{Consumes, rest_of}
 use Rattle.commonware_base.specs.Varint.{varint}
 use Rattle.commonware_base.specs.Lists.{list_enc, IsWritableList, IsAllowedList, ListFault, bad_length, bad_item, IsListMemoryFree, ItemsFault, IsItemsMemoryFree}
-use Rattle.commonware_base.specs.laws.ListLaws.{list_wants_memory}
+use Rattle.commonware_base.specs.laws.ListLaws.{list_needs_memory}
 use Rattle.commonware_base.proofs.SourceLemmas.{consumes_both}
 
 -- what holds of all items, and of one more, holds of all with it
@@ -86,7 +86,7 @@ module _ {T : Type 0} (enc : T → List ℕ) (Writable Allowed : T → Type 0) (
     pub read_wants : (done : ℕ) (now : Source) (items : List T) → ReadSoFar enc Writable Allowed range count done start now items → 0 < count →
         ((s : List ℕ) (v : T) (r : List ℕ) (f : Fault) → Accepts enc Writable Allowed s v r → item_fault s f → ⊥) →
         (done ≡ 0 → ¬ ItemMemoryFree (rest_of now)) → ¬ IsListMemoryFree item_fault ItemMemoryFree range (rest_of start)
-    read_wants done now items s p accepted_no_fault first_wants = list_wants_memory item_fault ItemMemoryFree range (rest_of start) count (flat_map enc items ++ rest_of now) s.short p s.in_range
+    read_wants done now items s p accepted_no_fault first_wants = list_needs_memory item_fault ItemMemoryFree range (rest_of start) count (flat_map enc items ++ rest_of now) s.short p s.in_range
         (s.taken.rest ∙ append_assoc (varint count) (flat_map enc items) (rest_of now)) (go items s.done_is s.writable s.allowed)
       where
         go : (xs : List T) → length xs ≡ done → AllByRecursion Writable xs → AllByRecursion Allowed xs → ItemMemoryFree (flat_map enc xs ++ rest_of now) → (f : Fault) → item_fault (flat_map enc xs ++ rest_of now) f → ⊥
@@ -112,7 +112,7 @@ module _ {T : Type 0} (enc : T → List ℕ) (Writable Allowed : T → Type 0) (
 
   -- where reading the items allocates, reading the list does
   pub list_wants : ((s : List ℕ) (v : T) (r : List ℕ) (f : Fault) → Accepts enc Writable Allowed s v r → item_fault s f → ⊥) → ¬ IsItemsMemoryFree enc Writable Allowed ItemMemoryFree count (rest_of now) → ¬ IsListMemoryFree item_fault ItemMemoryFree range (rest_of start)
-  list_wants accepted_no_fault wants = list_wants_memory item_fault ItemMemoryFree range (rest_of start) count (rest_of now) short (positive count (λ z. wants (inl z))) in_range taken.rest
+  list_wants accepted_no_fault wants = list_needs_memory item_fault ItemMemoryFree range (rest_of start) count (rest_of now) short (positive count (λ z. wants (inl z))) in_range taken.rest
       (λ free f fault. wants (inr (free, (λ a. accepted_no_fault (rest_of now) a.0 a.1 f a.2 fault))))
     where
       positive : (n : ℕ) → ¬ (n ≡ 0) → 0 < n

@@ -8,7 +8,7 @@ ghost use Rattle.commonware_base.specs.laws.CloneLaws.{equal_from_all_zip, equal
 use crate::codec::UInt;
 use std::alloc::Allocator;
 
-/// A type whose clones equal their source.
+/// A type whose clones equal their source. A list of strings equals its clone.
 pub trait EqClone: Clone + Eq {
     ghost clones_are_equal: { (x y : Self) → Self.is_clone x y → Self.eq x y ≡ true };
 }

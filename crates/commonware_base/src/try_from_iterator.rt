@@ -4,7 +4,8 @@ ghost use Rattle.std.specs.Iterator.{IsFinite, IsFiniteIterable};
 ghost use Rattle.commonware_base.specs.Taken.{IsMadeFrom, IsMadeOf, IsRefusalFrom, IsRefusalOf};
 
 /// A collection that an iterator may be collected into. Each implementation says what it makes of
-/// the items, and which error it returns.
+/// the items, and which error it returns. A `NonEmptyVec` is made of `1..=3`, and of no item it is
+/// the error `Empty`.
 pub trait TryFromIterator<T, A>: Sized {
     /// Why no collection was made.
     type Error;
@@ -26,7 +27,7 @@ pub trait TryFromIterator<T, A>: Sized {
 }
 
 /// Collecting that may fail, for every iterator. It is called by its path, as std's `Iterator` has
-/// a method of that name.
+/// a method of that name: `TryCollect::try_collect(1u8..=3, alloc)`.
 pub trait TryCollect: Iterator + Sized {
     /// Returns what `C::try_from_iter` returns for the iterator, which has to end.
     fn try_collect<C: TryFromIterator<Self::Item, A>, A>(self, alloc: A) -> Result<C, C::Error>

@@ -4,7 +4,7 @@ ghost use Rattle.std.specs.Int.NonZero.{non_zero_u16_get, non_zero_u32_get, non_
 
 use std::num::{NonZeroU8, NonZeroU16, NonZeroU32, NonZeroU64};
 
-/// A number that a wider type `T` has too.
+/// A number that a wider type `T` has too. The `NonZeroU8` 255 is the `u16` 255.
 ///
 /// Each implementation says which numbers its values and those of `T` are seen as. So a generic
 /// caller learns that both are the same in the eyes of the implementation, and no more. The

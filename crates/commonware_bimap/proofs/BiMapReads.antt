@@ -5,7 +5,7 @@ use Rattle.std.specs.Map.{keys_of, values_of}
 use Rattle.std.specs.declared.cmp.Ordering.{Ordering}
 use Rattle.commonware_base.specs.Fault.{Fault}
 use Rattle.commonware_base.specs.Lists.{list_enc, IsListMemoryFree}
-use Rattle.commonware_base.specs.laws.ListLaws.{list_wants_memory}
+use Rattle.commonware_base.specs.laws.ListLaws.{list_needs_memory}
 use Rattle.commonware_base.specs.Range.{Bounds}
 use Rattle.commonware_base.specs.Text.{Accepts, ReadLaws}
 use Rattle.commonware_base.specs.Varint.{varint}
@@ -20,7 +20,7 @@ pairs_want_memory ek WK AK cmp fk mk key_laws ev WV AV range s r (e ∷ es) a so
     let t = list_enc ev (values_of (e ∷ es)) ++ r in
     let n = length (e.0 ∷ ks) in
     let w = a.writable.0.list in
-    list_wants_memory fk mk range s n (flat_map ek (e.0 ∷ ks) ++ t) w.short (omega arith) a.allowed.0.in_range
+    list_needs_memory fk mk range s n (flat_map ek (e.0 ∷ ks) ++ t) w.short (omega arith) a.allowed.0.in_range
     (a.begins ∙ append_assoc (list_enc ek (e.0 ∷ ks)) (list_enc ev (values_of (e ∷ es))) r ∙ append_assoc (varint n) (flat_map ek (e.0 ∷ ks)) t)
     (λ free f faulty. key_laws.accepted_no_fault (flat_map ek (e.0 ∷ ks) ++ t) e.0 (flat_map ek ks ++ t) f
     (record { writable = w.each.0; allowed = a.allowed.0.each.0; begins = append_assoc (ek e.0) (flat_map ek ks) t }) faulty)

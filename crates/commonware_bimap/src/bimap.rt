@@ -164,8 +164,8 @@ impl<K: Ord, V: Eq + Hash, A: Allocator> BiMap<K, V, A> {
         self.map.iter_pairs()
     }
 
-    /// Returns the place of the key that equals the given one, or `None` where none does. It takes
-    /// O(log n) comparisons.
+    /// Returns the position of the key that equals the given one, or `None` where none does. It
+    /// takes O(log n) comparisons.
     pub fn position(&self, key: &K) -> Option<usize>
         ensures place { IsPlaceOf K.eq (keys_of self.now) key.now result }
         ensures only { (p : ℕ) → (result ≡ Some p) ↔ HasEqualAt K.eq (keys_of self.now) key.now p }
@@ -201,7 +201,7 @@ impl<K: Ord, V: Eq + Hash, A: Allocator> BiMap<K, V, A> {
     }
 }
 
-/// Returns the place of a value that equals the given one, or `None` where none does.
+/// Returns the position of a value that equals the given one, or `None` where none does.
 fn place_of<V: Eq>(values: &[V], value: &V) -> Option<usize>
     ensures { IsPlaceOf V.eq values.now value.now result }
 {

@@ -2,7 +2,8 @@
 ghost use Rattle.std.specs.Prelude.{ℤ, pos, SomeIff};
 ghost use Rattle.commonware_faults.specs.Counts.{IsU32, amount};
 
-/// A whole number of any type, signed or not, as a number of participants.
+/// A whole number of any type, signed or not, as a number of participants. Of the `i8` numbers 127
+/// is the count 127, and -1 is none.
 pub trait Count: Drop {
     /// The number that a value is.
     ghost number: { Self → ℤ };

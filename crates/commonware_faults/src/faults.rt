@@ -13,7 +13,8 @@ ghost use Rattle.commonware_faults.specs.Subsets.{Greatest3, Greatest5, LeastM, 
 use crate::count::Count;
 use crate::resilience::smaller_quorum;
 
-/// A fault model. Its numbers depend on the number of participants alone.
+/// A fault model. Its numbers depend on the number of participants alone: those of `N3f1` among 6
+/// are 1 faulty and a quorum of 5.
 pub trait Faults {
     /// How many of n participants may be faulty.
     ghost faults: { ℕ → ℕ };

@@ -3,7 +3,7 @@ use Rattle.std.proofs.Common.{◌≡◌, ℕ, zero, suc, ◌<◌, Bool, true, fa
 use Rattle.std.specs.Prelude.{◌↔◌, slice_get}
 use Rattle.std.specs.Map.{keys_of, values_of, lookup, set_value}
 use Rattle.std.proofs.lemmas.Option.{slice_get-get_or, same_Some}
-use Rattle.commonware_map.specs.Lends.{set_value_at}
+use Rattle.commonware_map.specs.Borrows.{set_value_at}
 
 -- r is the place of each item that passes, and of no other
 abbrev pub IsOnlyPlace : {X : Type 0} → (X → Bool) → List X → Option ℕ → Type 0

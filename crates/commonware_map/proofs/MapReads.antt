@@ -6,7 +6,7 @@ use Rattle.std.proofs.lemmas.List.{take-append-drop}
 use Rattle.std.proofs.lemmas.Map.Made.{keys_of-zip}
 use Rattle.commonware_base.specs.Fault.{Fault}
 use Rattle.commonware_base.specs.Lists.{list_enc, IsWritableList, IsAllowedList, IsListMemoryFree, ListFault, bad_varint, bad_length, bad_item, faulty_varint, outside, empty}
-use Rattle.commonware_base.specs.laws.ListLaws.{list_laws, list_wants_memory}
+use Rattle.commonware_base.specs.laws.ListLaws.{list_laws, list_needs_memory}
 use Rattle.commonware_base.specs.Range.{Bounds, exactly}
 use Rattle.commonware_base.specs.Sequence.{sequence_enc, IsWritableSequence, IsAllowedSequence}
 use Rattle.commonware_base.specs.Source.{Consumes, rest_of}
@@ -72,5 +72,5 @@ module _ {K V : Type 0} (ek : K → List ℕ) (WK AK : K → Type 0) (fk : List 
   keys_want_memory s t (k ∷ ks) w a e bytes wants =
       let n = length (k ∷ ks) in
       let rest = flat_map ek ks ++ t in
-      list_wants_memory fk mk range s n (flat_map ek (k ∷ ks) ++ t) w.short (omega arith) a.in_range (e ∙ append_assoc (varint n) (flat_map ek (k ∷ ks)) t)
+      list_needs_memory fk mk range s n (flat_map ek (k ∷ ks) ++ t) w.short (omega arith) a.in_range (e ∙ append_assoc (varint n) (flat_map ek (k ∷ ks)) t)
       (λ free f faulty. key_laws.accepted_no_fault (flat_map ek (k ∷ ks) ++ t) k rest f (record { writable = w.each.0; allowed = a.each.0; begins = append_assoc (ek k) (flat_map ek ks) t }) faulty)

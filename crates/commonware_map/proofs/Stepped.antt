@@ -7,7 +7,7 @@ use Rattle.std.specs.Map.Iter.{GivesInOrder, GivesInReverse, ShowsInOrder, Shows
 use Rattle.std.proofs.iter.runs.Sources.{as_is, as_is_back, from_back, from_front}
 use Rattle.std.proofs.lemmas.List.{length_push}
 use Rattle.std.proofs.lemmas.Slice.Zip.{length-zip}
-use Rattle.commonware_map.specs.PairsMut.{LendsInOrder, LendsInReverse, pairs_mut_left, pairs_mut_steps, pairs_mut_steps_back}
+use Rattle.commonware_map.specs.PairsMut.{BorrowsInOrder, BorrowsInReverse, pairs_mut_left, pairs_mut_steps, pairs_mut_steps_back}
 
 -- two lists of one length have as many pairs
 pub length_pairs : {K V : Type 0} (ks : List K) (vs : List V) → length vs ≡ length ks → length (zip ks vs) ≡ length ks
@@ -36,11 +36,11 @@ one_less before left pair e = omega (arith, ap length e, length_push left pair)
 
 module _ {K V : Type 0} where
   -- a run from the front borrows what was left
-  pub lent_in_order : LendsInOrder K V
+  pub lent_in_order : BorrowsInOrder K V
   lent_in_order = from_front pairs_mut_steps deref_pair_mut pairs_mut_left (λ s t h. ap length h.0.0) (λ s x t h. h.0)
 
   -- a run from the back borrows it in reverse
-  pub lent_in_reverse : LendsInReverse K V
+  pub lent_in_reverse : BorrowsInReverse K V
   lent_in_reverse = from_back pairs_mut_steps_back deref_pair_mut pairs_mut_left (λ s t h. ap length h.0.0) (λ s x t h. h.0)
 
 -- the steps of an iterator that is seen as what it has left

@@ -1,4 +1,4 @@
-pub mod Lends
+pub mod Borrows
 pub mod Maps
 pub mod Pairs
 pub mod PairsMut

@@ -126,8 +126,8 @@ impl<K: Ord, V, A: Allocator> Map<K, V, A> {
         self.keys().iter()
     }
 
-    /// Returns the place of the key that equals the given one, or `None` where none does. It takes
-    /// O(log n) comparisons.
+    /// Returns the position of the key that equals the given one, or `None` where none does. It
+    /// takes O(log n) comparisons.
     #[inline]
     pub fn position(&self, key: &K) -> Option<usize>
         ensures place { IsPlaceOf K.eq (keys_of self.now) key.now result }

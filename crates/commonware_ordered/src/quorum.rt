@@ -9,7 +9,8 @@ use commonware_base::Participant;
 use commonware_faults::Faults;
 use std::alloc::Allocator;
 
-/// A committee: its members in order, each with its index, and its numbers under a fault model.
+/// A committee: its members in order, each with its index, and its numbers under a fault model. In
+/// the set of 1, 3, 5 and 9 the key of index 2 is 5, and 4 has no index.
 pub trait Quorum {
     /// What the members are.
     type Item: Ord;

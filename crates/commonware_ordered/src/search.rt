@@ -1,5 +1,5 @@
-//! The place of an item in a strictly increasing list, searched branchless: no branch depends on a
-//! comparison.
+//! The position of an item in a strictly increasing list, searched branchless: no branch depends
+//! on a comparison.
 ghost use Rattle.std.specs.Prelude.{◌≡◌, ◌≤◌, ◌<◌, ◌+◌, ◌*◌, ℕ, true, length};
 ghost use Rattle.std.specs.List.{HoldsAt};
 ghost use Rattle.commonware_ordered.specs.Strict.{IsPlaceOf, IsStrict, IsWithin};
@@ -43,7 +43,8 @@ fn half<T: Ord>(items: &[T], base: usize, size: usize, window: usize, item: &T) 
     (base + step * reached(items, base + step, item), window)
 }
 
-/// Returns the one place of at most sixteen from `base` on where an item can equal the one sought.
+/// Returns the one position of at most sixteen from `base` on where an item can equal the one
+/// sought.
 ///
 /// Four halvings one after the other and no loop, so that a compiler makes no branch of a
 /// comparison.
@@ -66,7 +67,7 @@ fn last_steps<T: Ord>(items: &[T], base: usize, size: usize, item: &T) -> usize
 /// The most items for which the search halves rather than quarters.
 const FEW: usize = 16;
 
-/// Returns the place of the item that equals the one sought, or `None` where none does.
+/// Returns the position of the item that equals the one sought, or `None` where none does.
 ///
 /// Each step compares with the items at three places, which divide the list in four, and adds up
 /// the results: the next step depends on no branch that a processor could mispredict. It takes one
@@ -97,7 +98,7 @@ fn narrowed<T: Ord>(items: &[T], item: &T) -> Option<usize>
     }
 }
 
-/// Returns the same place, by halving the list.
+/// Returns the same position, by halving the list.
 #[inline]
 fn halved<T: Ord>(items: &[T], item: &T) -> Option<usize>
     requires { IsStrict T.cmp items.now }
@@ -116,8 +117,8 @@ const KEY: usize = 32;
 /// cache, so that three comparisons take as long as one.
 const NEAR: usize = 2048;
 
-/// Returns the same place. Narrow items, and a few keys, are compared three at a time until few are
-/// left; a list of other items is halved, since each of their comparisons is expensive.
+/// Returns the same position. Narrow items, and a few keys, are compared three at a time until few
+/// are left; a list of other items is halved, since each of their comparisons is expensive.
 #[inline(always)]
 pub(crate) fn place_of<T: Ord>(items: &[T], item: &T) -> Option<usize>
     requires { IsStrict T.cmp items.now }

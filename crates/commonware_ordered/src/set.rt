@@ -102,8 +102,8 @@ impl<T: Ord, A: Allocator> Set<T, A> {
         self.as_slice().iter()
     }
 
-    /// Returns the place of the item that equals the given one, or `None` where none does. It takes
-    /// O(log n) comparisons.
+    /// Returns the position of the item that equals the given one, or `None` where none does. It
+    /// takes O(log n) comparisons.
     #[inline(always)]
     pub fn position(&self, item: &T) -> Option<usize>
         ensures place { IsPlaceOf T.eq self.now item.now result }

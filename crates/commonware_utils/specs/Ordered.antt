@@ -8,15 +8,15 @@ pub use Rattle.commonware_bimap.specs.WholeBiMaps.{HasEqualKeys, HasEqualValues,
 pub use Rattle.commonware_bimap.specs.WholeBiMaps.{IsBiMapOfClones, IsRefusedBiMap, IsWholeBiMap}
 pub use Rattle.commonware_bimap.specs.WholeBiMaps.{IsWholeBiMapOfClones}
 pub use Rattle.commonware_ordered.specs.Dedup.{EqualsSameItems, HaveSameItems, IsDedup, IsKept}
-pub use Rattle.commonware_map.specs.Lends.{LendsValueAt, LendsValueOf, LendsValues, LendsValuesTo}
-pub use Rattle.commonware_map.specs.Lends.{map_row, set_value_at, set_values}
+pub use Rattle.commonware_map.specs.Borrows.{BorrowsValueAt, BorrowsValueOf, BorrowsValues, BorrowsValuesTo}
+pub use Rattle.commonware_map.specs.Borrows.{map_row, set_value_at, set_values}
 pub use Rattle.commonware_map.specs.Maps.{AreAllowedValues, IsAllowedMap, IsWritableMap, MapFault}
 pub use Rattle.commonware_map.specs.Maps.{columns, map_enc, map_size_bound}
 pub use Rattle.commonware_map.specs.Pairs.{GivesPairsOf, ShowsPairsOf, are_equal_pairs, is_equal_pair}
 pub use Rattle.commonware_map.specs.Pairs.{on_both, on_keys, pair_text}
 pub use Rattle.commonware_map.specs.laws.PairLaws.{both_equal}
 pub use Rattle.commonware_map.specs.laws.PairLaws.{pairs_respect_eq}
-pub use Rattle.commonware_map.specs.PairsMut.{CanStep, LendsInOrder, LendsInReverse}
+pub use Rattle.commonware_map.specs.PairsMut.{CanStep, BorrowsInOrder, BorrowsInReverse}
 pub use Rattle.commonware_map.specs.PairsMut.{pairs_mut_left, pairs_mut_name, pairs_mut_steps}
 pub use Rattle.commonware_map.specs.PairsMut.{pairs_mut_steps_back}
 pub use Rattle.commonware_ordered.specs.laws.SetPrefixLaws.{set_fault_determined}

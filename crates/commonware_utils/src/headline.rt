@@ -58,17 +58,17 @@ pub fn equal_bimaps<K: Ord + Canonical, V: Canonical + Hash, A: Allocator>()
 /// values within the limits, with anything after them.
 pub fn decode<'a, T: Read<A>, A: Allocator>(
     alloc: A,
-    text: &'a [u8],
+    input: &'a [u8],
     limits: &T::Cfg,
 ) -> Result<(T, &'a [u8]), Error>
     ensures accepted { IfOk result (λ p.
-        Accepts T.enc T.writable (T.allowed limits.now) text.now p.0 p.1.now) }
+        Accepts T.enc T.writable (T.allowed limits.now) input.now p.0 p.1.now) }
     ensures only { IfErr result (Refuses
         (λ _. (v : T) (rest : List ℕ)
-        → ¬ Accepts T.enc T.writable (T.allowed limits.now) text.now v rest)
-        (T.memory_free limits.now text.now)) }
+        → ¬ Accepts T.enc T.writable (T.allowed limits.now) input.now v rest)
+        (T.memory_free limits.now input.now)) }
 {
-    let mut source = Source::new(text);
+    let mut source = Source::new(input);
     let value = T::read_cfg(alloc, &mut source, limits)?;
     Ok((value, source.rest()))
 }

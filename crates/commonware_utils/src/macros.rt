@@ -1,4 +1,4 @@
-//! Numbers that aren't 0, and lists that are never empty, written out where they are used.
+//! Numbers that aren't 0, and non-empty lists, written out where they are used.
 
 /// The `NonZeroUsize` of a number, which isn't 0.
 #[macro_export]

@@ -1,5 +1,5 @@
 pub mod Closures
-pub mod Lends
+pub mod Borrows
 pub mod Mutate
 pub mod NonEmpty
 pub mod Queues

@@ -1,4 +1,4 @@
--- Why no list that is never empty was made.
+-- Why no non-empty list was made.
 use Rattle.std.specs.Prelude.{◌≡◌, ◌≤◌, Bool, List, MatchResult, Result, [], length, true}
 use Rattle.std.specs.List.{AllZip}
 use Rattle.commonware_vec.specs.declared.error.Error.{Error}

@@ -1,10 +1,10 @@
-//! Why no list that is never empty was made.
+//! Why no non-empty list was made.
 ghost use Rattle.std.specs.Prelude.{◌≡◌};
 ghost use Rattle.commonware_vec.specs.declared.error.Error.TheVariants.{Memory};
 
 use std::alloc::{AllocError, AllocFailed};
 
-/// Why no list that is never empty was made. A `Vec` without items gives `Empty`.
+/// Why no non-empty list was made. A `Vec` without items gives `Empty`.
 #[derive(Debug, PartialEq, Eq, Drop, thiserror::Error)]
 pub enum Error {
     /// There are no items.

@@ -1,4 +1,4 @@
-//! Lists that are never empty, and queues of a fixed capacity.
+//! Non-empty lists, and queues of a fixed capacity.
 #![tactic(auto)]
 
 mod bounded;

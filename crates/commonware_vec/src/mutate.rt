@@ -1,4 +1,4 @@
-//! The vector inside a list that is never empty, mutably borrowed as a whole.
+//! The vector inside a non-empty list, mutably borrowed as a whole.
 ghost use Rattle.std.specs.Prelude.{◌≡◌, ◌≤◌, length};
 ghost use Rattle.commonware_vec.specs.Mutate.{LeavesSome, ReturnsAtItems, TakesItems};
 

@@ -3,7 +3,7 @@ ghost use Rattle.std.specs.Prelude.{◌≡◌, ◌≤◌, ◌<◌, ◌-◌, ◌+
 ghost use Rattle.std.specs.Borrow.{sem};
 ghost use Rattle.std.specs.Int.NonZero.{non_zero_usize_get};
 ghost use Rattle.std.specs.List.{insert, remove};
-ghost use Rattle.commonware_vec.specs.Lends.{LendsItemAt, LendsItems};
+ghost use Rattle.commonware_vec.specs.Borrows.{BorrowsItemAt, BorrowsItems};
 
 mod builders;
 mod closures;
@@ -69,7 +69,7 @@ impl<T, A: Allocator> NonEmptyVec<T, A> {
 
     /// Returns a mutable borrow of the items in order.
     pub fn as_mut_slice(&mut self) -> &mut [T]
-        ensures* writes_back { sem 𝓛 (LendsItems T.row A.row A.Allocator self.entry result) }
+        ensures* writes_back { sem 𝓛 (BorrowsItems T.row A.row A.Allocator self.entry result) }
         ensures items { result.now ≡ self.old }
         ensures some { 1 ≤ length self.old }
     {
@@ -92,7 +92,7 @@ impl<T, A: Allocator> NonEmptyVec<T, A> {
 
     /// Returns a mutable borrow of the first item.
     pub fn first_mut(&mut self) -> &mut T
-        ensures* writes_back { sem 𝓛 (LendsItemAt T.row A.row A.Allocator self.entry 0 result) }
+        ensures* writes_back { sem 𝓛 (BorrowsItemAt T.row A.row A.Allocator self.entry 0 result) }
         ensures value { slice_get self.old 0 ≡ Some result.now }
     {
         &mut self.items[0]
@@ -101,7 +101,7 @@ impl<T, A: Allocator> NonEmptyVec<T, A> {
     /// Returns a mutable borrow of the last item.
     pub fn last_mut(&mut self) -> &mut T
         ensures* writes_back { sem 𝓛
-            (LendsItemAt T.row A.row A.Allocator self.entry (length self.old - 1) result) }
+            (BorrowsItemAt T.row A.row A.Allocator self.entry (length self.old - 1) result) }
         ensures value { slice_get self.old (length self.old - 1) ≡ Some result.now }
     {
         let last = self.items.len() - 1;

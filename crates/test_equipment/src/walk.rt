@@ -94,7 +94,7 @@ pub fn requests<C: Refusable>(alloc: Global, call: &C) -> Option<u64> {
 
 /// Whether the call makes at least `least` requests, or none where that is 0, and returns what it
 /// may where each is refused in turn.
-pub fn asks_for<C: Refusable>(alloc: Global, call: &C, least: u64) -> bool {
+pub fn makes_requests<C: Refusable>(alloc: Global, call: &C, least: u64) -> bool {
     match requests(alloc, call) {
         Some(asked) => asked >= least && (least > 0 || asked == 0),
         None => false,

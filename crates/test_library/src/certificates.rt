@@ -116,7 +116,7 @@ fn certificates_are_read_and_written(rt: HostRuntime) {
 }
 
 #[test]
-fn other_texts_are_refused(rt: HostRuntime) {
+fn other_inputs_are_refused(rt: HostRuntime) {
     for (bytes, error) in &REFUSED {
         assert!(rt; is_refused(rt.alloc(), bytes, error), "{bytes:?}");
     }
@@ -124,7 +124,7 @@ fn other_texts_are_refused(rt: HostRuntime) {
 
 /// Where a certificate is truncated, its fault is the end of the input, wherever it is truncated.
 #[test]
-fn beginnings_are_refused(rt: HostRuntime) {
+fn prefixes_are_refused(rt: HostRuntime) {
     for row in &ACCEPTED {
         let length = row.bytes.len().saturating_sub(row.left);
         for end in 0..length {

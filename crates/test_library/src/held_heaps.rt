@@ -38,7 +38,7 @@ fn is_that_of_the_keys(keys: Heap<'_>, values: Heap<'_>) -> Result<bool, Error> 
 }
 
 #[test]
-fn collections_answer_the_heap_that_they_hold(rt: HostRuntime) {
+fn collections_return_the_heap_that_they_hold(rt: HostRuntime) {
     let first = Refusing::<Global>::all_after(rt.alloc(), u64::MAX);
     let second = Refusing::<Global>::all_after(rt.alloc(), u64::MAX);
     assert!(rt; are_held(&first, &second) == Ok(true));

@@ -100,7 +100,7 @@ fn are_mapped(map: Map<u32, u32, Global>) -> Result<bool, MapError<u32>> {
 }
 
 #[test]
-fn many_values_are_answered_for(rt: HostRuntime) {
+fn many_values_are_mapped(rt: HostRuntime) {
     let pairs = pairs(rt.alloc()).expect(&rt, "memory");
     let map = Map::try_from_vec(pairs).expect(&rt, "memory");
     assert!(rt; are_mapped(map) == Ok(true));

@@ -22,17 +22,19 @@ mod large_calls;
 #[cfg(test)]
 mod large_inputs;
 #[cfg(test)]
-mod long_texts;
+mod long_displays;
 #[cfg(test)]
 mod many_at_once;
 #[cfg(test)]
-mod memory_free_texts;
+mod memory_free_inputs;
 #[cfg(test)]
 mod readings;
 #[cfg(test)]
 mod refused_bimaps;
 #[cfg(test)]
 mod refused_codec;
+#[cfg(test)]
+mod refused_displays;
 #[cfg(test)]
 mod refused_headline;
 #[cfg(test)]
@@ -47,8 +49,6 @@ mod refused_maps;
 mod refused_queues;
 #[cfg(test)]
 mod refused_sets;
-#[cfg(test)]
-mod refused_texts;
 #[cfg(test)]
 mod refused_unions;
 #[cfg(test)]

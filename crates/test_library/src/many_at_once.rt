@@ -8,7 +8,7 @@ use commonware_utils::codec::{EncodeSize, Error, RangeCfg, Read, Source, Write};
 use commonware_utils::ordered::Set;
 use std::alloc::{AllocError, Global};
 use test_equipment::Refusing;
-use test_equipment::walk::{Heap, Outcome, Refusable, asks_for, full, refused, requests};
+use test_equipment::walk::{Heap, Outcome, Refusable, full, makes_requests, refused, requests};
 
 /// How many items there are.
 const MANY: u32 = 5000;
@@ -232,7 +232,7 @@ impl<'r> Refusable for Listed<'r> {
 
 /// Lists and sets of many are written, read and cloned with each allocation failing in turn.
 #[test]
-fn lists_of_many_ask_for_little(rt: HostRuntime) {
+fn lists_of_many_require_little(rt: HostRuntime) {
     let rows = many_of_each(rt.alloc()).expect(&rt, "memory");
     for form in FORMS {
         for act in ACTS {
@@ -241,7 +241,7 @@ fn lists_of_many_ask_for_little(rt: HostRuntime) {
                 form,
                 act,
             };
-            assert!(rt; asks_for(rt.alloc(), &call, 1));
+            assert!(rt; makes_requests(rt.alloc(), &call, 1));
         }
     }
 }
@@ -282,7 +282,7 @@ fn is_cut_everywhere(alloc: Global, form: Form, list: &[u8]) -> bool {
 
 /// An input that ends too soon is refused without an allocation, wherever it ends.
 #[test]
-fn a_cut_text_asks_for_no_memory(rt: HostRuntime) {
+fn a_truncated_input_requires_no_memory(rt: HostRuntime) {
     let rows = many_of_each(rt.alloc()).expect(&rt, "memory");
     for form in FORMS {
         assert!(rt; is_cut_everywhere(rt.alloc(), form, form.list(&rows)));

@@ -4,7 +4,7 @@ use commonware_utils::ordered::{BiMap, Error, Map};
 use commonware_utils::{TryCollect, TryFromIterator};
 use std::alloc::Global;
 use test_equipment::Refusing;
-use test_equipment::walk::{Heap, Outcome, Refusable, asks_for, full, refused};
+use test_equipment::walk::{Heap, Outcome, Refusable, full, makes_requests, refused};
 
 /// A builder of bimaps.
 #[derive(Clone, Copy)]
@@ -118,7 +118,7 @@ fn is_right(alloc: Global, builder: Builder) -> bool {
             pairs,
             answer,
         };
-        if !asks_for(alloc, &call, 1) {
+        if !makes_requests(alloc, &call, 1) {
             return false;
         }
     }
@@ -130,7 +130,9 @@ fn each_request_is_refused_in_turn(rt: HostRuntime) {
     for (at, builder) in BUILDERS.iter().enumerate() {
         assert!(rt; is_right(rt.alloc(), *builder), "{at}");
     }
-    assert!(rt; asks_for(rt.alloc(), &IntoPairs, 1) && asks_for(rt.alloc(), &FromMap, 1));
+    assert!(rt;
+        makes_requests(rt.alloc(), &IntoPairs, 1) && makes_requests(rt.alloc(), &FromMap, 1)
+    );
 }
 
 /// Whether the map is refused by an allocation failure when it is made a bimap.

@@ -12,7 +12,7 @@ use commonware_utils::vec::NonEmptyVec;
 use std::alloc::{AllocError, Allocator, Global};
 use std::num::NonZeroUsize;
 use test_equipment::Refusing;
-use test_equipment::walk::{Heap, Outcome, Refusable, asks_for, full, refused, requests};
+use test_equipment::walk::{Heap, Outcome, Refusable, full, makes_requests, refused, requests};
 
 /// What is done with a value.
 #[derive(Clone, Copy)]
@@ -282,7 +282,7 @@ fn a_list_takes_one_request(rt: HostRuntime) {
 /// Whether each act on a value of the form makes at least this many allocations.
 fn acts_ask_for(alloc: Global, form: Form, least: [u64; 4]) -> bool {
     for (act, least) in ACTS.into_iter().zip(least) {
-        if !asks_for(alloc, &Call { form, act }, least) {
+        if !makes_requests(alloc, &Call { form, act }, least) {
             return false;
         }
     }
@@ -294,7 +294,7 @@ fn each_request_is_refused_in_turn(rt: HostRuntime) {
     for (at, (form, least)) in FORMS.iter().enumerate() {
         assert!(rt; acts_ask_for(rt.alloc(), *form, *least), "{at}");
     }
-    assert!(rt; asks_for(rt.alloc(), &ListRead, 3));
+    assert!(rt; makes_requests(rt.alloc(), &ListRead, 3));
 }
 
 /// A sink of `length` bytes.

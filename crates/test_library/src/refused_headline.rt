@@ -2,7 +2,7 @@
 use commonware_utils::codec::{Error, RangeCfg};
 use commonware_utils::headline::decode;
 use commonware_utils::ordered::Set;
-use test_equipment::walk::{Heap, Outcome, Refusable, asks_for, full, refused};
+use test_equipment::walk::{Heap, Outcome, Refusable, full, makes_requests, refused};
 
 /// The set of {}, {1, 2} and {7}, and a byte that is left.
 #[derive(Drop)]
@@ -27,5 +27,5 @@ impl Refusable for Decoding {
 
 #[test]
 fn a_refused_decoding_is_no_fault(rt: HostRuntime) {
-    assert!(rt; asks_for(rt.alloc(), &Decoding, 3));
+    assert!(rt; makes_requests(rt.alloc(), &Decoding, 3));
 }

@@ -4,7 +4,7 @@ use crate::builders::{BUILDERS, Builder};
 use crate::{refused_maps, refused_sets};
 use commonware_utils::ordered::{Error, Set};
 use test_equipment::Refusing;
-use test_equipment::walk::{Heap, Outcome, Refusable, asks_for, full, refused};
+use test_equipment::walk::{Heap, Outcome, Refusable, full, makes_requests, refused};
 
 /// An order of the numbers below 40.
 #[derive(Clone, Copy)]
@@ -99,7 +99,7 @@ fn each_request_of_a_set_is_refused_in_turn(rt: HostRuntime) {
     for (place, order) in ORDERS.into_iter().enumerate() {
         for (at, builder) in BUILDERS.into_iter().enumerate() {
             let call = SetOf(builder, order);
-            assert!(rt; asks_for(rt.alloc(), &call, 1), "{place} {at}");
+            assert!(rt; makes_requests(rt.alloc(), &call, 1), "{place} {at}");
         }
     }
 }
@@ -109,7 +109,7 @@ fn each_request_of_a_map_is_refused_in_turn(rt: HostRuntime) {
     for (place, order) in ORDERS.into_iter().enumerate() {
         for (at, builder) in BUILDERS.into_iter().enumerate() {
             let call = MapOf(builder, order);
-            assert!(rt; asks_for(rt.alloc(), &call, 1), "{place} {at}");
+            assert!(rt; makes_requests(rt.alloc(), &call, 1), "{place} {at}");
         }
     }
 }

@@ -4,7 +4,7 @@ use commonware_utils::NZUsize;
 use commonware_utils::ordered::{BiMap, Map, MapError, Set};
 use commonware_utils::vec::{Bounded, NonEmptyVec};
 use std::alloc::AllocError;
-use test_equipment::walk::{Heap, Outcome, Refusable, asks_for, full, refused};
+use test_equipment::walk::{Heap, Outcome, Refusable, full, makes_requests, refused};
 
 type Item<'a> = Vec<u8, Heap<'a>>;
 
@@ -246,7 +246,7 @@ fn each_request_is_refused_in_turn(rt: HostRuntime) {
         Build::ListOfSlice,
         Build::ListOfArray,
     ] {
-        assert!(rt; asks_for(alloc, &call, 4), "{call:?}");
+        assert!(rt; makes_requests(alloc, &call, 4), "{call:?}");
     }
     for call in [
         BuildPairs::MapOfSlice,
@@ -254,10 +254,10 @@ fn each_request_is_refused_in_turn(rt: HostRuntime) {
         BuildPairs::BiMapOfSlice,
         BuildPairs::BiMapOfArray,
     ] {
-        assert!(rt; asks_for(alloc, &call, 8), "{call:?}");
+        assert!(rt; makes_requests(alloc, &call, 8), "{call:?}");
     }
     for call in [MapValues::Mapped, MapValues::Tried] {
-        assert!(rt; asks_for(alloc, &call, 5), "{call:?}");
+        assert!(rt; makes_requests(alloc, &call, 5), "{call:?}");
     }
-    assert!(rt; asks_for(alloc, &Resize, 2) && asks_for(alloc, &QueueClone, 4));
+    assert!(rt; makes_requests(alloc, &Resize, 2) && makes_requests(alloc, &QueueClone, 4));
 }

@@ -1,11 +1,11 @@
-//! Lists that are never empty, with each of their allocations failing in turn: what was borrowed is
+//! Non-empty lists, with each of their allocations failing in turn: what was borrowed is
 //! as it was, what was pushed comes back, and a closure was called for no item. The calls that
 //! allocate nothing succeed.
 use commonware_utils::codec::EncodeSize;
 use commonware_utils::vec::{Error, Mutate, NonEmptyVec};
 use commonware_utils::{NZUsize, TryCollect, TryFromIterator, non_empty_vec};
 use test_equipment::Refusing;
-use test_equipment::walk::{Heap, Outcome, Refusable, asks_for, full, refused};
+use test_equipment::walk::{Heap, Outcome, Refusable, full, makes_requests, refused};
 
 type List<'a> = NonEmptyVec<u8, Heap<'a>>;
 
@@ -223,16 +223,22 @@ impl Refusable for Remake {
 #[test]
 fn each_request_is_refused_in_turn(rt: HostRuntime) {
     for (at, growth) in GROWTHS.iter().enumerate() {
-        assert!(rt; asks_for(rt.alloc(), growth, 1), "a longer list: {at}");
+        assert!(rt;
+            makes_requests(rt.alloc(), growth, 1),
+            "a longer list: {at}"
+        );
     }
     for (at, (call, items)) in MAKES.into_iter().enumerate() {
         assert!(rt;
-            asks_for(rt.alloc(), &Making(call, items), 1),
+            makes_requests(rt.alloc(), &Making(call, items), 1),
             "a list: {at}"
         );
     }
     for (at, call) in REMAKES.iter().enumerate() {
-        assert!(rt; asks_for(rt.alloc(), call, 1), "a list of another: {at}");
+        assert!(rt;
+            makes_requests(rt.alloc(), call, 1),
+            "a list of another: {at}"
+        );
     }
 }
 

@@ -6,7 +6,7 @@ use commonware_utils::ordered::{Error, Map, Set};
 use commonware_utils::{TryCollect, TryFromIterator};
 use std::alloc::AllocError;
 use test_equipment::Refusing;
-use test_equipment::walk::{Heap, Outcome, Refusable, asks_for, full, refused};
+use test_equipment::walk::{Heap, Outcome, Refusable, full, makes_requests, refused};
 
 /// Pairs of different keys.
 const PAIRS: [(u32, u8); 4] = [(5, 50), (1, 10), (9, 90), (3, 30)];
@@ -99,10 +99,10 @@ fn each_request_is_refused_in_turn(rt: HostRuntime) {
             pairs: REPEAT,
             answer: answer_of_repeat(builder),
         };
-        let right = asks_for(rt.alloc(), &four, 3) && asks_for(rt.alloc(), &repeat, 1);
+        let right = makes_requests(rt.alloc(), &four, 3) && makes_requests(rt.alloc(), &repeat, 1);
         assert!(rt; right, "{at}");
     }
-    assert!(rt; asks_for(rt.alloc(), &IntoPairs, 1));
+    assert!(rt; makes_requests(rt.alloc(), &IntoPairs, 1));
 }
 
 type Numbers<'a> = Map<u32, u8, Heap<'a>>;

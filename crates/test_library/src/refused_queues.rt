@@ -4,7 +4,7 @@ use commonware_utils::NZUsize;
 use commonware_utils::vec::Bounded;
 use std::collections::VecDeque;
 use test_equipment::Refusing;
-use test_equipment::walk::{Heap, Outcome, Refusable, asks_for, full, refused};
+use test_equipment::walk::{Heap, Outcome, Refusable, full, makes_requests, refused};
 
 /// Five items pushed into a queue for five. An item that comes back is pushed again.
 struct Pushes;
@@ -56,7 +56,7 @@ impl Refusable for Clones {
 
 #[test]
 fn each_request_is_refused_in_turn(rt: HostRuntime) {
-    assert!(rt; asks_for(rt.alloc(), &Pushes, 1) && asks_for(rt.alloc(), &Clones, 1));
+    assert!(rt; makes_requests(rt.alloc(), &Pushes, 1) && makes_requests(rt.alloc(), &Clones, 1));
 }
 
 /// Whether a full queue of 1, 2, 3 takes 4 and 5 for the first two, and gives the third.

@@ -6,7 +6,7 @@ use commonware_utils::ordered::{Error, Quorum, Set};
 use commonware_utils::{N3f1, N5f1, Participant, TryCollect, TryFromIterator};
 use std::alloc::Global;
 use test_equipment::Refusing;
-use test_equipment::walk::{Heap, Outcome, Refusable, asks_for, full, refused};
+use test_equipment::walk::{Heap, Outcome, Refusable, full, makes_requests, refused};
 
 /// Items, and the set of them if all differ.
 const ITEMS: [([u32; 5], &[u32], bool); 3] = [
@@ -69,7 +69,7 @@ fn is_right(alloc: Global, builder: Builder) -> bool {
                 Err(Error::DuplicateKey)
             },
         };
-        if !asks_for(alloc, &call, least) {
+        if !makes_requests(alloc, &call, least) {
             return false;
         }
     }

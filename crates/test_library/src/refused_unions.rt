@@ -1,6 +1,6 @@
 //! The unions of bytes with each allocation failing in turn.
 use commonware_utils::{union, union_unique};
-use test_equipment::walk::{Heap, Outcome, Refusable, asks_for, full, refused};
+use test_equipment::walk::{Heap, Outcome, Refusable, full, makes_requests, refused};
 
 /// A union of 1, 2, 3 and 4, 5, 6, with the length of the first ones before them or without.
 #[derive(Drop)]
@@ -39,6 +39,6 @@ impl Refusable for Union {
 #[test]
 fn a_refused_union_gives_nothing(rt: HostRuntime) {
     for union in UNIONS {
-        assert!(rt; asks_for(rt.alloc(), &union, 1), "{}", union.counted);
+        assert!(rt; makes_requests(rt.alloc(), &union, 1), "{}", union.counted);
     }
 }

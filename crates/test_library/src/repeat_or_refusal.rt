@@ -77,7 +77,7 @@ fn items_of(alloc: Global, first: &[u32], last: &[u32]) -> Result<Vec<u32>, Allo
 }
 
 #[test]
-fn a_refusal_before_the_first_repeat_is_told(rt: HostRuntime) {
+fn a_refusal_before_the_first_repeat_is_returned(rt: HostRuntime) {
     for (at, way) in WAYS.into_iter().enumerate() {
         let (error, refused, asked) = way.answer(rt.alloc(), &[5, 5, 7], 0);
         assert!(rt;
@@ -89,7 +89,7 @@ fn a_refusal_before_the_first_repeat_is_told(rt: HostRuntime) {
 
 /// The item that is repeated is the last, one of those in the midst, or the first.
 #[test]
-fn a_refusal_before_a_late_repeat_is_told(rt: HostRuntime) {
+fn a_refusal_before_a_late_repeat_is_returned(rt: HostRuntime) {
     for last in [MANY - 1, 50, 1] {
         let items = items_of(rt.alloc(), &[1, 2], &[last]).expect(&rt, "memory");
         for (at, way) in WAYS.into_iter().enumerate() {
@@ -101,7 +101,7 @@ fn a_refusal_before_a_late_repeat_is_told(rt: HostRuntime) {
 }
 
 #[test]
-fn a_repeat_before_the_first_refusal_is_told(rt: HostRuntime) {
+fn a_repeat_before_the_first_refusal_is_returned(rt: HostRuntime) {
     let items = items_of(rt.alloc(), &[5, 5], &[]).expect(&rt, "memory");
     for (at, way) in WAYS.into_iter().enumerate() {
         let (error, refused, _) = way.answer(rt.alloc(), &items, ROOMS);
@@ -146,7 +146,7 @@ fn no_room_is_made_for_what_follows_a_repeat(rt: HostRuntime) {
 }
 
 #[test]
-fn no_item_is_asked_for_after_a_repeat(rt: HostRuntime) {
+fn no_item_is_taken_after_a_repeat(rt: HostRuntime) {
     for start in STARTS {
         let items = items_of(rt.alloc(), start, &[]).expect(&rt, "memory");
         for (at, way) in WAYS.into_iter().enumerate() {

@@ -87,7 +87,7 @@ const SHORT: [(Form, &[u8], &[u8]); 10] = [
 
 /// Whether reading the form from the bytes returns this with little memory at once, and none is
 /// refused.
-fn comes_to(alloc: Global, form: Form, bytes: &[u8], wanted: (Option<Error>, usize)) -> bool {
+fn results_in(alloc: Global, form: Form, bytes: &[u8], wanted: (Option<Error>, usize)) -> bool {
     let heap = Refusing::above(alloc, MOST_BYTES);
     form.read(&heap, bytes) == wanted && !heap.has_refused()
 }
@@ -109,7 +109,7 @@ fn joined(
 fn is_short(alloc: Global, form: Form, before: &[u8], after: &[u8]) -> Result<bool, AllocError> {
     for stated in STATED {
         let bytes = joined(alloc, before, stated, after)?;
-        if !comes_to(alloc, form, &bytes, (Some(Error::EndOfBuffer), 0)) {
+        if !results_in(alloc, form, &bytes, (Some(Error::EndOfBuffer), 0)) {
             return Ok(false);
         }
     }
@@ -138,7 +138,7 @@ fn short_lists_are_accepted(rt: HostRuntime) {
         (Form::Lists, b"\x01\x09\x01\x02\x05\x06"),
     ] {
         assert!(rt;
-            comes_to(rt.alloc(), form, bytes, (None, bytes.len())),
+            results_in(rt.alloc(), form, bytes, (None, bytes.len())),
             "{bytes:?}"
         );
     }

@@ -1,4 +1,4 @@
-//! Module `vec`: the last votes, and lists that are never empty.
+//! Module `vec`: the last votes, and non-empty lists.
 ghost use Rattle.std.specs.Prelude.{◌≡◌, ◌*◌, ◌-◌, ◌<◌, ◌≤◌, ◌++◌, ◌∷◌, [], IfErr, IfOk, MatchResult, None, Some, drop, length, map, min, slice_get, take};
 
 use commonware_utils::vec::{Bounded, Error, Mutate, NonEmptyVec};

@@ -281,11 +281,11 @@ module _ {T : Type 0} (enc : T → List ℕ) (Writable : T → Type 0)
           ]
 
 -- A list whose first item is read, or needs an allocation, isn't memory-free.
-pub list_wants_memory :
+pub list_needs_memory :
     (item_fault : List ℕ → Fault → Type 0) (ItemMemoryFree : List ℕ → Type 0) (range : Bounds ℕ) (s : List ℕ) (n : ℕ)
     (r : List ℕ) → n < 2 ^ 32 → 0 < n → Within range n → s ≡ varint n ++ r
     → (ItemMemoryFree r → (f : Fault) → item_fault r f → ⊥) → ¬ IsListMemoryFree item_fault ItemMemoryFree range s
-list_wants_memory item_fault ItemMemoryFree range s n r h p i e none m = go m
+list_needs_memory item_fault ItemMemoryFree range s n r h p i e none m = go m
   where
     go : IsListMemoryFree item_fault ItemMemoryFree range s → ⊥
     go (faulty_varint f w) = varint_no_fault s n r f h e w

@@ -64,10 +64,10 @@ varint_fault_determined InvalidVarint s more h = (on, back)
 
     back : IsOverlongOrTooGreat (s ++ more) → IsOverlongOrTooGreat s
     back w =
-        let spelled = w.prefix ++ w.last ∷ [] in
+        let encoded = w.prefix ++ w.last ∷ [] in
         let short : length w.prefix ≤ 4 = elim w.wrong [ inl z ↦ z.2 | inr z ↦ omega (arith, z.0) ] in
-        let e : s ++ more ≡ spelled ++ w.rest = w.begins ∙ sym (append_assoc w.prefix (w.last ∷ []) w.rest) in
-        let c = cut spelled s more w.rest e (omega (arith, length-append w.prefix (w.last ∷ []))) in
+        let e : s ++ more ≡ encoded ++ w.rest = w.begins ∙ sym (append_assoc w.prefix (w.last ∷ []) w.rest) in
+        let c = cut encoded s more w.rest e (omega (arith, length-append w.prefix (w.last ∷ []))) in
         record {
           prefix = w.prefix;
           last = w.last;

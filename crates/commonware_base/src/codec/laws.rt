@@ -13,7 +13,7 @@ use std::alloc::Allocator;
 /// Each number below 2^32 has one varint encoding, the one that is written, and no other number
 /// has it.
 pub fn varint_law()
-    ensures spelled { (n : ℕ) → n < 2 ^ 32 → IsVarint n (varint n) }
+    ensures encoded { (n : ℕ) → n < 2 ^ 32 → IsVarint n (varint n) }
     ensures only { (n : ℕ) (bytes : List ℕ) → IsVarint n bytes → bytes ≡ varint n }
 {}
 

@@ -11,7 +11,7 @@ use crate::codec::error::Error;
 use crate::codec::source::Source;
 use std::alloc::{AllocError, Allocator};
 
-/// A type whose values have an encoding.
+/// A type whose values have an encoding. That of `UInt(128)` is `80 01`, so its size is 2.
 pub trait EncodeSize {
     /// The bytes of a value.
     ghost enc: { Self → List ℕ };
@@ -34,11 +34,12 @@ pub trait EncodeSize {
     /// The encodings are prefix-free: no encoding is a proper prefix of another.
     ghost prefix_free: { IsPrefixFree enc writable };
 
-    /// What is written is bytes.
+    /// An encoding is a list of bytes: numbers below 256.
     ghost text_of_bytes: { (v : Self) → writable v → AreBytes (enc v) };
 }
 
-/// A type whose values can be encoded: appended to a list of bytes.
+/// A type whose values can be encoded: appended to a list of bytes. The `u32` 1 is appended as
+/// `00 00 00 01`.
 pub trait Write<A: Allocator>: EncodeSize {
     /// Appends the encoding of the value, which has to be writable. After an allocation failure the
     /// sink is as it was.
@@ -48,11 +49,11 @@ pub trait Write<A: Allocator>: EncodeSize {
         ensures err { OnErr result (sink.new.items ≡ sink.old.items) };
 
     /// Appends the encodings of the items, one after another, and returns `Some`; each has to be
-    /// writable. After an allocation failure the sink is as it was. Or it does nothing and returns
-    /// `None`: then a caller writes them one by one by `write`, as the writer of lists does.
+    /// writable. After an allocation failure the sink is as it was. A type without a body of its
+    /// own does nothing and returns `None`: then a caller writes the items one by one by `write`,
+    /// as the writer of lists does.
     ///
-    /// A type need not have a body of its own: this one does nothing. Those of `u8` and `u32` write
-    /// all items into room that is reserved once.
+    /// The bodies that there are, as of `u8` and `u32`, reserve room once and write all items.
     #[inline(always)]
     fn write_at_once(items: &[Self], sink: &mut Vec<u8, A>) -> Option<Result<(), AllocError>>
     where
@@ -70,8 +71,10 @@ pub trait Write<A: Allocator>: EncodeSize {
     }
 }
 
-/// A bound on the number of bytes of a value.
+/// A bound on the length of a value's encoding, in bytes. It is 1 for `u8`, 4 for `u32` and 5 for
+/// `UInt`.
 pub trait MaxEncodeSize: EncodeSize {
+    /// The bound as a number of the logic.
     ghost MAX_ENCODE_SIZE: { ℕ };
 
     /// At least the length in bytes of every writable value's encoding.
@@ -81,7 +84,7 @@ pub trait MaxEncodeSize: EncodeSize {
     ghost bounded: { (v : Self) → Self.writable v → length (Self.enc v) ≤ MAX_ENCODE_SIZE };
 }
 
-/// A type whose values can be decoded.
+/// A type whose values can be decoded. From `80 01`, with any bytes after it, `UInt(128)` is read.
 pub trait Read<A: Allocator>: EncodeSize + Sized {
     /// The configuration that limits the values that are decoded.
     type Cfg;
@@ -108,11 +111,12 @@ pub trait Read<A: Allocator>: EncodeSize + Sized {
 
     /// Decodes the next `count` values. It returns them, or the first fault of one of them, or
     /// `Memory`, which comes only where the decoding isn't memory-free. What follows them is left.
-    /// After an error the source is where it was. Or it does nothing and returns `None`: then a
-    /// caller reads them one by one by `read_cfg`, as the reader of lists does.
+    /// After an error the source is where it was. A type without a body of its own does nothing and
+    /// returns `None`: then a caller reads the values one by one by `read_cfg`, as the reader of
+    /// lists does.
     ///
-    /// A type need not have a body of its own: this one does nothing. Those of `u8` and `u32`
-    /// reserve room for exactly `count`, once its bytes are known to be there.
+    /// The bodies that there are, as of `u8` and `u32`, reserve room for exactly `count`, once its
+    /// bytes are known to be there.
     #[inline(always)]
     fn read_at_once(
         alloc: A,
@@ -146,7 +150,9 @@ pub trait Read<A: Allocator>: EncodeSize + Sized {
 }
 
 /// A type whose encoding is canonical: writable values are equal exactly where their encodings are,
-/// and of two equal values both are writable or neither.
+/// and of two equal values both are writable or neither. The sets of `[1, 2]` and of `[2, 1]` are
+/// equal, and both have the encoding `02 01 02`.
 pub trait Canonical: EncodeSize + Eq {
+    /// The law.
     ghost canonical: { CanonicalLaws Self.enc Self.writable Self.eq };
 }

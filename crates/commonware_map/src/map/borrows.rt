@@ -3,7 +3,7 @@ ghost use Rattle.std.specs.Prelude.{◌≡◌, ◌<◌, length, slice_index_or};
 ghost use Rattle.std.specs.Borrow.{sem};
 ghost use Rattle.std.specs.Map.{lookup, values_of};
 ghost use Rattle.std.specs.Option.{option_copied_mut};
-ghost use Rattle.commonware_map.specs.Lends.{LendsValueAt, LendsValueOf, LendsValues};
+ghost use Rattle.commonware_map.specs.Borrows.{BorrowsValueAt, BorrowsValueOf, BorrowsValues};
 
 use super::Map;
 use std::alloc::Allocator;
@@ -12,7 +12,7 @@ impl<K: Ord, V, A: Allocator> Map<K, V, A> {
     /// Returns a mutable borrow of the value of the key that equals the given one, or `None` where
     /// none does. It takes O(log n) comparisons.
     pub fn get_value_mut(&mut self, key: &K) -> Option<&mut V>
-        ensures* writes_back { sem 𝓛 (LendsValueOf K.row V.row A.row
+        ensures* writes_back { sem 𝓛 (BorrowsValueOf K.row V.row A.row
             K.cmp K.eq K.partial_cmp A.Allocator self.entry (λ k. K.eq k key.now) result) }
         ensures value { option_copied_mut result ≡ lookup (λ k. K.eq k key.now) self.old }
     {
@@ -24,7 +24,7 @@ impl<K: Ord, V, A: Allocator> Map<K, V, A> {
 
     /// Returns a mutable borrow of the values in the order of their keys.
     pub fn values_mut(&mut self) -> &mut [V]
-        ensures* writes_back { sem 𝓛 (LendsValues K.row V.row A.row
+        ensures* writes_back { sem 𝓛 (BorrowsValues K.row V.row A.row
             K.cmp K.eq K.partial_cmp A.Allocator self.entry result) }
         ensures value { result.now ≡ values_of self.old }
     {
@@ -35,7 +35,7 @@ impl<K: Ord, V, A: Allocator> Map<K, V, A> {
     /// inside.
     fn value_mut(&mut self, index: usize) -> &mut V
         requires { index < length self.old }
-        ensures* writes_back { sem 𝓛 (LendsValueAt K.row V.row A.row
+        ensures* writes_back { sem 𝓛 (BorrowsValueAt K.row V.row A.row
             K.cmp K.eq K.partial_cmp A.Allocator self.entry index result) }
         ensures value { result.now ≡ slice_index_or (values_of self.old) index result.now }
     {

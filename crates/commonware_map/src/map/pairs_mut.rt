@@ -1,8 +1,8 @@
 //! The pairs of a map, whose values are mutably borrowed.
 ghost use Rattle.std.specs.Prelude.{◌≡◌, ◌<◌, ◌^◌, length};
 ghost use Rattle.std.specs.Borrow.{sem};
-ghost use Rattle.commonware_map.specs.Lends.{LendsValuesTo};
-ghost use Rattle.commonware_map.specs.PairsMut.{CanStep, LendsInOrder, LendsInReverse, pairs_mut_left, pairs_mut_name};
+ghost use Rattle.commonware_map.specs.Borrows.{BorrowsValuesTo};
+ghost use Rattle.commonware_map.specs.PairsMut.{CanStep, BorrowsInOrder, BorrowsInReverse, pairs_mut_left, pairs_mut_name};
 
 use super::Map;
 use crate::iterators::PairsMut;
@@ -12,13 +12,13 @@ impl<K: Ord, V, A: Allocator> Map<K, V, A> {
     /// Returns the pairs in the order of their keys, from both ends, with the exact number left.
     /// Each value may be written; keys and their number stay.
     pub fn iter_pairs_mut(&mut self) -> PairsMut<'_, K, V>
-        ensures* writes_back { sem 𝓛 (LendsValuesTo K.row V.row A.row
+        ensures* writes_back { sem 𝓛 (BorrowsValuesTo K.row V.row A.row
             K.cmp K.eq K.partial_cmp A.Allocator self.entry (pairs_mut_name result)) }
         ensures ready { CanStep result }
         ensures pairs { pairs_mut_left result ≡ self.old }
         ensures bound { length self.old < 2 ^ 64 }
-        ensures runs { LendsInOrder K V }
-        ensures runs_back { LendsInReverse K V }
+        ensures runs { BorrowsInOrder K V }
+        ensures runs_back { BorrowsInReverse K V }
     {
         PairsMut::new(self.keys.as_slice(), self.values.as_mut_slice())
     }

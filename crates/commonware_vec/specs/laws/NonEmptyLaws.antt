@@ -1,4 +1,4 @@
--- A list that is never empty keeps the laws that its items keep.
+-- A non-empty list keeps the laws that its items keep.
 use Rattle.std.specs.Prelude.{◌≡◌, ◌≤◌, ◌⊎◌, ℕ, List, [], ◌∷◌, ◌++◌, Bool, length, refl}
 use Rattle.std.proofs.Common.{ap, arith, inl, inr, subst, sym, ◌∙◌}
 use Rattle.std.specs.Cmp.Lexicographic.{pointwise}
@@ -55,8 +55,8 @@ module _ {T : Type 0} (enc : T → List ℕ) (Writable : T → Type 0) (prefix_f
       }
 
   -- a list with an item isn't encoded as the empty one
-  not_spelled_empty : (v : List T) → IsWritableNonEmpty Writable v → list_enc enc v ≡ list_enc enc [] → ⊥
-  not_spelled_empty v p e =
+  not_encoded_empty : (v : List T) → IsWritableNonEmpty Writable v → list_enc enc v ≡ list_enc enc [] → ⊥
+  not_encoded_empty v p e =
       let none : length v ≡ 0 =
       (split_count enc Writable prefix_free v [] [] [] p.list (empty_writable Writable) (ap (λ u. u ++ []) e)).0 in
       omega (arith, none, p.some)
@@ -88,7 +88,7 @@ module _ {T : Type 0} (enc : T → List ℕ) (Writable : T → Type 0) (prefix_f
           allowed = record { in_range = w.in_range; each = tt };
           begins = w.begins ∙ empty_begins enc w.rest;
         },
-        not_spelled_empty,
+        not_encoded_empty,
       );
       faults = λ s f. (
         (λ w. elim w [ bad_list v ↦ inl v | no_items e v ↦ inr (e, v) ]),
@@ -105,7 +105,7 @@ module _ {T : Type 0} (enc : T → List ℕ) (Writable : T → Type 0) (prefix_f
     non_empty_one_case s f g (no_items d v) (bad_list w) = absurd (broken_no_fault as_list non_emptiness s g v w)
     non_empty_one_case s f g (no_items d v) (no_items e w) = refl
 
-    -- the laws of the encodings of lists that are never empty
+    -- the laws of the encodings of non-empty lists
     pub non_empty_laws :
         ReadLaws (list_enc enc) (IsWritableNonEmpty Writable) (IsAllowedList range Allowed)
         (NonEmptyFault enc Writable Allowed item_fault range)

@@ -1,4 +1,4 @@
-//! Builders of lists that are never empty.
+//! Builders of non-empty lists.
 ghost use Rattle.std.specs.Prelude.{◌≡◌, ◌∷◌, [], MatchResult};
 ghost use Rattle.commonware_vec.specs.Refusals.{IsAll, IsRefusedForDrawn, IsWholeOfClones};
 ghost use Rattle.commonware_vec.specs.declared.error.Error.TheVariants.{Empty, Memory};

@@ -1,4 +1,4 @@
-//! Lists that are never empty, whose items a closure makes.
+//! Non-empty lists, whose items a closure makes.
 ghost use Rattle.std.specs.Prelude.{◌≡◌, ◌+◌, ◌-◌, ◌≤◌, IfErr, IfOk, IsOk, OnOk, length, take};
 ghost use Rattle.std.specs.Fn.{CalledAt, TakesAt};
 ghost use Rattle.std.specs.Int.NonZero.{non_zero_usize_get};
@@ -67,13 +67,13 @@ impl<T: Drop, A: Allocator> NonEmptyVec<T, A> {
             return Ok(());
         }
         self.items.reserve(len - before)?;
-        push_answers(&mut self.items, len - before, f);
+        push_results(&mut self.items, len - before, f);
         Ok(())
     }
 }
 
 /// Appends what `f` returns, called `count` times. It requires that there is room.
-fn push_answers<T, A: Allocator, F: FnMut() -> T>(items: &mut Vec<T, A>, count: usize, mut f: F)
+fn push_results<T, A: Allocator, F: FnMut() -> T>(items: &mut Vec<T, A>, count: usize, mut f: F)
     requires room { vec_len items.old + count ≤ vec_capacity items.old }
     requires callable { CallableTimes F.FnMut f count }
     ensures { AppendsAnswers F.FnMut f count items.old.items items.new.items }

@@ -1,4 +1,4 @@
-//! The encoding of a list that is never empty, which is that of the list of its items.
+//! The encoding of a non-empty list, which is that of the list of its items.
 ghost use Rattle.std.specs.Prelude.{◌≡◌, ℕ, List};
 ghost use Rattle.commonware_base.specs.Fault.{Fault};
 ghost use Rattle.commonware_base.specs.laws.ListLaws.{list_bytes};

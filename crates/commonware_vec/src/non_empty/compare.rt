@@ -1,4 +1,4 @@
-//! Equality, order, hash, clones and the debug text of lists that are never empty: those of lists.
+//! Equality, order, hash, clones and the debug text of non-empty lists: those of lists.
 ghost use Rattle.std.specs.Cmp.Lexicographic.{lists_agrees, lists_equiv, lists_per, lists_po, lists_ties, lists_total, pointwise, slice_cmp, slice_partial_cmp};
 ghost use Rattle.std.specs.Hash as fed;
 ghost use Rattle.std.specs.Hash.{items_Alike};

@@ -1,9 +1,9 @@
-//! Iterators over lists that are never empty.
+//! Iterators over non-empty lists.
 ghost use Rattle.std.specs.Prelude.{◌≤◌, length};
 ghost use Rattle.std.specs.Borrow.{sem};
 ghost use Rattle.std.specs.Slice.Iter.{iter_mut_name};
 ghost use Rattle.commonware_base.specs.Given.{HandsOver, LetsWrite, Shows};
-ghost use Rattle.commonware_vec.specs.Lends.{LendsItemsTo};
+ghost use Rattle.commonware_vec.specs.Borrows.{BorrowsItemsTo};
 
 use super::NonEmptyVec;
 use std::alloc::Allocator;
@@ -46,7 +46,7 @@ impl<'a, T, A: Allocator> IntoIterator for &'a mut NonEmptyVec<T, A> {
     /// Returns mutable borrows of the items in order, from both ends, with the exact number left.
     fn into_iter(self) -> slice::IterMut<'a, T>
         ensures* writes_back { sem 𝓛
-            (LendsItemsTo T.row A.row A.Allocator self.entry (iter_mut_name result)) }
+            (BorrowsItemsTo T.row A.row A.Allocator self.entry (iter_mut_name result)) }
         ensures into_iter_gives { LetsWrite self.old result × (1 ≤ length self.old) }
     {
         self.as_mut_slice().iter_mut()

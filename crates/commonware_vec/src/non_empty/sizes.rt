@@ -1,4 +1,4 @@
-//! Lists that are never empty, made longer and shorter.
+//! Non-empty lists, made longer and shorter.
 ghost use Rattle.std.specs.Prelude.{◌≡◌, ◌≤◌, ◌++◌, IfErr, IsOk, OnOk, length, take};
 ghost use Rattle.std.specs.Int.NonZero.{non_zero_usize_get};
 ghost use Rattle.std.specs.Iterator.{IsFiniteIterable};

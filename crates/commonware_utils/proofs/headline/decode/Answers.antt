@@ -6,7 +6,7 @@ use Rattle.commonware_utils.proofs.headline.decode.Goals as goal
 pub returns-in_err-value-clause-only : goal.returns-in_err-value-clause-only
 returns-in_err-value-clause-only g c =
     let limits = c.args.limits.now in
-    let text = c.args.text.now in
+    let text = c.args.input.now in
     let laws = g.met.T.Read.read_laws c.args.alloc limits in
     err_along c.from_residual.result c.in_err-value.field-0.0 _ c.from_residual.ensures.1
     (refuses_from (g.T.Read.fault limits text)

@@ -1,7 +1,7 @@
 //! Bimaps: what is built and refused, look-ups from both sides, texts, and what is written and
 //! read.
 use crate::TryFromIterator;
-use crate::bench::rows::map_pairs::{gives, lends};
+use crate::bench::rows::map_pairs::{borrows, gives};
 use crate::bench::rows::sets::UNSORTED;
 use crate::bench::{are_equal, is_debugged_as, is_shown_as, is_written_as, read, refuses};
 use crate::codec::{self, RangeCfg, round_trip};
@@ -61,7 +61,7 @@ fn test_bimap_duplicate_value_error(rt: HostRuntime) {
 }
 
 /// Whether the pair is at the place, by each look-up.
-fn stands_at(bimap: &BiMap<u8, char, Global>, place: usize, key: u8, value: char) -> bool {
+fn is_at(bimap: &BiMap<u8, char, Global>, place: usize, key: u8, value: char) -> bool {
     bimap.get_value(&key) == Some(&value)
         && bimap.get(place) == Some(&key)
         && bimap.value(place) == Some(&value)
@@ -78,7 +78,7 @@ fn test_bimap_no_duplicate_values(rt: HostRuntime) {
             && bimap.values() == ['a', 'b', 'c'].as_slice()
     );
     for (place, key, value) in [(0usize, 1u8, 'a'), (1, 2, 'b'), (2, 3, 'c')] {
-        assert!(rt; stands_at(&bimap, place, key, value));
+        assert!(rt; is_at(&bimap, place, key, value));
     }
 }
 
@@ -146,8 +146,8 @@ fn test_pair_iterators(rt: HostRuntime) {
         (true, None, 0),
     ];
     assert!(rt;
-        lends(bimap.iter_pairs(), 3, &steps)
-            && lends((&bimap).into_iter(), 3, &[(true, Some((&3, &30)), 2)])
+        borrows(bimap.iter_pairs(), 3, &steps)
+            && borrows((&bimap).into_iter(), 3, &[(true, Some((&3, &30)), 2)])
             && gives(bimap.into_iter(), 3, &[(true, Some((3, 30)), 2)])
     );
 }
@@ -190,7 +190,7 @@ fn bimaps_are_written_as_maps_and_in_lists(rt: HostRuntime) {
 
 /// Under any range, and under one that all of them keep.
 #[test]
-fn texts_that_are_no_bimap_are_refused(rt: HostRuntime) {
+fn inputs_that_are_no_bimap_are_refused(rt: HostRuntime) {
     for range in [RangeCfg::from(..), RangeCfg::from(0..=10)] {
         assert!(rt; refuses::<BiMap<u8, u8, _>, _>(rt.alloc(), &(range, (), ()), &NO_BIMAPS));
     }

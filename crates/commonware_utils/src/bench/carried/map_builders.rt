@@ -86,7 +86,7 @@ fn test_map_try_from_iter_duplicate(rt: HostRuntime) {
 }
 
 /// Whether an array, and a reference to it, give the map of these parts.
-fn arrays_answer<const N: usize>(
+fn arrays_make<const N: usize>(
     alloc: Global,
     pairs: [(u8, char); N],
     parts: Option<(&[u8], &[char])>,
@@ -102,9 +102,9 @@ fn arrays_are_cloned_into_maps(rt: HostRuntime) {
         [(2, 'a'), (1, 'b'), (2, 'c')],
     );
     assert!(rt;
-        arrays_answer(rt.alloc(), pairs, Some((&[1, 2, 3], &['a', 'b', 'c'])))
-            && arrays_answer(rt.alloc(), repeated, None)
-            && arrays_answer(rt.alloc(), [], Some((&[], &[])))
+        arrays_make(rt.alloc(), pairs, Some((&[1, 2, 3], &['a', 'b', 'c'])))
+            && arrays_make(rt.alloc(), repeated, None)
+            && arrays_make(rt.alloc(), [], Some((&[], &[])))
     );
 }
 

@@ -184,7 +184,7 @@ fn values_may_be_sets(rt: HostRuntime) {
 }
 
 #[test]
-fn texts_that_are_no_map_are_refused(rt: HostRuntime) {
+fn inputs_that_are_no_map_are_refused(rt: HostRuntime) {
     let any = (RangeCfg::from(..), (), ());
     assert!(rt; refuses::<Map<u8, u8, _>, _>(rt.alloc(), &any, &NO_MAPS));
 }

@@ -357,7 +357,7 @@ fn add_ten(list: &mut NonEmptyVec<u8, Global>) {
 }
 
 /// Whether 1, 2 and 3 are borrowed, from both ends.
-fn lends(list: &NonEmptyVec<u8, Global>) -> bool {
+fn borrows(list: &NonEmptyVec<u8, Global>) -> bool {
     sum_of(list) == 6
         && list.into_iter().eq([1, 2, 3].iter())
         && list.into_iter().rev().eq([3, 2, 1].iter())
@@ -366,7 +366,7 @@ fn lends(list: &NonEmptyVec<u8, Global>) -> bool {
 #[test]
 fn test_iterators(rt: HostRuntime) {
     let mut v = one_two_three(&rt, rt.alloc());
-    assert!(rt; lends(&v));
+    assert!(rt; borrows(&v));
     double(&mut v);
     assert!(rt; has(&v, &[2, 4, 6]));
     add_ten(&mut v);

@@ -43,7 +43,7 @@ const NUMBERS: [(u32, (u32, u32), (u32, u32)); 4] = [
 ];
 
 #[test]
-fn both_models_answer_their_numbers(rt: HostRuntime) {
+fn both_models_return_their_numbers(rt: HostRuntime) {
     for (n, thirds, fifths) in NUMBERS {
         let (n3f1, n5f1) = fault_numbers(n);
         assert!(rt; (n3f1.max_faults, n3f1.quorum) == thirds, "{n}");

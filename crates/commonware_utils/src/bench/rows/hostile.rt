@@ -44,7 +44,7 @@ const NO_SETS_OF_SHORT_SETS: [(&[u8], Error); 1] = [(b"\x02\x00\x02", Error::Inv
 /// An input that is no map to sets: the set beside the one key repeats its item.
 const NO_MAPS_TO_SETS: [(&[u8], Error); 1] = [(b"\x01\x05\x01\x02\x03\x03", UNSORTED)];
 
-/// Inputs that are no list of lists that are never empty: an inner list is empty, alone or before a
+/// Inputs that are no list of non-empty lists: an inner list is empty, alone or before a
 /// truncation, or is truncated.
 const NO_FULL_LISTS: [(&[u8], Error); 3] = [
     (b"\x02\x01\x07\x00", EMPTY),
@@ -64,7 +64,7 @@ fn nothing_is_reserved_for_a_stated_length(rt: HostRuntime) {
 }
 
 #[test]
-fn texts_that_are_no_set_of_numbers_are_refused(rt: HostRuntime) {
+fn inputs_that_are_no_set_of_numbers_are_refused(rt: HostRuntime) {
     let any = (RangeCfg::from(..), ());
     assert!(rt;
         refuses::<Set<Participant, _>, _>(rt.alloc(), &any, &NO_SETS_OF_PARTICIPANTS)

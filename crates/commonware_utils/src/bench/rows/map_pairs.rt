@@ -12,7 +12,7 @@ pub(in crate::bench) fn tens(rt: &impl Abort, alloc: Global) -> Map<u8, u8, Glob
 
 /// Whether there are `count` pairs at first, and each step, from the back where that is said, gives
 /// the pair beside it and leaves this many.
-pub(in crate::bench) fn lends(
+pub(in crate::bench) fn borrows(
     mut pairs: Pairs<'_, u8, u8>,
     count: usize,
     steps: &[(bool, Option<(&u8, &u8)>, usize)],
@@ -132,14 +132,14 @@ fn test_pair_iterators(rt: HostRuntime) {
         (true, None, 0),
     ];
     assert!(rt;
-        lends(map.iter_pairs(), 3, &steps)
+        borrows(map.iter_pairs(), 3, &steps)
             && adds_keys(&mut map)
             && map.values() == [11, 22, 33].as_slice()
     );
 }
 
 #[test]
-fn the_number_left_is_told(rt: HostRuntime) {
+fn the_number_left_is_returned(rt: HostRuntime) {
     let mut map = tens(&rt, rt.alloc());
     let mut lent = map.iter_pairs_mut();
     let _ = lent.next();

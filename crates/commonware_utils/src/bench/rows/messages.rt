@@ -27,7 +27,7 @@ const OF_VALUES: [(MapError<u8>, &str); 2] = [
     (MapError::Closure(7), "the closure failed"),
 ];
 
-/// Errors of lists that are never empty.
+/// Errors of non-empty lists.
 const OF_LISTS: [(vec::Error, &str); 2] = [
     (
         vec::Error::Empty,

@@ -1,4 +1,4 @@
-//! Lists that are never empty, and bounded queues: rows and vectors.
+//! Non-empty lists, and bounded queues: rows and vectors.
 use crate::bench::{are_equal, are_ordered, is_debugged_as, is_written_as, refuses};
 use crate::codec::{Error as CodecError, RangeCfg};
 use crate::ordered::{Map, Set};
@@ -122,7 +122,7 @@ fn empty_lists_are_refused_by_their_range_first(rt: HostRuntime) {
 }
 
 #[test]
-fn what_stands_inside_is_changed(rt: HostRuntime) {
+fn what_is_inside_is_changed(rt: HostRuntime) {
     let mut v = non_empty_vec!(rt.alloc() => 3u8, 1, 2, 1).expect(&rt, "memory");
     let left = v.mutate(|items| {
         items.truncate(2);

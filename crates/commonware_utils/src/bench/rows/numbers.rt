@@ -35,7 +35,7 @@ const NO_VARINTS: [(&[u8], Error); 8] = [
 ];
 
 #[test]
-fn varints_are_written_and_read_and_other_spellings_refused(rt: HostRuntime) {
+fn varints_are_written_and_read_and_overlong_ones_refused(rt: HostRuntime) {
     let alloc = rt.alloc();
     varint_law();
     for (number, bytes) in VARINTS {

@@ -40,7 +40,7 @@ fn repeats_are_refused_by_each_builder(rt: HostRuntime) {
 }
 
 /// Whether an array, and a reference to it, give the set of these items.
-fn arrays_answer<const N: usize>(alloc: Global, list: [u8; N], items: Option<&[u8]>) -> bool {
+fn arrays_make<const N: usize>(alloc: Global, list: [u8; N], items: Option<&[u8]>) -> bool {
     answers(Set::try_from_array_ref(alloc, &list), items)
         && answers(Set::try_from_array(alloc, list), items)
 }
@@ -48,9 +48,9 @@ fn arrays_answer<const N: usize>(alloc: Global, list: [u8; N], items: Option<&[u
 #[test]
 fn arrays_are_cloned_into_sets(rt: HostRuntime) {
     assert!(rt;
-        arrays_answer(rt.alloc(), [3, 1, 2, 2], None)
-            && arrays_answer(rt.alloc(), [3, 1, 2], Some(&[1, 2, 3]))
-            && arrays_answer(rt.alloc(), [], Some(&[]))
+        arrays_make(rt.alloc(), [3, 1, 2, 2], None)
+            && arrays_make(rt.alloc(), [3, 1, 2], Some(&[1, 2, 3]))
+            && arrays_make(rt.alloc(), [], Some(&[]))
     );
 }
 

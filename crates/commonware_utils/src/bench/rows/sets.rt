@@ -90,7 +90,7 @@ fn sets_are_written_as_their_lists(rt: HostRuntime) {
 }
 
 #[test]
-fn texts_that_are_no_set_are_refused(rt: HostRuntime) {
+fn inputs_that_are_no_set_are_refused(rt: HostRuntime) {
     let alloc = rt.alloc();
     let (any, few, none) = (
         RangeCfg::from(..),

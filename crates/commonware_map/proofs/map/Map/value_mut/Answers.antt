@@ -1,5 +1,5 @@
 use Rattle.std.proofs.Common.{refl, ap, subst, ◌∙◌, ◌≡◌, get_or, arith}
-use Rattle.commonware_map.specs.Lends.{set_value_at}
+use Rattle.commonware_map.specs.Borrows.{set_value_at}
 use Rattle.commonware_map.proofs.Columns.{opened, zip-set_value_at}
 use Rattle.commonware_map.proofs.map.Map.value_mut.Goals as goal
 

@@ -18,6 +18,6 @@ returns-then-len-before-clause-items g c =
 
 pub returns-clause-len : goal.returns-clause-len
 returns-clause-len g c =
-    let pushed = c.push_answers.ensures in
+    let pushed = c.push_results.ensures in
     let count = length_answers (CalledWithNothing g.F.FnMut) _ _ _ pushed.2 in
     omega (arith, ap length pushed.1, length-append c.reserve.new.self.items pushed.0, count, length-replicate (c.get-len.result - c.len-before.result) (tt {0}), c.get-len.ensures.value, c.if-len-before.false, c.len-before.ensures, ap length c.in_ok-reserve.ensures.items, c.self.inside.items.ok.0)

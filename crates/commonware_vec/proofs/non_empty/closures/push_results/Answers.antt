@@ -2,7 +2,7 @@ use Rattle.std.proofs.Common.{◌-◌, ◌∷◌, ◌++◌, [], ap, append_assoc
 use Rattle.commonware_base.specs.laws.CallLaws.{so_far_more}
 use Rattle.commonware_vec.specs.Closures.{CalledWithNothing}
 use Rattle.commonware_vec.proofs.Repeats.{replicate_first}
-use Rattle.commonware_vec.proofs.non_empty.closures.push_answers.Goals as goal
+use Rattle.commonware_vec.proofs.non_empty.closures.push_results.Goals as goal
 
 pub loop-left-preserved : goal.loop-left-preserved
 loop-left-preserved g c =

@@ -2,7 +2,7 @@ use Rattle.std.proofs.Common.{◌≡◌, ◌+◌, ◌≤◌, ◌++◌, List, rep
 use Rattle.std.specs.Vec.{vec_capacity, vec_len}
 use Rattle.commonware_base.specs.laws.CallLaws.{CallsSoFar}
 use Rattle.commonware_vec.specs.Closures.{CalledWithNothing}
-use Rattle.commonware_vec.proofs.non_empty.closures.push_answers.Given as goal
+use Rattle.commonware_vec.proofs.non_empty.closures.push_results.Given as goal
 
 abbrev pub invariant-loop-left : goal.invariant-loop-left
 invariant-loop-left g l = record {

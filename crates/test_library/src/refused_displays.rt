@@ -2,7 +2,7 @@
 use commonware_utils::TryFromIterator;
 use commonware_utils::ordered::{BiMap, Error, Map, Set};
 use std::fmt::{Debug, Display};
-use test_equipment::walk::{Heap, Outcome, Refusable, asks_for, full, refused};
+use test_equipment::walk::{Heap, Outcome, Refusable, full, makes_requests, refused};
 
 /// What is shown.
 #[derive(Clone, Copy)]
@@ -79,6 +79,6 @@ impl Refusable for Shown {
 #[test]
 fn each_request_is_refused_in_turn(rt: HostRuntime) {
     for (at, shown) in SHOWN.iter().enumerate() {
-        assert!(rt; asks_for(rt.alloc(), shown, 1), "{at}");
+        assert!(rt; makes_requests(rt.alloc(), shown, 1), "{at}");
     }
 }
