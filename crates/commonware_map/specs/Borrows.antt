@@ -1,6 +1,6 @@
 -- What a map is once a mutable borrow of its values has ended.
 use Rattle.std.specs.Prelude.{ℕ, zero, suc, Bool, Option, List, [], ◌∷◌, length, zip}
-use Rattle.std.specs.Borrow.{Fml, GName, RattleType, MutBor, Array, Borrows, BorrowsIf, follows}
+use Rattle.std.specs.Borrow.{Fml, GName, RattleType, MutBor, Array, Lends, LendsIf, follows}
 use Rattle.std.specs.List.{refill}
 use Rattle.std.specs.Map.{keys_of, set_value, values_of}
 use Rattle.std.specs.declared.alloc.Allocator as alloc
@@ -27,15 +27,15 @@ module _ (K V A : RattleType) (cmp : K.Denot → K.Denot → Ordering) (eq : K.D
   module _ (m : MutBor (List (K.Denot × V.Denot))) where
     -- the value at the position is what was last written through r
     abbrev pub BorrowsValueAt : ℕ → MutBor V.Denot → Fml
-    BorrowsValueAt i r = Borrows map_row V m r (λ w. set_value_at m.now i w)
+    BorrowsValueAt i r = Lends map_row V m r (λ w. set_value_at m.now i w)
 
     -- the value of the key that passes the test is what was last written through r; at `None` the map stays as it is
     abbrev pub BorrowsValueOf : (K.Denot → Bool) → Option (MutBor V.Denot) → Fml
-    BorrowsValueOf test r = BorrowsIf map_row V m r (λ w. set_value test m.now w) m.now
+    BorrowsValueOf test r = LendsIf map_row V m r (λ w. set_value test m.now w) m.now
 
     -- the values are those last written through r
     abbrev pub BorrowsValues : MutBor (List V.Denot) → Fml
-    BorrowsValues r = Borrows map_row (Array V 0) m r (λ ws. set_values m.now ws)
+    BorrowsValues r = Lends map_row (Array V 0) m r (λ ws. set_values m.now ws)
 
     -- the same of the mutable borrow with this name
     abbrev pub BorrowsValuesTo : GName → Fml

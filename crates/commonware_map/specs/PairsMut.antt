@@ -2,7 +2,7 @@
 use Rattle.std.specs.Prelude.{◌≡◌, List, Option, length, zip}
 use Rattle.std.specs.Borrow.{Bor, GName, MutBor}
 use Rattle.std.specs.Iterator.Runs.{EveryRun, ItemsMapTo, ItemsMapToReversed}
-use Rattle.std.specs.Map.Iter.{BorrowsFirst, BorrowsLast, deref_pair_mut}
+use Rattle.std.specs.Map.Iter.{LendsFirst, LendsLast, deref_pair_mut}
 use Rattle.std.specs.Slice.Iter as slice
 use Rattle.commonware_map.specs.declared.iterators.pairs_mut.PairsMut.{PairsMut}
 
@@ -21,11 +21,11 @@ module _ {K V : Type 0} where
 
   -- `next` returns the first pair that is left, or tells the end, and both ends may step again.
   abbrev pub pairs_mut_steps : PairsMut K V → Option (Bor K × MutBor V) → PairsMut K V → Type 0
-  pairs_mut_steps before pair after = BorrowsFirst pairs_mut_left before pair after × CanStep after
+  pairs_mut_steps before pair after = LendsFirst pairs_mut_left before pair after × CanStep after
 
   -- `next_back` returns the last one.
   abbrev pub pairs_mut_steps_back : PairsMut K V → Option (Bor K × MutBor V) → PairsMut K V → Type 0
-  pairs_mut_steps_back before pair after = BorrowsLast pairs_mut_left before pair after × CanStep after
+  pairs_mut_steps_back before pair after = LendsLast pairs_mut_left before pair after × CanStep after
 
 -- Each run of `next` returns what was left, in order.
 abbrev pub BorrowsInOrder : Type 0 → Type 0 → Type 0
