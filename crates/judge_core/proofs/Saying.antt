@@ -1,12 +1,13 @@
 -- What is said by way of a room, one after another.
-use Rattle.std.proofs.Common.{◌≡◌, ℕ, ◌+◌, ◌<◌, List, [], ◌∷◌, ◌++◌, Option, length, take, get_or, ap, subst, sym, ◌∙◌, append_assoc, append-nil}
+use Rattle.std.proofs.Common.{◌≡◌, ℕ, ◌+◌, ◌<◌, List, [], ◌∷◌, ◌++◌, Option, length, take, get_or, refl, ap, subst, sym, ◌∙◌, append_assoc, append-nil}
 use Rattle.std.specs.Prelude.{Err, IfErr, Ok, OnOk, Result}
 use Rattle.std.specs.Io.KnownBytes.{Appends}
 use Rattle.std.specs.List.{flat_map}
 use Rattle.std.proofs.lemmas.Grind.{flat_map-append}
 use Rattle.std.proofs.lemmas.List.{take_more}
 use Rattle.std.proofs.KnownBytes.{Appends-nil, Appends-trans}
-use Rattle.judge_core.specs.Said.{Says}
+use Rattle.judge_core.specs.Said.{Says, line_text, part_text, parts_text}
+use Rattle.judge_core.specs.declared.report.Part.{Part}
 
 -- what follows where a result is there
 pub on_ok : {X E : Type 0} (r : Result X E) (P Q : Type 0) → (P → Q) → OnOk r P → OnOk r Q
@@ -48,3 +49,9 @@ pub says_more : {X : Type 0} (f : X → List ℕ) (xs : List X) (i : ℕ) (d : X
     → Says a c old new (flat_map f (take (i + 1) xs))
 says_more f xs i d a b c old mid new x h is before more =
     subst (Says a c old new) (ap (λ u. flat_map f (take i xs) ++ u) is ∙ sym (flat_more f xs i d h)) (says_on a b c old mid new (flat_map f (take i xs)) x before more)
+
+-- a line is its parts, and then its line feed
+pub line_split : (parts : List Part) → line_text parts ≡ parts_text parts ++ 10 ∷ []
+line_split [] = refl
+line_split (part ∷ rest) =
+    ap (λ u. part_text part ++ u) (line_split rest) ∙ sym (append_assoc (part_text part) (parts_text rest) (10 ∷ []))

@@ -1,5 +1,5 @@
 -- What is said by way of a room.
-use Rattle.std.specs.Prelude.{◌≡◌, ℕ, List, ◌++◌, Option}
+use Rattle.std.specs.Prelude.{◌≡◌, ℕ, List, [], ◌∷◌, ◌++◌, Option}
 use Rattle.std.specs.Fmt.{decimal}
 use Rattle.std.specs.Io.KnownBytes.{Appends}
 use Rattle.std.specs.List.{flat_map}
@@ -21,3 +21,8 @@ part_text (Hex bytes) = hex_text bytes.now
 -- the bytes of parts, one after another
 abbrev pub parts_text : List Part → List ℕ
 parts_text = flat_map part_text
+
+-- the bytes of a line of these parts, with its line feed
+abbrev pub line_text : List Part → List ℕ
+line_text [] = 10 ∷ []
+line_text (part ∷ rest) = part_text part ++ line_text rest

@@ -8,6 +8,9 @@ use judge_verdicts::{Verdict, judge};
 use std::alloc::{AllocError, Allocator};
 
 /// The answer to a line that asks for a reading.
+///
+/// That to `u8 07` is `Judged`, with one item and no byte left, and that to `u9 00` is
+/// `Unread(Unreadable::Name)`.
 #[derive(PartialEq, Eq, Drop)]
 pub enum Answer {
     /// The line asks for a reading, and this is the verdict.

@@ -5,6 +5,9 @@ ghost use Rattle.judge_core.specs.Command.{AsksFor, IsAskedFor};
 use std::alloc::Allocator;
 
 /// What the program is asked to do.
+///
+/// No word at all is `Command::Judge { numbered: false }`, and the word `types` is
+/// `Command::Types`.
 #[derive(Clone, Copy, PartialEq, Eq)]
 pub enum Command {
     /// Answer the lines of standard input. `numbered`: each answer begins with the number of its

@@ -3,7 +3,8 @@
 use program_io::WriteFailed;
 use std::alloc::AllocError;
 
-/// Why a run has not answered all lines. Its `Display` is the line that a session says.
+/// Why a run has not answered all lines. Its `Display` is the line that a session says: that of
+/// `Failure::Memory` is `failed: out of memory`.
 #[derive(Clone, Copy, Debug, PartialEq, Eq, thiserror::Error)]
 pub enum Failure {
     /// An allocation failed.

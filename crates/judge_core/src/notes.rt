@@ -8,6 +8,7 @@ use crate::answer::unreadable_text;
 use crate::room::Room;
 use itoa::Buffer;
 use judge_questions::Unreadable;
+use program_io::write_bytes;
 use std::io::Write;
 
 /// Notes that the line of this number can't be read, in one write where the writer takes it whole.
@@ -29,20 +30,6 @@ pub(crate) fn note<E: Write>(errors: &mut E, number: u128, what: Unreadable)
         && room.push(unreadable_text(what).as_bytes())
         && room.push(b"\n");
     if whole {
-        write_prefix(errors, room.as_slice());
-    }
-}
-
-/// Writes bytes until the writer fails or takes none.
-fn write_prefix<E: Write>(errors: &mut E, bytes: &[u8])
-    ensures { (prefix back : List ℕ) × (bytes.now ≡ prefix ++ back)
-        × Appends (E.contents errors.old) (E.contents errors.new) prefix }
-{
-    let mut rest = bytes;
-    while !rest.is_empty() {
-        match errors.write(rest) {
-            Ok(n) if n > 0 => rest = &rest[n..],
-            _ => return,
-        }
+        let _ = write_bytes(errors, room.as_slice());
     }
 }

@@ -14,6 +14,9 @@ use judge_verdicts::{
 use std::alloc::{AllocError, Allocator};
 
 /// The reply to a line.
+///
+/// That to `refute k=7 22 3` is `Refuted(None)`, and that to `position set<u8> 0205c8 c8` is
+/// `Found(Found::At(1))`.
 #[derive(Drop)]
 pub enum Reply<A: Allocator> {
     /// What was built of the items, as bytes, or why nothing was.

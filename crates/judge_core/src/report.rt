@@ -2,12 +2,12 @@
 //!
 //! It is gathered in a room and written once that is full, or the room is flushed. That takes no
 //! allocation, however much is said.
-ghost use Rattle.std.specs.Prelude.{◌≡◌, ◌<◌, ◌++◌, ◌∷◌, [], true, OnErr, OnOk, Some};
+ghost use Rattle.std.specs.Prelude.{◌≡◌, ◌<◌, ◌≤◌, ◌++◌, ◌∷◌, [], length, true, OnErr, OnOk, Some};
 ghost use Rattle.std.specs.Char.{digit_char};
-ghost use Rattle.judge_core.specs.Answered.{answer_line};
+ghost use Rattle.judge_core.specs.Answered.{answer_line, unreadable_text};
 ghost use Rattle.judge_core.specs.Faults.{error_text};
 ghost use Rattle.judge_core.specs.Replies.{reply_text};
-ghost use Rattle.judge_core.specs.Said.{Says, part_text, parts_text};
+ghost use Rattle.judge_core.specs.Said.{Says, line_text, part_text, parts_text};
 ghost use Rattle.judge_core.specs.Tasks.{built_line, conflict_line, found_line, hex_text};
 ghost use Rattle.judge_core.specs.Tasks.{misread_line, numbers_line, refuted_line};
 ghost use Rattle.judge_verdicts.specs.Whole.{items_of};
@@ -17,10 +17,12 @@ use crate::reply::Reply;
 use crate::room::Room;
 use commonware_utils::codec::Error;
 use itoa::Buffer;
+use judge_questions::Unreadable;
 use judge_verdicts::{FaultNumbers, Found, Misread, NoConflict, NotBuilt, Refutation, Verdict};
 use program_io::{Watched, WriteFailed, write_whole};
 use std::alloc::Allocator;
 use std::io::Write;
+use std::marker::Model;
 
 /// A part of a line.
 #[derive(Clone, Copy)]
@@ -30,6 +32,28 @@ pub(crate) enum Part<'a> {
     Number(u128),
     /// Bytes in hexadecimal digits.
     Hex(&'a [u8]),
+}
+
+/// The most parts that a line has before its line feed.
+const PARTS: usize = 12;
+
+/// A line of parts and a line feed, which is seen as its bytes.
+#[derive(Drop)]
+struct Line<'a> {
+    parts: [Part<'a>; PARTS],
+    /// How many of them are in use.
+    count: usize,
+}
+
+impl<'a> Model for Line<'a> {
+    ghost use Rattle.std.specs.Prelude.{◌≤◌, ℕ, List, take};
+    ghost use Rattle.judge_core.specs.Said.{line_text};
+
+    ghost Value = { List ℕ };
+
+    ghost view = { λ line. line_text (take line.count line.parts) };
+
+    ghost invariant = { λ line. line.count ≤ 12 };
 }
 
 /// Says bytes: they are kept in the room while they fit.
@@ -122,7 +146,6 @@ pub(crate) fn say_parts<W: Write>(
 }
 
 /// Says the reply to a line.
-#[tactic(auto, unfolding(crate::specs::Replies::reply_text))]
 pub(crate) fn say_reply<A: Allocator, W: Write>(
     room: &mut Room,
     output: &mut Watched<W>,
@@ -133,277 +156,177 @@ pub(crate) fn say_reply<A: Allocator, W: Write>(
     ensures sound { OnOk result (output.new.failed ≡ output.old.failed) }
     ensures failed { OnErr result (output.new.failed ≡ true) }
 {
-    match reply {
-        Reply::Built(built) => say_built(room, output, built),
-        Reply::Found(found) => say_found(room, output, found),
-        Reply::Numbers(numbers) => say_numbers(room, output, numbers),
-        Reply::Refuted(refuted) => say_refuted(room, output, refuted),
-        Reply::Members(members) => say_members(room, output, members),
-        Reply::Answered(answer) => say_answer(room, output, answer),
+    let line = reply_line(reply);
+    say_parts(room, output, &line.parts[..line.count])?;
+    say_bytes(room, output, b"\n")
+}
+
+/// The line of these parts, and of a line feed.
+fn line_of<'a>(parts: &[Part<'a>]) -> Line<'a>
+    requires { length parts.now ≤ 12 }
+    ensures { result ≡ line_text parts.now }
+{
+    let mut all = [Part::Text(""); PARTS];
+    all[..parts.len()].copy_from_slice(parts);
+    Line {
+        parts: all,
+        count: parts.len(),
     }
 }
 
-/// Says the answer to a line that asks for a reading.
+/// The line of this text.
+fn text_line(text: &str) -> Line<'_>
+    ensures { result ≡ text.now ++ 10 ∷ [] }
+{
+    line_of(&[Part::Text(text)])
+}
+
+/// The reply to a line.
+#[tactic(auto, unfolding(crate::specs::Replies::reply_text))]
+fn reply_line<A: Allocator>(reply: &Reply<A>) -> Line<'_>
+    ensures { result ≡ reply_text reply.now }
+{
+    match reply {
+        Reply::Built(built) => built_line(built),
+        Reply::Found(found) => found_line(found),
+        Reply::Numbers(numbers) => numbers_line(numbers),
+        Reply::Refuted(refuted) => refuted_line(refuted),
+        Reply::Members(members) => conflict_line(members),
+        Reply::Answered(answer) => answer_line(answer),
+    }
+}
+
+/// The answer to a line that asks for a reading.
 #[tactic(auto, unfolding(crate::specs::Answered::answer_line))]
-fn say_answer<W: Write>(
-    room: &mut Room,
-    output: &mut Watched<W>,
-    answer: &Answer,
-) -> Result<(), WriteFailed>
-    ensures said { OnOk result (Says (W.contents output.old.inner) (W.contents output.new.inner)
-        room.old room.new (answer_line answer.now)) }
-    ensures sound { OnOk result (output.new.failed ≡ output.old.failed) }
-    ensures failed { OnErr result (output.new.failed ≡ true) }
+fn answer_line(answer: &Answer) -> Line<'_>
+    ensures { result ≡ answer_line answer.now }
 {
     match answer {
-        Answer::Judged(Verdict::Accepted { items, left }) => say_parts(
-            room,
-            output,
-            &[
-                Part::Text("accepted "),
-                Part::Number(*items as u128),
-                Part::Text(" "),
-                Part::Number(*left as u128),
-                Part::Text("\n"),
-            ],
-        ),
-        Answer::Judged(Verdict::Refused(error)) => say_fault(room, output, error),
-        Answer::Unread(what) => say_parts(
-            room,
-            output,
-            &[Part::Text(unreadable_text(*what)), Part::Text("\n")],
-        ),
+        Answer::Judged(Verdict::Accepted { items, left }) => line_of(&[
+            Part::Text("accepted "),
+            Part::Number(*items as u128),
+            Part::Text(" "),
+            Part::Number(*left as u128),
+        ]),
+        Answer::Judged(Verdict::Refused(error)) => fault_line(error),
+        Answer::Unread(what) => unread_line(what),
     }
 }
 
-/// Says a first fault by its name.
+/// What of a line can't be read.
+fn unread_line(what: &Unreadable) -> Line<'_>
+    ensures { result ≡ unreadable_text what.now ++ 10 ∷ [] }
+{
+    text_line(unreadable_text(*what))
+}
+
+/// The name of a first fault.
 #[tactic(auto, unfolding(crate::specs::Faults::error_text))]
-fn say_fault<W: Write>(
-    room: &mut Room,
-    output: &mut Watched<W>,
-    error: &Error,
-) -> Result<(), WriteFailed>
-    ensures said { OnOk result (Says (W.contents output.old.inner) (W.contents output.new.inner)
-        room.old room.new (error_text error.now ++ 10 ∷ [])) }
-    ensures sound { OnOk result (output.new.failed ≡ output.old.failed) }
-    ensures failed { OnErr result (output.new.failed ≡ true) }
+fn fault_line(error: &Error) -> Line<'_>
+    ensures { result ≡ error_text error.now ++ 10 ∷ [] }
 {
     match error {
-        Error::EndOfBuffer => say_parts(
-            room,
-            output,
-            &[Part::Text("EndOfBuffer"), Part::Text("\n")],
-        ),
-        Error::InvalidVarint => {
-            say_parts(
-                room,
-                output,
-                &[Part::Text("InvalidVarint"), Part::Text("\n")],
-            )
-        }
-        Error::InvalidLength(length) => say_parts(
-            room,
-            output,
-            &[
-                Part::Text("InvalidLength "),
-                Part::Number(*length as u128),
-                Part::Text("\n"),
-            ],
-        ),
-        Error::Invalid(what, rule) => say_parts(
-            room,
-            output,
-            &[
-                Part::Text("Invalid "),
-                Part::Text(what),
-                Part::Text(": "),
-                Part::Text(rule),
-                Part::Text("\n"),
-            ],
-        ),
-        Error::Memory => say_parts(room, output, &[Part::Text("Memory"), Part::Text("\n")]),
+        Error::EndOfBuffer => text_line("EndOfBuffer"),
+        Error::InvalidVarint => text_line("InvalidVarint"),
+        Error::InvalidLength(length) => line_of(&[
+            Part::Text("InvalidLength "),
+            Part::Number(*length as u128),
+        ]),
+        Error::Invalid(what, rule) => line_of(&[
+            Part::Text("Invalid "),
+            Part::Text(what),
+            Part::Text(": "),
+            Part::Text(rule),
+        ]),
+        Error::Memory => text_line("Memory"),
     }
 }
 
-/// Says why an input is not the encoding of one value.
+/// Why an input is not the encoding of one value.
 #[tactic(auto, unfolding(crate::specs::Tasks::misread_line))]
-fn say_misread<W: Write>(
-    room: &mut Room,
-    output: &mut Watched<W>,
-    what: &Misread,
-) -> Result<(), WriteFailed>
-    ensures said { OnOk result (Says (W.contents output.old.inner) (W.contents output.new.inner)
-        room.old room.new (misread_line what.now)) }
-    ensures sound { OnOk result (output.new.failed ≡ output.old.failed) }
-    ensures failed { OnErr result (output.new.failed ≡ true) }
+fn misread_line(what: &Misread) -> Line<'_>
+    ensures { result ≡ misread_line what.now }
 {
     match what {
-        Misread::Fault(error) => say_fault(room, output, error),
-        Misread::LeftOver(left) => say_parts(
-            room,
-            output,
-            &[
-                Part::Text("LeftOver "),
-                Part::Number(*left as u128),
-                Part::Text("\n"),
-            ],
-        ),
+        Misread::Fault(error) => fault_line(error),
+        Misread::LeftOver(left) => line_of(&[Part::Text("LeftOver "), Part::Number(*left as u128)]),
     }
 }
 
-/// Says what was built, or why nothing was.
+/// What was built, or why nothing was.
 #[tactic(auto, unfolding(crate::specs::Tasks::built_line))]
-fn say_built<A: Allocator, W: Write>(
-    room: &mut Room,
-    output: &mut Watched<W>,
-    built: &Result<Vec<u8, A>, NotBuilt>,
-) -> Result<(), WriteFailed>
-    ensures said { OnOk result (Says (W.contents output.old.inner) (W.contents output.new.inner)
-        room.old room.new (built_line (items_of built.now))) }
-    ensures sound { OnOk result (output.new.failed ≡ output.old.failed) }
-    ensures failed { OnErr result (output.new.failed ≡ true) }
+fn built_line<A: Allocator>(built: &Result<Vec<u8, A>, NotBuilt>) -> Line<'_>
+    ensures { result ≡ built_line (items_of built.now) }
 {
     match built {
-        Ok(bytes) => say_parts(
-            room,
-            output,
-            &[Part::Text("built "), Part::Hex(bytes), Part::Text("\n")],
-        ),
-        Err(NotBuilt::DuplicateKey) => {
-            say_parts(
-                room,
-                output,
-                &[Part::Text("DuplicateKey"), Part::Text("\n")],
-            )
-        }
-        Err(NotBuilt::DuplicateValue) => {
-            say_parts(
-                room,
-                output,
-                &[Part::Text("DuplicateValue"), Part::Text("\n")],
-            )
-        }
-        Err(NotBuilt::Unread(what)) => say_misread(room, output, what),
+        Ok(bytes) => line_of(&[Part::Text("built "), Part::Hex(bytes)]),
+        Err(NotBuilt::DuplicateKey) => text_line("DuplicateKey"),
+        Err(NotBuilt::DuplicateValue) => text_line("DuplicateValue"),
+        Err(NotBuilt::Unread(what)) => misread_line(what),
     }
 }
 
-/// Says the position of an item.
+/// The position of an item.
 #[tactic(auto, unfolding(crate::specs::Tasks::found_line))]
-fn say_found<W: Write>(
-    room: &mut Room,
-    output: &mut Watched<W>,
-    found: &Found,
-) -> Result<(), WriteFailed>
-    ensures said { OnOk result (Says (W.contents output.old.inner) (W.contents output.new.inner)
-        room.old room.new (found_line found.now)) }
-    ensures sound { OnOk result (output.new.failed ≡ output.old.failed) }
-    ensures failed { OnErr result (output.new.failed ≡ true) }
+fn found_line(found: &Found) -> Line<'_>
+    ensures { result ≡ found_line found.now }
 {
     match found {
-        Found::At(place) => say_parts(
-            room,
-            output,
-            &[
-                Part::Text("position "),
-                Part::Number(*place as u128),
-                Part::Text("\n"),
-            ],
-        ),
-        Found::Nowhere => say_parts(room, output, &[Part::Text("none"), Part::Text("\n")]),
-        Found::Unread(what) => say_misread(room, output, what),
+        Found::At(place) => line_of(&[Part::Text("position "), Part::Number(*place as u128)]),
+        Found::Nowhere => text_line("none"),
+        Found::Unread(what) => misread_line(what),
     }
 }
 
-/// Says a model's numbers.
+/// A model's numbers.
 #[tactic(auto, unfolding(crate::specs::Tasks::numbers_line))]
-fn say_numbers<W: Write>(
-    room: &mut Room,
-    output: &mut Watched<W>,
-    numbers: &FaultNumbers,
-) -> Result<(), WriteFailed>
-    ensures said { OnOk result (Says (W.contents output.old.inner) (W.contents output.new.inner)
-        room.old room.new (numbers_line numbers.now)) }
-    ensures sound { OnOk result (output.new.failed ≡ output.old.failed) }
-    ensures failed { OnErr result (output.new.failed ≡ true) }
+fn numbers_line(numbers: &FaultNumbers) -> Line<'_>
+    ensures { result ≡ numbers_line numbers.now }
 {
-    say_parts(
-        room,
-        output,
-        &[
-            Part::Text("faults "),
-            Part::Number(numbers.faults as u128),
-            Part::Text(" quorum "),
-            Part::Number(numbers.quorum as u128),
-            Part::Text(" m-quorum "),
-            Part::Number(numbers.smaller_quorum as u128),
-            Part::Text("\n"),
-        ],
-    )
+    line_of(&[
+        Part::Text("faults "),
+        Part::Number(numbers.faults as u128),
+        Part::Text(" quorum "),
+        Part::Number(numbers.quorum as u128),
+        Part::Text(" m-quorum "),
+        Part::Number(numbers.smaller_quorum as u128),
+    ])
 }
 
-/// Says two ranges that share too few, or that there are none.
+/// Two ranges that share too few, or that there are none.
 #[tactic(auto, unfolding(crate::specs::Tasks::refuted_line))]
-fn say_refuted<W: Write>(
-    room: &mut Room,
-    output: &mut Watched<W>,
-    refuted: &Option<Refutation>,
-) -> Result<(), WriteFailed>
-    ensures said { OnOk result (Says (W.contents output.old.inner) (W.contents output.new.inner)
-        room.old room.new (refuted_line refuted.now)) }
-    ensures sound { OnOk result (output.new.failed ≡ output.old.failed) }
-    ensures failed { OnErr result (output.new.failed ≡ true) }
+fn refuted_line(refuted: &Option<Refutation>) -> Line<'_>
+    ensures { result ≡ refuted_line refuted.now }
 {
     match refuted {
-        Some(why) => say_parts(
-            room,
-            output,
-            &[
-                Part::Text("first "),
-                Part::Number(why.first.start as u128),
-                Part::Text(".."),
-                Part::Number(why.first.end as u128),
-                Part::Text(" second "),
-                Part::Number(why.second.start as u128),
-                Part::Text(".."),
-                Part::Number(why.second.end as u128),
-                Part::Text(" shared "),
-                Part::Number(why.shared as u128),
-                Part::Text(" needed "),
-                Part::Number(why.needed as u128),
-                Part::Text("\n"),
-            ],
-        ),
-        None => say_parts(room, output, &[Part::Text("tolerated"), Part::Text("\n")]),
+        Some(why) => line_of(&[
+            Part::Text("first "),
+            Part::Number(why.first.start as u128),
+            Part::Text(".."),
+            Part::Number(why.first.end as u128),
+            Part::Text(" second "),
+            Part::Number(why.second.start as u128),
+            Part::Text(".."),
+            Part::Number(why.second.end as u128),
+            Part::Text(" shared "),
+            Part::Number(why.shared as u128),
+            Part::Text(" needed "),
+            Part::Number(why.needed as u128),
+        ]),
+        None => text_line("tolerated"),
     }
 }
 
-/// Says who signed both certificates, or why no one is named.
+/// Who signed both certificates, or why no one is named.
 #[tactic(auto, unfolding(crate::specs::Tasks::conflict_line))]
-fn say_members<A: Allocator, W: Write>(
-    room: &mut Room,
-    output: &mut Watched<W>,
-    members: &Result<Vec<u8, A>, NoConflict>,
-) -> Result<(), WriteFailed>
-    ensures said { OnOk result (Says (W.contents output.old.inner) (W.contents output.new.inner)
-        room.old room.new (conflict_line (items_of members.now))) }
-    ensures sound { OnOk result (output.new.failed ≡ output.old.failed) }
-    ensures failed { OnErr result (output.new.failed ≡ true) }
+fn conflict_line<A: Allocator>(members: &Result<Vec<u8, A>, NoConflict>) -> Line<'_>
+    ensures { result ≡ conflict_line (items_of members.now) }
 {
     match members {
-        Ok(bytes) => say_parts(
-            room,
-            output,
-            &[Part::Text("members "), Part::Hex(bytes), Part::Text("\n")],
-        ),
-        Err(NoConflict::EqualValues) => {
-            say_parts(room, output, &[Part::Text("EqualValues"), Part::Text("\n")])
-        }
-        Err(NoConflict::Outside) => {
-            say_parts(room, output, &[Part::Text("Outside"), Part::Text("\n")])
-        }
-        Err(NoConflict::TooFew) => {
-            say_parts(room, output, &[Part::Text("TooFew"), Part::Text("\n")])
-        }
-        Err(NoConflict::Unread(what)) => say_misread(room, output, what),
+        Ok(bytes) => line_of(&[Part::Text("members "), Part::Hex(bytes)]),
+        Err(NoConflict::EqualValues) => text_line("EqualValues"),
+        Err(NoConflict::Outside) => text_line("Outside"),
+        Err(NoConflict::TooFew) => text_line("TooFew"),
+        Err(NoConflict::Unread(what)) => misread_line(what),
     }
 }

@@ -1,5 +1,5 @@
+pub mod AllocationFailure
 pub mod Digits
-pub mod Errors
 pub mod FormLemmas
 pub mod HexLemmas
 pub mod RangeLemmas

@@ -15,7 +15,7 @@ IsUpperNotZero (Included n) = n ≢ 0
 IsUpperNotZero (Excluded n) = n ≢ 0
 IsUpperNotZero Unbounded = Unit {0}
 
--- no bound of the range is 0, as the length of a list that is never empty requires
+-- no bound of the range is 0, as the length of a non-empty list requires
 abbrev pub HasNoZero : Bounds ℕ → Type 0
 HasNoZero range = IsLowerNotZero range.lower × IsUpperNotZero range.upper
 

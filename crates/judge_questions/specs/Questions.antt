@@ -19,7 +19,7 @@ AreRanges (a ∷ b ∷ []) l = IsRange a l.first × IsRange b l.second × (l.thi
 AreRanges (a ∷ b ∷ c ∷ []) l = IsRange a l.first × IsRange b l.second × IsRange c l.third
 AreRanges (a ∷ b ∷ c ∷ d ∷ words) l = ⊥
 
--- the ranges can be those of the type: no bound of a list that is never empty is 0
+-- the ranges can be those of the type: no bound of a non-empty list is 0
 abbrev pub IsFit : Form → Limits → Type 0
 IsFit SetNonEmptyU8 l = HasNoZero l.second
 IsFit NonEmptyU8 l = HasNoZero l.first

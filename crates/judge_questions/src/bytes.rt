@@ -8,6 +8,8 @@ use std::marker::Model;
 const SHORT: usize = 64;
 
 /// The bytes of a question. Up to 64 of them are kept in the value itself; more are allocated.
+///
+/// Those of `020509ffff` are `[2, 5, 9, 0xff, 0xff]`.
 #[derive(Drop)]
 pub struct Bytes<A: Allocator> {
     /// All the bytes while there are at most 64.

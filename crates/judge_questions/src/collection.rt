@@ -5,6 +5,8 @@ ghost use Rattle.judge_questions.specs.Collections.{collection_of, set_form_of};
 use crate::form::Form;
 
 /// A set, by its items.
+///
+/// `position set<u8> 0205c8 c8` seeks 200 in a `SetForm::U8`.
 #[derive(Clone, Copy, PartialEq, Eq)]
 pub enum SetForm {
     U8,
@@ -15,6 +17,8 @@ pub enum SetForm {
 }
 
 /// What a builder makes of items in any order.
+///
+/// `build set<u8> 03020102` asks for `Collection::Set(SetForm::U8)`, and gets that of 1 and 2.
 #[derive(Clone, Copy, PartialEq, Eq)]
 pub enum Collection {
     Set(SetForm),

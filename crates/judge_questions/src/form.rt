@@ -3,6 +3,8 @@ ghost use Rattle.std.specs.Prelude.{◌≡◌, ◌≢◌, IfNone, IfSome};
 ghost use Rattle.judge_questions.specs.Forms.{lengths_of, name_of, ranges_of};
 
 /// A type that has a canonical encoding, as whose encoding an input is judged.
+///
+/// `Form::MapU8SetU8` has the name `map<u8,set<u8>>`, and the ranges `LENGTH VALUE-LENGTH`.
 #[derive(Clone, Copy, PartialEq, Eq)]
 pub enum Form {
     U8,

@@ -12,6 +12,9 @@ use std::num::NonZeroUsize;
 use std::ops::Bound;
 
 /// A range of numbers, as a question writes it.
+///
+/// `5..` has the lower bound 5 and no upper one: a list of bytes `[4, 1]`, which states the length
+/// 4, is outside it.
 #[derive(Clone, Copy)]
 pub struct Limit {
     lower: Option<usize>,
@@ -45,7 +48,7 @@ impl Limit {
         Limit::new(None, Bound::Unbounded)
     }
 
-    /// Whether no bound is 0, as the length of a list that is never empty requires.
+    /// Whether no bound is 0, as the length of a non-empty list requires.
     pub fn has_no_zero(self) -> bool
         ensures { IsTrue result ↔ HasNoZero self }
     {
@@ -67,7 +70,7 @@ impl Limit {
         between(self.lower, self.upper)
     }
 
-    /// The range as a configuration of a reader of lists that are never empty. No bound is 0.
+    /// The range as a configuration of a reader of non-empty lists. No bound is 0.
     pub fn non_zero(self) -> RangeCfg<NonZeroUsize>
         requires { HasNoZero self }
         ensures { as_numbers result ≡ self }
@@ -115,6 +118,9 @@ fn between<T>(lower: Option<T>, upper: Bound<T>) -> RangeCfg<T>
 }
 
 /// The ranges of a type's lengths, the outermost first. Those that the type doesn't have are full.
+///
+/// Those of `vec<vec<u8>> .. ..=0 02010700` are `..` and `..=0`, and the third is full: the first
+/// inner list has one item too many.
 #[derive(Clone, Copy)]
 pub struct Limits {
     pub first: Limit,
@@ -125,7 +131,7 @@ pub struct Limits {
 impl Limits {
     ghost use Rattle.judge_questions.specs.Questions.{IsFit};
 
-    /// Whether they can be those of the type: no list that is never empty has a bound 0.
+    /// Whether they can be those of the type: no non-empty list has a bound 0.
     pub fn fit(&self, form: Form) -> bool
         ensures { IsTrue result ↔ IsFit form self.now }
     {

@@ -18,6 +18,9 @@ use crate::words::{Words, are_same};
 use std::alloc::{AllocError, Allocator};
 
 /// What a line asks: which value of a type the input begins with, under the ranges of its lengths.
+///
+/// `set<u8> .. 020509ffff` asks it of the bytes `[2, 5, 9, 0xff, 0xff]`, for a set of bytes of any
+/// length.
 #[derive(Drop)]
 pub struct Question<A: Allocator> {
     /// The type.
@@ -29,6 +32,8 @@ pub struct Question<A: Allocator> {
 }
 
 /// What of a line can't be read.
+///
+/// Of `u9 00` it is `Name`, of `usize 5 05` `Ranges`, and of `u8 0` `Bytes`.
 #[derive(Clone, Copy, PartialEq, Eq)]
 pub enum Unreadable {
     /// The first word is no verb and no type's name, or the word after the verb no name of a type

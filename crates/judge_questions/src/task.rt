@@ -22,6 +22,8 @@ use crate::words::Words;
 use std::alloc::{AllocError, Allocator};
 
 /// What a line asks for by a verb.
+///
+/// `refute k=7 20 3` is `Refute`, where `k` is 7, `n` is 20 and `f` is 3.
 #[derive(Drop)]
 pub enum Task<A: Allocator> {
     /// What a builder makes of the items that the input lists. `unique`: no two may be equal.

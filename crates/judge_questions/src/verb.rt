@@ -6,6 +6,8 @@ ghost use Rattle.judge_questions.specs.declared.verb.Verb.{Verb};
 use crate::words::are_same;
 
 /// What a line asks for, where it doesn't ask for a reading.
+///
+/// `build-unique set<u8> 03020102` asks for `Verb::BuildUnique`.
 #[derive(Clone, Copy, PartialEq, Eq)]
 pub enum Verb {
     /// What a builder makes of items, of which equal ones count once.

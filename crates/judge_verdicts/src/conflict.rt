@@ -17,6 +17,8 @@ use judge_questions::Limit;
 use std::alloc::{AllocError, Allocator};
 
 /// Why two certificates, which are encodings, name no members that signed both.
+///
+/// Of 4 members at a resilience 3, 3 are a quorum: where 2 signed one of them, it is `TooFew`.
 #[derive(PartialEq, Eq, Drop)]
 pub enum NoConflict {
     /// Both are for one value.

@@ -11,6 +11,8 @@ use std::hash::Hash;
 
 /// A type whose values have a number of items: a collection has those of its outermost list, a
 /// certificate its signers, and everything else counts as one.
+///
+/// The set of 5 and 9 has 2 items, and the number 7 is one.
 pub trait CountItems {
     /// How many items the value has.
     ghost items: { Self → ℕ };

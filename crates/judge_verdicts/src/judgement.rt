@@ -44,7 +44,7 @@ pub fn judge_as<T: Read<A> + CountItems + Drop, A: Allocator>(
 
 /// What a reader of the type that the form names makes of the input, under the ranges of its
 /// lengths.
-/// No bound of a list that is never empty is 0.
+/// No bound of a non-empty list is 0.
 pub fn judge<A: Allocator + Copy>(
     alloc: A,
     form: Form,

@@ -7,6 +7,8 @@ use commonware_utils::faults::tolerated_faults;
 use std::ops::Range;
 
 /// The numbers of a fault model of a resilience `n >= kf + 1`.
+///
+/// Of 11 members at a resilience 5, 2 may be faulty, 9 are a quorum and 5 the smaller one.
 #[derive(Clone, Copy, PartialEq, Eq)]
 pub struct FaultNumbers {
     /// The greatest number of members that may be faulty.
@@ -33,6 +35,9 @@ pub fn fault_numbers(k: u32, n: u32) -> FaultNumbers
 }
 
 /// Two ranges of the positions of members that share too few.
+///
+/// For 3 of 20 members at a resilience 7, `first` is `0..17` and `second` `3..20`: they share 14,
+/// and 16 are needed.
 #[derive(PartialEq, Eq, Drop)]
 pub struct Refutation {
     /// The first of the positions.

@@ -9,6 +9,8 @@ use commonware_utils::ordered::Set;
 use std::alloc::{AllocError, Allocator};
 
 /// The position of an item in a set, both of which are encodings.
+///
+/// In the set of 5, 9 and 200, 9 is `At(1)` and 4 is `Nowhere`.
 #[derive(PartialEq, Eq, Drop)]
 pub enum Found {
     /// At this position.

@@ -12,6 +12,8 @@ use commonware_utils::ordered::{Error, Set};
 use std::alloc::{AllocError, Allocator};
 
 /// Why a builder makes nothing of an input that lists items.
+///
+/// Of the items 2, 1 and 2 of a set, where no two may be equal, it is `DuplicateKey`.
 #[derive(PartialEq, Eq, Drop)]
 pub enum NotBuilt {
     /// Two items of a set, or two keys, are equal.

@@ -7,6 +7,8 @@ use commonware_utils::codec::{Error, Read, Source};
 use std::alloc::{AllocError, Allocator};
 
 /// Why an input is not the encoding of one value.
+///
+/// `[0, 0xff]` is that of a list without items and a byte, so as a list it is `LeftOver(1)`.
 #[derive(PartialEq, Eq, Drop)]
 pub enum Misread {
     /// It doesn't begin with that of a value, and this is its first fault. It is never `Memory`.

@@ -1,4 +1,3 @@
 pub mod ArgumentLemmas
-pub mod Errors
 pub mod Prefixes
 pub mod OneWord

@@ -14,5 +14,5 @@ mod watched;
 
 pub use arguments::{after_first, take_arguments};
 pub use line::say;
-pub use output::{WriteFailed, write_whole};
+pub use output::{WriteFailed, write_bytes, write_whole};
 pub use watched::Watched;

@@ -32,11 +32,11 @@ pub fn write_whole<W: Write>(output: &mut Watched<W>, bytes: &[u8]) -> Result<()
     }
 }
 
-/// Writes all the bytes.
+/// Writes all the bytes, in one write where the writer takes them whole, and flushes nothing.
 ///
-/// It fails at the first write that fails or takes no byte. What was written is a prefix of the
-/// bytes.
-pub(crate) fn write_bytes<W: Write>(output: &mut W, bytes: &[u8]) -> Result<(), WriteFailed>
+/// It fails at the first write that fails or takes no byte, and makes no call after that one. What
+/// was written is a prefix of the bytes.
+pub fn write_bytes<W: Write>(output: &mut W, bytes: &[u8]) -> Result<(), WriteFailed>
     ensures bytes { OnOk result
         (Appends (W.contents output.old) (W.contents output.new) bytes.now) }
     ensures beginning { (front back : List ℕ) × (bytes.now ≡ front ++ back)

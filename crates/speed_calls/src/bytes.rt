@@ -26,7 +26,7 @@ pub(crate) fn time_bytes<C: Clock, W: Write>(
     Ok(())
 }
 
-/// So many bytes, which count from 0 modulo 256.
+/// Returns this number of bytes, which count from 0 modulo 256.
 fn bytes(alloc: Global, count: u32) -> Result<Vec<u8>, AllocError> {
     (0..count).map(|index| (index % 256) as u8).collect(alloc)
 }

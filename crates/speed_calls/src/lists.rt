@@ -1,4 +1,4 @@
-//! Lists that are never empty.
+//! Non-empty lists.
 
 use crate::codec::{read, written};
 use commonware_utils::codec::RangeCfg;

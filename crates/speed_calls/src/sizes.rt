@@ -18,6 +18,8 @@ const SIZES: [(u32, u64); 4] = [(10, 100_000), (1_000, 1_000), (100_000, 10), (1
 const BIMAPS: [(u32, u64); 3] = [(100, 1_000), (1_000, 30), (10_000, 1)];
 
 /// The calls of the collections, with committees, certificates and wide items.
+///
+/// Up to a size of 10 they are 27, a line each, the first of which is `set_dedup_random`.
 pub struct Calls;
 
 impl Timer for Calls {

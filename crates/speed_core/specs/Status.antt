@@ -1,7 +1,7 @@
 -- The exit status of a run that has stopped.
 use Rattle.std.specs.Prelude.{ℕ}
-use Rattle.speed_core.specs.declared.failure.Failure.{Failure}
-use Rattle.speed_core.specs.declared.failure.Failure.TheVariants.{Line, Memory, Read, Write, Clock}
+use Rattle.speed_core.specs.declared.error.Failure.{Failure}
+use Rattle.speed_core.specs.declared.error.Failure.TheVariants.{Line, Memory, Read, Write, Clock}
 
 -- 1 for a line that can't be read, and else 3
 abbrev pub status_of : Failure → ℕ

@@ -2,6 +2,9 @@
 ghost use Rattle.std.specs.Prelude.{◌≡◌, ◌*◌, ◌+◌, ◌<◌, ◌≤◌, All};
 
 /// An axis from one power of ten to another.
+///
+/// Around the logarithms 265, 430 and 120 it goes from 1 to 5; where it is 800 pixels long, 300 is
+/// at 400.
 #[derive(Clone, Copy)]
 pub struct Axis {
     /// The exponent at its beginning.

@@ -2,7 +2,7 @@
 ghost use Rattle.std.specs.Prelude.{◌≡◌, ◌*◌, ◌/◌, ◌≤◌};
 ghost use Rattle.std.specs.Duration.{as_nanos};
 
-use crate::failure::Failure;
+use crate::error::Failure;
 use program_io::{Watched, write_whole};
 use std::alloc::Global;
 use std::io::Write;
@@ -12,6 +12,9 @@ use std::time::{Clock, Duration, Instant};
 const LARGE: usize = 65_536;
 
 /// What every line is filled with: a heap, a clock, and where the lines go.
+///
+/// Two rounds over 10 entries that take a millisecond, with the check sum 20, write the line
+/// `set_read 10 20 5000000`: the cost of an entry is in hundredths of a nanosecond.
 #[derive(Drop)]
 pub struct Bench<C: Clock, W: Write> {
     alloc: Global,
@@ -22,6 +25,8 @@ pub struct Bench<C: Clock, W: Write> {
 }
 
 /// What a line is about.
+///
+/// `Work::new("set_read", 10, 2)` is what two rounds over 10 entries are.
 #[derive(Clone, Copy)]
 pub struct Work<'a> {
     /// The name of the call.

@@ -8,6 +8,8 @@ use std::alloc::Allocator;
 const LEAST_SIZE: u32 = 10;
 
 /// What the program is asked to do.
+///
+/// The word `10` is `Command::Time(10)`, and `9` is no command.
 #[derive(Clone, Copy)]
 pub enum Command {
     /// Say what words it takes.

@@ -1,6 +1,6 @@
 //! The program on its host.
 
-use crate::failure::Failure;
+use crate::error::Failure;
 use crate::sessions::session;
 use crate::timer::Timer;
 use program_io::{after_first, say, take_arguments};

@@ -3,7 +3,7 @@ ghost use Rattle.std.specs.Prelude.{◌≡◌, ◌≢◌};
 ghost use Rattle.std.specs.IoError.{error_kind};
 ghost use Rattle.std.specs.declared.io.ErrorKind.TheVariants.{OutOfMemory};
 
-use crate::failure::Failure;
+use crate::error::Failure;
 use std::alloc::Global;
 use std::io;
 use std::io::{ErrorKind, Read};

@@ -6,7 +6,7 @@
 mod axis;
 mod bench;
 mod command;
-mod failure;
+mod error;
 mod host;
 mod input;
 mod labels;
@@ -21,7 +21,7 @@ mod timer;
 pub use axis::Axis;
 pub use bench::{Bench, Work};
 pub use command::Command;
-pub use failure::Failure;
+pub use error::Failure;
 pub use host::on_host;
 pub use input::failed_read;
 pub use numbers::{random, rising, wide_bytes};

@@ -19,7 +19,7 @@ pub(crate) fn next_state(state: u64) -> u64
     right ^ right.wrapping_mul(131072)
 }
 
-/// So many random numbers, which are the states after the seed, modulo 2^32.
+/// Returns `count` random numbers, which are the states after the seed, modulo 2^32.
 pub fn random(alloc: Global, count: u32) -> Result<Vec<u32>, AllocError>
     ensures { IfOk result (λ numbers. length numbers.items ≡ count) }
 {
@@ -32,7 +32,7 @@ pub fn random(alloc: Global, count: u32) -> Result<Vec<u32>, AllocError>
         .collect(alloc)
 }
 
-/// The first `count` multiples of 7, modulo 2^32.
+/// Returns the first `count` multiples of 7, modulo 2^32.
 pub fn rising(alloc: Global, count: u32) -> Result<Vec<u32>, AllocError>
     ensures { IfOk result (λ numbers. length numbers.items ≡ count) }
 {

@@ -1,7 +1,7 @@
 //! A drawing of samples.
 
 use crate::axis::Axis;
-use crate::failure::Failure;
+use crate::error::Failure;
 use crate::labels::{Label, spread};
 use crate::sample::{Sample, parse_line};
 use std::alloc::{AllocError, Global};

@@ -3,7 +3,7 @@ ghost use Rattle.std.specs.Prelude.{◌≡◌, IfErr};
 
 use crate::bench::Bench;
 use crate::command::Command;
-use crate::failure::Failure;
+use crate::error::Failure;
 use crate::input::read_text;
 use crate::plot::draw;
 use crate::timer::Timer;

@@ -4,6 +4,8 @@ use crate::logarithm::logarithm;
 use std::num::NonZeroU64;
 
 /// What a line says of a call, as logarithms in hundredths.
+///
+/// `set_read 1000 1000000 451` says that `entries` is 300 and `cost` 265.
 #[derive(Clone, Copy, PartialEq, Eq)]
 pub struct Sample<'a> {
     /// The name of the call.

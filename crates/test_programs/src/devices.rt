@@ -72,7 +72,7 @@ pub const TAKEN: Output = Output {
 };
 
 impl Output {
-    /// So many bytes are taken a call, but one call goes wrong, or each from it on.
+    /// At most this number of bytes are taken a call, but one call goes wrong, or each from it on.
     pub fn failing(step: usize, at: u32, fault: WriteFault) -> Output {
         Output {
             step,

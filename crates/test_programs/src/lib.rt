@@ -25,6 +25,8 @@ mod judge_memory;
 #[cfg(test)]
 mod long_inputs;
 #[cfg(test)]
+mod output;
+#[cfg(test)]
 mod refused_programs;
 #[cfg(test)]
 mod runs;

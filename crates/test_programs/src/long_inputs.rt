@@ -98,7 +98,7 @@ const EQUAL_MEMBERS: (&[u8], &str) = (
 );
 
 #[test]
-fn the_first_fault_of_a_long_input_is_told(rt: HostRuntime) {
+fn the_first_fault_of_a_long_input_is_returned(rt: HostRuntime) {
     let alloc = rt.alloc();
     for (start, said) in EARLY_FAULTS.into_iter().chain([EQUAL_MEMBERS]) {
         for length in LENGTHS {
@@ -113,7 +113,7 @@ fn the_first_fault_of_a_long_input_is_told(rt: HostRuntime) {
 
 /// What determines the answer is read without memory, whatever follows it.
 #[test]
-fn early_faults_want_no_memory(rt: HostRuntime) {
+fn early_faults_need_no_memory(rt: HostRuntime) {
     let alloc = rt.alloc();
     for (start, said) in EARLY_FAULTS {
         for length in LENGTHS {

@@ -68,14 +68,7 @@ impl<'a> Asked<'a> {
             Err(_) => "",
         }
     }
-}
 
-/// Whether the writer was never called.
-fn is_silent(output: &ScriptedWriter<Global>) -> bool {
-    (output.calls, output.flushes) == (0, 0)
-}
-
-impl<'a> Asked<'a> {
     /// Whether the writer has taken what is written.
     fn is_taken_by(&self, output: &ScriptedWriter<Global>) -> bool {
         output.taken.as_slice() == self.written().as_bytes()
@@ -109,6 +102,11 @@ impl<'a> Asked<'a> {
         let right = status == self.status && said == self.line.as_bytes();
         full(right && self.is_taken_by(output))
     }
+}
+
+/// Whether the writer was never called.
+fn is_silent(output: &ScriptedWriter<Global>) -> bool {
+    (output.calls, output.flushes) == (0, 0)
 }
 
 /// The command that the words ask for.

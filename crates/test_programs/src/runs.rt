@@ -285,7 +285,7 @@ fn bounds_are_reported_without_a_read(rt: HostRuntime) {
 
 /// The whole report has been taken by then.
 #[test]
-fn a_failed_flush_is_told(rt: HostRuntime) {
+fn a_failed_flush_is_returned(rt: HostRuntime) {
     for whole in [
         whole_run(),
         bounds_run(NonZeroU32::MIN, &["bounds", "1"], ONE),

@@ -1,11 +1,13 @@
-//! Numbers, logarithms and axes, and rounds over a clock of their own.
+//! Numbers, logarithms, axes and lines, and rounds and sessions over a clock of their own.
 
+use crate::devices::TAKEN;
 use speed_calls::{time_bimaps, time_size};
 use speed_core::logarithm::logarithm;
-use speed_core::{Axis, Bench, Failure, failed_read, random};
+use speed_core::{Axis, Bench, Failure, Timer, Work, failed_read, parse_line, random, session};
+use std::alloc::{AllocError, Global};
 use std::cell::Cell;
 use std::io;
-use std::io::ErrorKind;
+use std::io::{ErrorKind, Write};
 use std::num::NonZeroU64;
 use std::time::{Clock, Duration};
 
@@ -81,6 +83,13 @@ fn logarithms_have_their_places_on_an_axis(rt: HostRuntime) {
     assert!(rt; Axis::around(&[], 9).place(50) == 4);
 }
 
+#[test]
+fn a_line_says_logarithms(rt: HostRuntime) {
+    let sample = parse_line("set_read 1000 1000000 451").expect(&rt, "no sample");
+    assert!(rt; (sample.name, sample.entries, sample.cost) == ("set_read", 300, 265));
+    assert!(rt; parse_line("set_read 0 1000000 451").is_none());
+}
+
 /// The lines of two rounds of ten entries, each of which takes a millisecond.
 const LINES: &str = "\
 set_dedup_random 10 20 5000000
@@ -131,5 +140,47 @@ fn reads_that_fail(rt: HostRuntime) {
         (ErrorKind::Other, Failure::Read),
     ] {
         assert!(rt; failed_read(&io::Error::from(kind)) == failure);
+    }
+}
+
+/// Times one call, which says the greatest size.
+struct Greatest;
+
+impl Timer for Greatest {
+    fn time_sizes<C: Clock, W: Write>(
+        bench: &mut Bench<C, W>,
+        greatest: u32,
+    ) -> Result<(), Failure> {
+        let work = Work::new("greatest", greatest as usize, 1);
+        bench.line(work, 0, || Ok(u64::from(greatest)))?;
+        Ok(())
+    }
+}
+
+/// The session of a word: its status, and what it writes.
+fn session_of(alloc: Global, word: &str) -> Result<(u8, Vec<u8>), AllocError> {
+    let mut words = Vec::new(alloc);
+    words.push(String::from_str(alloc, word)?)?;
+    let mut text = Vec::new(alloc);
+    let mut errors = TAKEN.writer(alloc);
+    let status = session::<Greatest, _, _, _, _>(
+        alloc,
+        &words,
+        new_clock(),
+        b"".as_slice(),
+        &mut text,
+        &mut errors,
+    );
+    Ok((status, text))
+}
+
+#[test]
+fn a_word_is_a_size_or_no_command(rt: HostRuntime) {
+    for (word, status, text) in [("10", 0, "greatest 10 10 10000000\n"), ("9", 2, "")] {
+        let (ended, written) = session_of(rt.alloc(), word).expect(&rt, "memory");
+        assert!(rt;
+            ended == status && written.as_slice() == text.as_bytes(),
+            "{word}"
+        );
     }
 }

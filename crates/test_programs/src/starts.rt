@@ -68,7 +68,7 @@ struct Start<'a> {
 impl<'a> Start<'a> {
     /// The outcome of a start that ends with this status, after these calls of its writer and
     /// these bytes on standard error.
-    fn comes_to(&self, status: u8, output: &ScriptedWriter<Global>, said: &[u8]) -> Outcome {
+    fn results_in(&self, status: u8, output: &ScriptedWriter<Global>, said: &[u8]) -> Outcome {
         match status {
             0 => full(output.taken.as_slice() == self.report.as_bytes() && said.is_empty()),
             3 => refused(output.calls == 0 && said == b"failed: out of memory\n".as_slice()),
@@ -88,7 +88,7 @@ impl<'b> Refusable for Start<'b> {
         heap.restart(granted);
         let arguments = Ok(texts.into_iter());
         let status = start(heap, arguments, &mut input, &mut output, &mut errors);
-        self.comes_to(status, output.inner(), errors.taken.as_slice())
+        self.results_in(status, output.inner(), errors.taken.as_slice())
     }
 
     fn may_do_without(&self) -> bool {

@@ -4,13 +4,13 @@ use Rattle.std.specs.Io.KnownBytes.{Appends, Consumes}
 use Rattle.std.specs.Str.Lines.{lines}
 use Rattle.std.proofs.KnownBytes.{Appends-nil, Appends-trans, Consumes-nil, Consumes-trans}
 use Rattle.std.proofs.lemmas.List.{length-take-le}
+use Rattle.commonware_base.proofs.Errors.{err_along}
 use Rattle.judge_core.specs.Answered.{AreAnswered, Continues, HasNoFeed, asked_from}
 use Rattle.judge_core.specs.Memory.{AreMemoryFree}
 use Rattle.judge_core.specs.Session.{IsBeginningAnswered}
 use Rattle.judge_core.specs.declared.error.Failure.TheVariants.{Memory, WriteFailed}
 use Rattle.judge_core.proofs.Answering.{begins, both_true, continues_on, text_ended}
 use Rattle.judge_core.proofs.Freeness.{free_after, going_unfree}
-use Rattle.program_io.proofs.Errors.{err_along}
 use Rattle.judge_core.proofs.Stopping.{beginning, err_is, for_memory, kept}
 use Rattle.judge_core.proofs.stream.answer_all.Goals as goal
 

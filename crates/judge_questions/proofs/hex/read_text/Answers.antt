@@ -1,7 +1,7 @@
 use Rattle.std.proofs.Common.{◌-◌, ◌≤◌, [], ◌∷◌, ◌++◌, get_or, length, arith, take, drop, subst, sym, ap, ◌∙◌, append_assoc}
 use Rattle.judge_questions.specs.Hex.{IsHex}
 use Rattle.judge_questions.proofs.HexLemmas.{hex_more, hex_rest, long_hex, no_byte, text_is_hex, two_front, one_left}
-use Rattle.judge_questions.proofs.Errors.{at_error}
+use Rattle.judge_questions.proofs.AllocationFailure.{at_error}
 use Rattle.judge_questions.proofs.hex.read_text.Goals as goal
 
 pub loop-rest-preserved : goal.loop-rest-preserved

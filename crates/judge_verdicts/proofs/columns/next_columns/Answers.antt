@@ -1,8 +1,8 @@
 -- Keys, and then as many values.
 use Rattle.std.proofs.Common.{◌≡◌, ℕ, ◌++◌, ap, length, subst, sym, ◌∙◌, append_assoc}
+use Rattle.commonware_base.proofs.Errors.{err_along}
 use Rattle.commonware_map.proofs.MapReads.{keys_want_memory, rest_bytes}
 use Rattle.commonware_utils.specs.Codec.{AreBytes, Bounds, IsAllowedList, IsListMemoryFree, IsWritableList, ListFault, Refuses, SequenceFault, bad_first, bad_second, bytes_right, exactly, list_enc, refuses_from, rest_of}
-use Rattle.judge_verdicts.proofs.Results.{err_along}
 use Rattle.judge_verdicts.proofs.columns.next_columns.Goals as goal
 
 pub returns-in_err-keys-clause-refused : goal.returns-in_err-keys-clause-refused

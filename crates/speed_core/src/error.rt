@@ -6,7 +6,8 @@ use program_io::WriteFailed;
 use std::alloc::{AllocError, AllocFailed};
 use std::fmt;
 
-/// Why a run has stopped. Its text is the line that a run says.
+/// Why a run has stopped. Its text is the line that a run says: that of `Failure::Line(2)` is
+/// `refused: line 2`.
 #[derive(Clone, Copy, PartialEq, Eq)]
 pub enum Failure {
     /// An allocation failed.
@@ -36,7 +37,7 @@ impl fmt::Display for Failure {
 
 impl From<AllocError> for Failure {
     ghost use Rattle.std.specs.Prelude.{◌≡◌};
-    ghost use Rattle.speed_core.specs.declared.failure.Failure.TheVariants.{Memory};
+    ghost use Rattle.speed_core.specs.declared.error.Failure.TheVariants.{Memory};
 
     ghost from_gives = { λ _ failure. failure ≡ Memory };
 
@@ -47,7 +48,7 @@ impl From<AllocError> for Failure {
 
 impl<T: Drop> From<AllocFailed<T>> for Failure {
     ghost use Rattle.std.specs.Prelude.{◌≡◌};
-    ghost use Rattle.speed_core.specs.declared.failure.Failure.TheVariants.{Memory};
+    ghost use Rattle.speed_core.specs.declared.error.Failure.TheVariants.{Memory};
 
     ghost from_gives = { λ _ failure. failure ≡ Memory };
 
@@ -58,7 +59,7 @@ impl<T: Drop> From<AllocFailed<T>> for Failure {
 
 impl From<WriteFailed> for Failure {
     ghost use Rattle.std.specs.Prelude.{◌≡◌};
-    ghost use Rattle.speed_core.specs.declared.failure.Failure.{Failure};
+    ghost use Rattle.speed_core.specs.declared.error.Failure.{Failure};
 
     ghost from_gives = { λ _ failure. failure ≡ Failure.Write };
 
