@@ -1,26 +1,27 @@
 /* The proved committee layer of consensus nodes, for C11 and C++17: how many of n participants may be
- * faulty, the bytes of committees and certificates, and the members that signed two different values.
+ * faulty, the encodings of committees and certificates, and which members signed two different values
+ * (equivocation).
  *
- * The theorem of each function is its contract in crates/commonware_c/src. What stands here is the same
- * in words; docs/NATIVE.md says what is proved and what only tests show.
+ * The theorem of each function is its contract in crates/commonware_c/src. This header says the same in
+ * words; docs/NATIVE.md says what is proved and what only tests show.
  *
  * Conditions. A caller owes what the types say: a pointer points to as many elements as the length after
  * it says; where that is 0 it may be NULL. What `out` points to overlaps no other argument, and no one
  * else touches it during the call; no one writes to the other arguments during the call. There is no
- * other condition: every number and every byte string has an answer.
+ * other condition: every number and every byte string has a result.
  *
  * Ownership. The caller owns each array before, during and after the call. No function keeps a pointer,
- * and none returns one: what is found is told by offsets into the caller's bytes.
+ * and none returns one: the views have offsets into the caller's bytes.
  *
  * Refusal. Where `status` isn't COMMONWARE_OK, `out` is as it was, byte for byte, and what the view says
  * beside `status` is 0 unless it is described here.
  *
  * Threads. There are no global variables, no locks and no callbacks, so any number of threads may call
- * at once. A function that takes memory isn't for signal handlers, nor for a forked child of a process
+ * at once. A function that allocates isn't for signal handlers, nor for a forked child of a process
  * with threads.
  *
- * Memory. commonware_committee_write, commonware_certificate_read and commonware_conflict take memory
- * and give all of it back before they return; the others take none. The archive holds a heap over
+ * Memory. commonware_committee_write, commonware_certificate_read and commonware_conflict allocate, and
+ * free all of it before they return; the others allocate nothing. The archive holds a heap over
  * malloc, realloc and free. A program with an allocator of its own defines these three instead, with C
  * linkage and all of them, and the linker takes them:
  *
@@ -56,18 +57,18 @@ extern "C" {
 
 enum commonware_status {
     COMMONWARE_OK = 0,
-    COMMONWARE_END_OF_INPUT = 1,   /* the text ends before the value does */
+    COMMONWARE_END_OF_INPUT = 1,   /* the input ends before the value does */
     COMMONWARE_INVALID_VARINT = 2, /* longer than it has to be, or past 4294967295 */
     COMMONWARE_INVALID_LENGTH = 3, /* the length `number` is out of range */
-    COMMONWARE_NOT_STRICT = 4,     /* the items aren't sorted and unique */
-    COMMONWARE_MEMORY = 5,         /* memory was refused; says nothing of the text */
+    COMMONWARE_NOT_STRICT = 4,     /* the items aren't strictly increasing */
+    COMMONWARE_MEMORY = 5,         /* an allocation failed; says nothing of the input */
     COMMONWARE_LEFT_OVER = 6,      /* `number` bytes follow the certificate */
     COMMONWARE_NO_MEMBERS = 7,     /* a committee of 0 members */
     COMMONWARE_SAME_VALUE = 8,     /* both certificates are for one value */
     COMMONWARE_OUTSIDE = 9,        /* a signer is no member */
     COMMONWARE_TOO_FEW = 10,       /* fewer signers than a quorum */
     COMMONWARE_ROOM = 11,          /* `out` is too short, and the view says what it takes */
-    COMMONWARE_ABSENT = 12,        /* the key isn't there */
+    COMMONWARE_ABSENT = 12,        /* the key isn't among the members */
     COMMONWARE_NO_MODEL = 13       /* k is below 2 */
 };
 
@@ -82,20 +83,21 @@ uint32_t commonware_quorum(uint32_t k, uint32_t n);
  * below 2. */
 uint32_t commonware_smaller_quorum(uint32_t k, uint32_t n);
 
-/* A committee at the front of a text. */
+/* A committee at the start of the input. */
 typedef struct {
     uint32_t status; /* OK, END_OF_INPUT, INVALID_VARINT, INVALID_LENGTH or NOT_STRICT */
     uint32_t count;  /* at OK: how many members there are */
-    size_t number;   /* at INVALID_LENGTH: how many the text states */
+    size_t number;   /* at INVALID_LENGTH: how many the input states */
     size_t start;    /* at OK: the offset of the first member */
-    size_t left;     /* at OK: how many bytes of the text follow the last */
+    size_t left;     /* at OK: how many bytes of the input follow the last */
 } commonware_committee_view;
 
-/* Reads a committee of `least` to `most` members at the front of a text: OK exactly where there is one,
- * else the first fault. Member i is the 32 bytes from text + start + 32 * i on; the members are in
- * order, each once. Where `least` is greater than `most`, no number of members is in range. */
+/* Decodes a committee of `least` to `most` members at the start of the input: OK exactly where there is
+ * one, else the first fault (decoding error). Member i is the 32 bytes from input + start + 32 * i on;
+ * the members are strictly increasing. Where `least` is greater than `most`, no number of members is in
+ * range. */
 commonware_committee_view commonware_committee_read(
-    const uint8_t *text, size_t text_length, size_t least, size_t most);
+    const uint8_t *input, size_t input_length, size_t least, size_t most);
 
 /* Where a key is among others. */
 typedef struct {
@@ -103,10 +105,10 @@ typedef struct {
     size_t index;    /* at OK: that of the key; at ABSENT: that of the first greater one, or the length */
 } commonware_place_view;
 
-/* The index of a key among the members of a committee, in O(log n) comparisons. The members that
- * commonware_committee_read has found are (const uint8_t (*)[32])(text + view.start), view.count of
- * them. In a list that isn't in order, OK still tells the index of the key, and ABSENT a place where the
- * key is greater than the one before and less than the one there. */
+/* Returns the index of a key among the members of a committee, in O(log n) comparisons. The members that
+ * commonware_committee_read has found are (const uint8_t (*)[32])(input + view.start), view.count of
+ * them. In a list that isn't in order, OK still comes with the index of the key, and ABSENT with an index
+ * where the key is greater than the one before and less than the one there. */
 commonware_place_view commonware_committee_index(
     const uint8_t (*members)[COMMONWARE_MEMBER_SIZE], size_t members_length,
     const uint8_t (*key)[COMMONWARE_MEMBER_SIZE]);
@@ -115,37 +117,37 @@ commonware_place_view commonware_committee_index(
 typedef struct {
     uint32_t status; /* OK, INVALID_LENGTH, NOT_STRICT, MEMORY or ROOM */
     size_t count;    /* at OK and ROOM: how many members or signers there are */
-    size_t number;   /* at INVALID_LENGTH: the length; at NOT_STRICT: the place of a signer in `signers` */
+    size_t number;   /* at INVALID_LENGTH: the length; at NOT_STRICT: the index of a signer in `signers` */
     size_t size;     /* at OK: how many bytes were written; at ROOM: how many `out` has to have */
 } commonware_written_view;
 
-/* Writes the committee of these keys, in order and each once, to the front of `out`, in any order and as
- * often as they are given. COMMONWARE_COMMITTEE_SIZE(members_length) bytes always suffice. INVALID_LENGTH
- * where they are more than 4294967295. Never NOT_STRICT. */
+/* Writes the committee of these keys to the start of `out`: sorted, each key once. The keys may come in
+ * any order and repeat. COMMONWARE_COMMITTEE_SIZE(members_length) bytes always suffice. INVALID_LENGTH
+ * where the distinct keys are more than 4294967295. Never NOT_STRICT. */
 commonware_written_view commonware_committee_write(
     const uint8_t (*members)[COMMONWARE_MEMBER_SIZE], size_t members_length,
     uint8_t *out, size_t out_length);
 
-/* A certificate at the front of a text. */
+/* A certificate at the start of the input. */
 typedef struct {
     uint32_t status;     /* OK, END_OF_INPUT, INVALID_VARINT, INVALID_LENGTH, NOT_STRICT, MEMORY or ROOM */
     uint32_t signers;    /* at OK and ROOM: how many signers there are */
-    size_t number;       /* at INVALID_LENGTH: the length that the text states, of the value or the signers */
+    size_t number;       /* at INVALID_LENGTH: the stated length, of the value or the signers */
     size_t value_start;  /* at OK and ROOM: the offset of the value */
     size_t value_length; /* at OK and ROOM: how many bytes it has */
-    size_t left;         /* at OK and ROOM: how many bytes of the text follow the certificate */
+    size_t left;         /* at OK and ROOM: how many bytes of the input follow the certificate */
 } commonware_certificate_view;
 
-/* Reads a certificate with a value of up to `most_bytes` bytes and up to `most_signers` signers at the
- * front of a text, else tells the first fault. The indices of the signers go to the front of `out`, in
- * order and each once; its length is in indices. A signer takes a byte of the text or more, so
- * text_length indices always suffice. */
+/* Decodes a certificate with a value of up to `most_bytes` bytes and up to `most_signers` signers at the
+ * start of the input, else returns the first fault (decoding error). The indices of the signers go to
+ * the start of `out`, strictly increasing; its length is in indices. A signer takes at least one byte of
+ * the input, so input_length indices always suffice. */
 commonware_certificate_view commonware_certificate_read(
-    const uint8_t *text, size_t text_length, size_t most_bytes, size_t most_signers,
+    const uint8_t *input, size_t input_length, size_t most_bytes, size_t most_signers,
     uint32_t *out, size_t out_length);
 
-/* Writes the certificate of a value and of the indices of its signers to the front of `out`, where the
- * indices are in order and each once: OK exactly then, and where there is room. Else the first of these:
+/* Writes the certificate of a value and of the indices of its signers to the start of `out`, where the
+ * indices are strictly increasing: OK exactly then, and where there is room. Else the first of these:
  * INVALID_LENGTH for a value and then for signers past 4294967295, NOT_STRICT for the first signer that
  * isn't greater than the one before it, ROOM. COMMONWARE_CERTIFICATE_SIZE(value_length, signers_length)
  * bytes always suffice. Never MEMORY. */
@@ -153,22 +155,23 @@ commonware_written_view commonware_certificate_write(
     const uint8_t *value, size_t value_length, const uint32_t *signers, size_t signers_length,
     uint8_t *out, size_t out_length);
 
-/* What two certificates come to. */
+/* The result for two certificates. */
 typedef struct {
     uint32_t status; /* each but INVALID_LENGTH and ABSENT */
-    uint32_t which;  /* 1 or 2 where the status is about the first or the second text alone, else 0 */
+    uint32_t which;  /* 1 or 2 where the status is about the first or the second input alone, else 0 */
     size_t number;   /* at LEFT_OVER: how many bytes follow the certificate */
     size_t count;    /* at OK and ROOM: how many members signed both */
 } commonware_conflict_view;
 
-/* The members that signed two certificates for different values, in a committee of `members` at a
- * resilience k: their indices go to the front of `out`, in order. With f = commonware_max_faults(k,
- * members) they are at least (k - 2)f + 1, and where k is 3 or more, some of them is outside any f
- * members, whichever these are. Each text is a certificate and nothing more. Nothing is said of whether
- * a signature is genuine: that is for the caller to know.
+/* The members that signed two certificates for different values (equivocation), in a committee of
+ * `members` at a resilience k: their indices go to the start of `out`, in order. With f =
+ * commonware_max_faults(k, members) they are at least (k - 2)f + 1, and where k is 3 or more, at least
+ * one of them is outside every set of f members. Each input is exactly one certificate. Whether a
+ * signature is genuine isn't tested: that is for the caller to know.
  *
- * The first of these is told: NO_MODEL, NO_MEMBERS, a fault of the first text, a fault of the second,
- * SAME_VALUE, OUTSIDE, TOO_FEW, MEMORY, ROOM. As many indices as there are members always suffice. */
+ * The status is the first of these: NO_MODEL, NO_MEMBERS, a fault of the first input or MEMORY while it
+ * is decoded, the same of the second, SAME_VALUE, OUTSIDE, TOO_FEW, MEMORY, ROOM. As many indices as
+ * there are members always suffice. */
 commonware_conflict_view commonware_conflict(
     uint32_t k, uint32_t members, const uint8_t *first, size_t first_length,
     const uint8_t *second, size_t second_length, uint32_t *out, size_t out_length);

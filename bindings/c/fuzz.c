@@ -1,5 +1,5 @@
-/* The readers and writers beside a decoder that is written from docs/FORMAT.md alone. Each input is
- * three bytes of limits and then a text.
+/* The readers and writers beside a decoder that is written from docs/FORMAT.md alone. The data of a case
+ * is three bytes of limits and then the input of the calls.
  *
  * clang -fsanitize=fuzzer makes a fuzzer of it. With COMMONWARE_DRIVER it has a main of its own, which
  * takes a number n and files: it tries each file, and n random changes of each. */
@@ -27,7 +27,7 @@ struct rest {
     size_t length;
 };
 
-/* Groups of seven bits, the lowest first, in at most five bytes and the fewest. */
+/* Decodes groups of seven bits, the lowest first, in at most five bytes and the fewest. */
 static uint32_t decode_varint(struct rest *rest, uint32_t *number) {
     uint64_t value = 0;
     for (size_t i = 0; i < 5; i++) {
@@ -52,7 +52,7 @@ static uint32_t decode_varint(struct rest *rest, uint32_t *number) {
     return COMMONWARE_INVALID_VARINT;
 }
 
-/* How many items follow, of which `least` to `most` are allowed. */
+/* Decodes how many items follow, of which `least` to `most` are allowed. */
 static uint32_t decode_length(struct rest *rest, size_t least, size_t most, uint32_t *length) {
     const uint32_t status = decode_varint(rest, length);
     if (status == COMMONWARE_OK && (*length < least || most < *length)) {
@@ -61,7 +61,7 @@ static uint32_t decode_length(struct rest *rest, size_t least, size_t most, uint
     return status;
 }
 
-/* A set of members; `count` is the length that is told. */
+/* A set of members; `count` is the length that the input states. */
 static uint32_t decode_committee(struct rest *rest, size_t least, size_t most, uint32_t *count) {
     const uint32_t status = decode_length(rest, least, most, count);
     if (status != COMMONWARE_OK) {
@@ -89,7 +89,7 @@ struct parts {
     uint32_t *signers;
 };
 
-/* `length` is the length that is told. */
+/* `length` is the length that the input states. */
 static uint32_t decode_certificate(struct rest *rest, size_t most_bytes, size_t most_signers,
                                    struct parts *parts, uint32_t *length) {
     uint32_t status = decode_length(rest, 0, most_bytes, length);
@@ -129,22 +129,22 @@ static void *room(size_t elements, size_t size) {
     return block;
 }
 
-static void try_index(const uint8_t (*members)[32], uint32_t count, const uint8_t *text) {
-    const uint8_t(*key)[32] = (const uint8_t(*)[32])text;
+static void try_index(const uint8_t (*members)[32], uint32_t count, const uint8_t *input) {
+    const uint8_t(*key)[32] = (const uint8_t(*)[32])input;
     const commonware_place_view view = commonware_committee_index(members, count, key);
     uint32_t place = 0;
-    while (place < count && memcmp(members[place], text, 32) < 0) {
+    while (place < count && memcmp(members[place], input, 32) < 0) {
         place++;
     }
-    const bool is_there = place < count && memcmp(members[place], text, 32) == 0;
+    const bool is_there = place < count && memcmp(members[place], input, 32) == 0;
     REQUIRE(view.status == (is_there ? COMMONWARE_OK : COMMONWARE_ABSENT) && view.index == place);
 }
 
-static void try_committee(const uint8_t *text, size_t length, size_t least, size_t most) {
-    struct rest rest = {text, length};
+static void try_committee(const uint8_t *input, size_t length, size_t least, size_t most) {
+    struct rest rest = {input, length};
     uint32_t count = 0;
     const uint32_t status = decode_committee(&rest, least, most, &count);
-    const commonware_committee_view view = commonware_committee_read(text, length, least, most);
+    const commonware_committee_view view = commonware_committee_read(input, length, least, most);
     REQUIRE(view.status == status);
     REQUIRE(status != COMMONWARE_INVALID_LENGTH || view.number == count);
     if (status != COMMONWARE_OK) {
@@ -152,10 +152,10 @@ static void try_committee(const uint8_t *text, size_t length, size_t least, size
     }
     REQUIRE(view.count == count && view.left == rest.length);
     REQUIRE(view.start + 32 * (size_t)count + rest.length == length);
-    const uint8_t(*members)[32] = (const uint8_t(*)[32])(text + view.start);
+    const uint8_t(*members)[32] = (const uint8_t(*)[32])(input + view.start);
     if (length >= 32) {
-        try_index(members, count, text);
-        try_index(members, count, text + length - 32);
+        try_index(members, count, input);
+        try_index(members, count, input + length - 32);
     }
     /* From the last to the first, and then all again. */
     uint8_t(*keys)[32] = room(2 * (size_t)count, 32);
@@ -170,25 +170,25 @@ static void try_committee(const uint8_t *text, size_t length, size_t least, size
     REQUIRE(written.status == COMMONWARE_ROOM && written.size == size && out[0] == 0xee);
     written = commonware_committee_write(given, 2 * (size_t)count, out, size);
     REQUIRE(written.status == COMMONWARE_OK && written.size == size && written.count == count);
-    REQUIRE(memcmp(out, text, size) == 0 && out[size] == 0xee);
+    REQUIRE(memcmp(out, input, size) == 0 && out[size] == 0xee);
     free(keys);
     free(out);
 }
 
-static void try_certificate(const uint8_t *text, size_t length, size_t most_bytes, size_t most_signers) {
-    struct rest rest = {text, length};
+static void try_certificate(const uint8_t *input, size_t length, size_t most_bytes, size_t most_signers) {
+    struct rest rest = {input, length};
     struct parts parts = {NULL, 0, 0, room(length, sizeof(uint32_t))};
-    uint32_t told = 0;
-    const uint32_t status = decode_certificate(&rest, most_bytes, most_signers, &parts, &told);
+    uint32_t stated = 0;
+    const uint32_t status = decode_certificate(&rest, most_bytes, most_signers, &parts, &stated);
     uint32_t *signers = room(length, sizeof(uint32_t));
     commonware_certificate_view view =
-        commonware_certificate_read(text, length, most_bytes, most_signers, signers, length);
+        commonware_certificate_read(input, length, most_bytes, most_signers, signers, length);
     REQUIRE(view.status == status);
-    REQUIRE(status != COMMONWARE_INVALID_LENGTH || view.number == told);
+    REQUIRE(status != COMMONWARE_INVALID_LENGTH || view.number == stated);
     REQUIRE(status == COMMONWARE_OK || signers[0] == 0xeeeeeeee);
     if (status == COMMONWARE_OK) {
         REQUIRE(view.signers == parts.count && view.left == rest.length);
-        REQUIRE(text + view.value_start == parts.value && view.value_length == parts.value_length);
+        REQUIRE(input + view.value_start == parts.value && view.value_length == parts.value_length);
         REQUIRE(memcmp(signers, parts.signers, 4 * (size_t)parts.count) == 0);
         const size_t size = length - rest.length;
         uint8_t *out = room(size, 1);
@@ -198,10 +198,11 @@ static void try_certificate(const uint8_t *text, size_t length, size_t most_byte
         written = commonware_certificate_write(
             parts.value, parts.value_length, signers, parts.count, out, size);
         REQUIRE(written.status == COMMONWARE_OK && written.size == size);
-        REQUIRE(memcmp(out, text, size) == 0 && out[size] == 0xee);
+        REQUIRE(memcmp(out, input, size) == 0 && out[size] == 0xee);
         free(out);
         if (parts.count > 0) {
-            view = commonware_certificate_read(text, length, most_bytes, most_signers, signers, parts.count - 1);
+            const size_t short_by_one = parts.count - 1;
+            view = commonware_certificate_read(input, length, most_bytes, most_signers, signers, short_by_one);
             REQUIRE(view.status == COMMONWARE_ROOM && view.signers == parts.count);
         }
     }
@@ -210,10 +211,10 @@ static void try_certificate(const uint8_t *text, size_t length, size_t most_byte
 }
 
 /* Indices as they come, which are seldom in order. */
-static void try_indices(const uint8_t *text, size_t length, size_t value_length) {
+static void try_indices(const uint8_t *input, size_t length, size_t value_length) {
     const size_t count = (length - value_length) / 4;
     uint32_t *signers = room(count, sizeof(uint32_t));
-    memcpy(signers, text + value_length, 4 * count);
+    memcpy(signers, input + value_length, 4 * count);
     const size_t most = COMMONWARE_CERTIFICATE_SIZE(value_length, count);
     uint8_t *out = room(most, 1);
     size_t place = 1;
@@ -221,7 +222,7 @@ static void try_indices(const uint8_t *text, size_t length, size_t value_length)
         place++;
     }
     const commonware_written_view view =
-        commonware_certificate_write(text, value_length, signers, count, out, most);
+        commonware_certificate_write(input, value_length, signers, count, out, most);
     if (place < count) {
         REQUIRE(view.status == COMMONWARE_NOT_STRICT && view.number == place && out[0] == 0xee);
     } else {
@@ -236,17 +237,17 @@ static bool has_outsider(const struct parts *parts, uint32_t members) {
     return parts->count > 0 && parts->signers[parts->count - 1] >= members;
 }
 
-/* What is told of two texts, the second of which begins at a place of one. */
-static void try_conflict(uint32_t k, uint32_t members, const uint8_t *text, size_t length, size_t place) {
-    struct rest rests[2] = {{text, place}, {text + place, length - place}};
+/* The conflict of two inputs: the bytes before a place, and those from it on. */
+static void try_conflict(uint32_t k, uint32_t members, const uint8_t *input, size_t length, size_t place) {
+    struct rest rests[2] = {{input, place}, {input + place, length - place}};
     struct parts parts[2];
     uint32_t status = COMMONWARE_OK, which = 0;
     for (uint32_t i = 0; i < 2; i++) {
         parts[i].signers = room(length, sizeof(uint32_t));
         parts[i].count = 0;
-        uint32_t told = 0;
+        uint32_t stated = 0;
         if (status == COMMONWARE_OK) {
-            status = decode_certificate(&rests[i], SIZE_MAX, SIZE_MAX, &parts[i], &told);
+            status = decode_certificate(&rests[i], SIZE_MAX, SIZE_MAX, &parts[i], &stated);
             status = status == COMMONWARE_OK && rests[i].length > 0 ? COMMONWARE_LEFT_OVER : status;
             which = status == COMMONWARE_OK ? 0 : i + 1;
         }
@@ -255,7 +256,7 @@ static void try_conflict(uint32_t k, uint32_t members, const uint8_t *text, size
     size_t both = 0;
     uint32_t *out = room(length, sizeof(uint32_t));
     const commonware_conflict_view view =
-        commonware_conflict(k, members, text, place, text + place, length - place, out, length);
+        commonware_conflict(k, members, input, place, input + place, length - place, out, length);
     if (k < 2 || members == 0) {
         status = k < 2 ? COMMONWARE_NO_MODEL : COMMONWARE_NO_MEMBERS;
         which = 0;
@@ -291,15 +292,15 @@ int LLVMFuzzerTestOneInput(const uint8_t *data, size_t size) {
     }
     const size_t low = data[0], high = data[1], length = size - 3;
     const uint32_t k = data[2] % 8;
-    uint8_t *text = room(length, 1);
-    memcpy(text, data + 3, length);
-    try_committee(text, length, low, high);
-    try_committee(text, length, 0, SIZE_MAX);
-    try_certificate(text, length, low, high);
-    try_certificate(text, length, SIZE_MAX, SIZE_MAX);
-    try_indices(text, length, low < length ? low : length);
-    try_conflict(k, (uint32_t)high, text, length, low < length ? low : length);
-    free(text);
+    uint8_t *input = room(length, 1);
+    memcpy(input, data + 3, length);
+    try_committee(input, length, low, high);
+    try_committee(input, length, 0, SIZE_MAX);
+    try_certificate(input, length, low, high);
+    try_certificate(input, length, SIZE_MAX, SIZE_MAX);
+    try_indices(input, length, low < length ? low : length);
+    try_conflict(k, (uint32_t)high, input, length, low < length ? low : length);
+    free(input);
     return 0;
 }
 
@@ -313,7 +314,7 @@ static size_t below(size_t n) {
     return (size_t)(state >> 11) % n;
 }
 
-/* Changes, drops or adds some bytes; the new length. */
+/* Changes, drops or adds some bytes; returns the new length. */
 static size_t change(uint8_t *bytes, size_t length, size_t most) {
     for (size_t changes = 1 + below(4); changes > 0; changes--) {
         const size_t at = below(length);

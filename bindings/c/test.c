@@ -1,5 +1,5 @@
-/* Calls each function: what it answers and refuses, at the end of a readable page too, and with each
- * request for memory refused in turn. Prints what failed, and ends with 0 where nothing did. */
+/* Calls each function: what it returns and refuses, at the end of a readable page too, and with each
+ * allocation failing in turn. Prints what failed, and ends with 0 where nothing did. */
 #define _DEFAULT_SOURCE
 #include "commonware.h"
 
@@ -21,7 +21,7 @@ static void check(bool holds, const char *what, int line) {
 
 #define CHECK(condition) check((condition), #condition, __LINE__)
 
-/* In place of the archive's heap: one that refuses the request of a number, and all after it. */
+/* In place of the archive's heap: one that allows some requests, and refuses all after them. */
 struct tried {
     bool ok;
     unsigned char *block;
@@ -35,8 +35,8 @@ static size_t requests, allowed = SIZE_MAX, live;
 static unsigned char no_block;
 
 static struct tried tried(unsigned char *block) {
-    const struct tried answer = {block != NULL, block != NULL ? block : &no_block};
-    return answer;
+    const struct tried result = {block != NULL, block != NULL ? block : &no_block};
+    return result;
 }
 
 struct tried rattle_alloc(size_t size, size_t align) {
@@ -94,28 +94,28 @@ static void test_committee(void) {
         memset(keys[i], (int)(7 * i % 4), 32);
     }
     const uint8_t(*members)[32] = (const uint8_t(*)[32])keys;
-    uint8_t text[COMMONWARE_COMMITTEE_SIZE(5)];
-    const commonware_written_view written = commonware_committee_write(members, 5, OF(text));
+    uint8_t bytes[COMMONWARE_COMMITTEE_SIZE(5)];
+    const commonware_written_view written = commonware_committee_write(members, 5, OF(bytes));
     CHECK(written.status == COMMONWARE_OK && written.count == 4 && written.size == 1 + 4 * 32);
-    CHECK(text[0] == 4 && text[1] == 0 && text[33] == 1 && text[97] == 3 && text[128] == 3);
+    CHECK(bytes[0] == 4 && bytes[1] == 0 && bytes[33] == 1 && bytes[97] == 3 && bytes[128] == 3);
 
-    commonware_committee_view view = commonware_committee_read(text, written.size + 3, 1, 256);
+    commonware_committee_view view = commonware_committee_read(bytes, written.size + 3, 1, 256);
     CHECK(view.status == COMMONWARE_OK && view.count == 4 && view.start == 1 && view.left == 3);
-    view = commonware_committee_read(text, written.size - 1, 1, 256);
+    view = commonware_committee_read(bytes, written.size - 1, 1, 256);
     CHECK(view.status == COMMONWARE_END_OF_INPUT);
-    view = commonware_committee_read(text, written.size, 5, 256);
+    view = commonware_committee_read(bytes, written.size, 5, 256);
     CHECK(view.status == COMMONWARE_INVALID_LENGTH && view.number == 4);
-    view = commonware_committee_read(text, written.size, 256, 1);
+    view = commonware_committee_read(bytes, written.size, 256, 1);
     CHECK(view.status == COMMONWARE_INVALID_LENGTH && view.number == 4);
-    text[40] ^= 255;
-    view = commonware_committee_read(text, written.size, 0, SIZE_MAX);
+    bytes[40] ^= 255;
+    view = commonware_committee_read(bytes, written.size, 0, SIZE_MAX);
     CHECK(view.status == COMMONWARE_OK);
-    text[33] = 0;
-    view = commonware_committee_read(text, written.size, 0, SIZE_MAX);
+    bytes[33] = 0;
+    view = commonware_committee_read(bytes, written.size, 0, SIZE_MAX);
     CHECK(view.status == COMMONWARE_OK);
-    text[40] ^= 255;
-    memset(text + 33, 0, 32);
-    view = commonware_committee_read(text, written.size, 0, SIZE_MAX);
+    bytes[40] ^= 255;
+    memset(bytes + 33, 0, 32);
+    view = commonware_committee_read(bytes, written.size, 0, SIZE_MAX);
     CHECK(view.status == COMMONWARE_NOT_STRICT);
     const uint8_t overlong[] = {0x80, 0}, past[] = {255, 255, 255, 255, 16};
     CHECK(commonware_committee_read(OF(overlong), 0, 9).status == COMMONWARE_INVALID_VARINT);
@@ -174,21 +174,21 @@ static void test_certificate(void) {
     CHECK(view.status == COMMONWARE_END_OF_INPUT && signers[0] == 0xeeeeeeee);
 
     const uint32_t indices[] = {0, 1, 2}, twice[] = {4, 5, 5}, large[] = {127, 128, UINT32_MAX};
-    uint8_t text[COMMONWARE_CERTIFICATE_SIZE(1, 3)];
-    memset(text, 0xee, sizeof text);
-    commonware_written_view written = commonware_certificate_write(first + 1, 1, OF(twice), OF(text));
-    CHECK(written.status == COMMONWARE_NOT_STRICT && written.number == 2 && text[0] == 0xee);
-    written = commonware_certificate_write(first + 1, 1, OF(indices), text, 5);
-    CHECK(written.status == COMMONWARE_ROOM && written.size == 6 && text[0] == 0xee);
-    written = commonware_certificate_write(first + 1, 1, OF(indices), OF(text));
+    uint8_t bytes[COMMONWARE_CERTIFICATE_SIZE(1, 3)];
+    memset(bytes, 0xee, sizeof bytes);
+    commonware_written_view written = commonware_certificate_write(first + 1, 1, OF(twice), OF(bytes));
+    CHECK(written.status == COMMONWARE_NOT_STRICT && written.number == 2 && bytes[0] == 0xee);
+    written = commonware_certificate_write(first + 1, 1, OF(indices), bytes, 5);
+    CHECK(written.status == COMMONWARE_ROOM && written.size == 6 && bytes[0] == 0xee);
+    written = commonware_certificate_write(first + 1, 1, OF(indices), OF(bytes));
     CHECK(written.status == COMMONWARE_OK && written.size == 6 && written.count == 3);
-    CHECK(memcmp(text, first, 6) == 0 && text[6] == 0xee);
-    written = commonware_certificate_write(first + 1, 1, OF(large), OF(text));
+    CHECK(memcmp(bytes, first, 6) == 0 && bytes[6] == 0xee);
+    written = commonware_certificate_write(first + 1, 1, OF(large), OF(bytes));
     const uint8_t encoded[] = {1, 0xaa, 3, 127, 128, 1, 255, 255, 255, 255, 15};
     CHECK(written.status == COMMONWARE_OK && written.size == sizeof encoded);
-    CHECK(memcmp(text, encoded, sizeof encoded) == 0);
-    written = commonware_certificate_write(NULL, 0, NULL, 0, OF(text));
-    CHECK(written.status == COMMONWARE_OK && written.size == 2 && text[0] == 0 && text[1] == 0);
+    CHECK(memcmp(bytes, encoded, sizeof encoded) == 0);
+    written = commonware_certificate_write(NULL, 0, NULL, 0, OF(bytes));
+    CHECK(written.status == COMMONWARE_OK && written.size == 2 && bytes[0] == 0 && bytes[1] == 0);
     CHECK(commonware_certificate_write(NULL, 0, NULL, 0, NULL, 0).status == COMMONWARE_ROOM);
 }
 
@@ -221,7 +221,7 @@ static void test_conflict(void) {
     CHECK(out[0] == 1 && out[1] == 2 && out[2] == 9);
 }
 
-/* Every text up to some length stands before a page that can't be read, with each room before one that
+/* Every input up to some length ends before a page that can't be read, and each room before one that
  * can't be written. */
 static void test_pages(void) {
     const size_t page = (size_t)sysconf(_SC_PAGESIZE);
@@ -233,9 +233,9 @@ static void test_pages(void) {
     committee[33] = 1;
     committee[65] = 2;
     for (size_t length = 0; length <= sizeof committee; length++) {
-        uint8_t *const text = pages + page - length;
-        memcpy(text, committee, length);
-        const uint32_t status = commonware_committee_read(text, length, 0, 9).status;
+        uint8_t *const input = pages + page - length;
+        memcpy(input, committee, length);
+        const uint32_t status = commonware_committee_read(input, length, 0, 9).status;
         CHECK(status == (length < sizeof committee ? COMMONWARE_END_OF_INPUT : COMMONWARE_OK));
     }
     const uint8_t(*members)[32] = (const uint8_t(*)[32])(pages + page - 96);
@@ -245,10 +245,10 @@ static void test_pages(void) {
     CHECK(commonware_committee_write(members, 3, room - 96, 96).status == COMMONWARE_ROOM);
     CHECK(memcmp(room - 97, committee, 97) == 0);
     for (size_t length = 0; length <= sizeof first; length++) {
-        uint8_t *const text = pages + page - length;
-        memcpy(text, first, length);
+        uint8_t *const input = pages + page - length;
+        memcpy(input, first, length);
         uint32_t *const out = (uint32_t *)(void *)room - 3;
-        const uint32_t status = commonware_certificate_read(text, length, 9, 9, out, 3).status;
+        const uint32_t status = commonware_certificate_read(input, length, 9, 9, out, 3).status;
         CHECK(status == (length < sizeof first ? COMMONWARE_END_OF_INPUT : COMMONWARE_OK));
     }
     const uint32_t *const indices = (const uint32_t *)(const void *)room - 3;

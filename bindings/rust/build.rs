@@ -49,7 +49,7 @@ fn link(folder: &Path, name: &str) {
     println!("cargo::rerun-if-changed={}", archive.display());
 }
 
-/// Links the heap that the library asks, from the folder `c` of the toolchain, whose first page
+/// Links the heap that the library calls, from the folder `c` of the toolchain, whose first page
 /// `rt doc` names. A program that defines the three functions of the heap has its own.
 fn link_heap() {
     let output = Command::new("rt").arg("doc").output();

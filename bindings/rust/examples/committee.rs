@@ -1,4 +1,5 @@
-//! Prints the members of a committee, how many make a quorum, and who signed two different values.
+//! Prints the members of a committee, how many make a quorum, and which members signed two different
+//! values.
 
 use commonware_proved::{Certificate, Committee, FaultModel, conflict};
 use std::error::Error;

@@ -5,11 +5,11 @@ use commonware_proved::{Certificate, Committee, FaultModel, Member, conflict};
 use std::hint::black_box;
 use std::time::Instant;
 
-/// The number at the front, and how many bytes it takes.
-fn varint(text: &[u8]) -> Option<(u32, usize)> {
+/// Returns the number at the start of the input, and how many bytes it takes.
+fn varint(input: &[u8]) -> Option<(u32, usize)> {
     let mut n = 0u64;
     for i in 0..5 {
-        let b = *text.get(i)?;
+        let b = *input.get(i)?;
         n |= u64::from(b & 127) << (7 * i);
         if b < 128 {
             if (b == 0 && i > 0) || n > u64::from(u32::MAX) {
@@ -21,15 +21,15 @@ fn varint(text: &[u8]) -> Option<(u32, usize)> {
     None
 }
 
-/// The members where they stand, and what follows them.
+/// Returns the members in place, and what follows them.
 #[inline(never)]
-fn plain_view(text: &[u8], least: usize, most: usize) -> Option<(&[Member], &[u8])> {
-    let (count, start) = varint(text)?;
+fn plain_view(input: &[u8], least: usize, most: usize) -> Option<(&[Member], &[u8])> {
+    let (count, start) = varint(input)?;
     let count = count as usize;
     if count < least || most < count {
         return None;
     }
-    let rest = &text[start..];
+    let rest = &input[start..];
     let size = count.checked_mul(32)?;
     if rest.len() < size {
         return None;
@@ -43,13 +43,13 @@ fn plain_view(text: &[u8], least: usize, most: usize) -> Option<(&[Member], &[u8
 
 /// The same into a list, item by item.
 #[inline(never)]
-fn plain_list(text: &[u8], least: usize, most: usize) -> Option<(Vec<Member>, &[u8])> {
-    let (count, start) = varint(text)?;
+fn plain_list(input: &[u8], least: usize, most: usize) -> Option<(Vec<Member>, &[u8])> {
+    let (count, start) = varint(input)?;
     let count = count as usize;
     if count < least || most < count {
         return None;
     }
-    let mut rest = &text[start..];
+    let mut rest = &input[start..];
     let mut members: Vec<Member> = Vec::with_capacity(count.min(rest.len() / 32));
     for _ in 0..count {
         let (member, more) = rest.split_first_chunk::<32>()?;
@@ -88,7 +88,7 @@ fn plain_quorum(k: u32, n: u32) -> u32 {
     if k < 2 || n == 0 { 0 } else { n - (n - 1) / k }
 }
 
-/// Nanoseconds a call in each of some runs, in order.
+/// Returns the nanoseconds that a call takes, over `rounds` calls.
 fn sample(rounds: u32, f: &mut dyn FnMut()) -> f64 {
     let start = Instant::now();
     for _ in 0..rounds {
@@ -117,7 +117,7 @@ fn compare(name: &str, rounds: u32, mut ours: impl FnMut(), mut plain: impl FnMu
     println!("{name:<34} {a:>9.1} ns {b:>9.1} ns  {middle:.2} ({low:.2} to {high:.2})");
 }
 
-/// `n` random keys.
+/// Returns `n` random keys.
 fn random_keys(seed: &mut u64, n: u32) -> Vec<Member> {
     let mut next = || {
         *seed ^= *seed << 13;
@@ -160,10 +160,10 @@ fn main() {
         let read = || {
             black_box(Committee::read(black_box(&bytes), 1..=256)).unwrap();
         };
-        compare(&format!("read {n}, to in place"), rounds, read, || {
+        compare(&format!("read {n}, in place"), rounds, read, || {
             black_box(plain_view(black_box(&bytes), 1, 256)).unwrap();
         });
-        compare(&format!("read {n}, to into a list"), rounds, read, || {
+        compare(&format!("read {n}, into a list"), rounds, read, || {
             black_box(plain_list(black_box(&bytes), 1, 256)).unwrap();
         });
         let committee = Committee::try_from(&bytes[..]).unwrap();
@@ -191,22 +191,22 @@ fn main() {
     }
 }
 
-/// Two certificates that all of n members signed.
+/// Compares the conflict of two certificates that all of n members signed.
 fn conflicts(n: u32, rounds: u32) {
     let signers: Vec<u32> = (0..n).collect();
-    let texts = [b"a", b"b"].map(|value| Certificate::encode(value, &signers).unwrap());
+    let inputs = [b"a", b"b"].map(|value| Certificate::encode(value, &signers).unwrap());
     compare(
         &format!("conflict of {n}"),
         rounds,
-        || drop(black_box(conflict(FaultModel::N3F1, n, &texts[0], &texts[1])).unwrap()),
-        || drop(black_box(plain_conflict(n, &texts[0], &texts[1])).unwrap()),
+        || drop(black_box(conflict(FaultModel::N3F1, n, &inputs[0], &inputs[1])).unwrap()),
+        || drop(black_box(plain_conflict(n, &inputs[0], &inputs[1])).unwrap()),
     );
 }
 
-/// The value and the signers of a text that is a certificate and nothing more.
-fn plain_parts(text: &[u8]) -> Option<(&[u8], Vec<u32>)> {
-    let (length, start) = varint(text)?;
-    let (value, rest) = text[start..].split_at_checked(length as usize)?;
+/// Returns the value and the signers of an input that is exactly one certificate.
+fn plain_parts(input: &[u8]) -> Option<(&[u8], Vec<u32>)> {
+    let (length, start) = varint(input)?;
+    let (value, rest) = input[start..].split_at_checked(length as usize)?;
     let (count, start) = varint(rest)?;
     let mut rest = &rest[start..];
     let mut signers = Vec::with_capacity((count as usize).min(rest.len()));

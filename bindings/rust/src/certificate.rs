@@ -1,10 +1,10 @@
-//! A value and those that signed it, in their bytes.
+//! A value and those that signed it, from their encoding.
 
 use crate::room::zeros;
-use crate::{EncodeError, Refusal, raw};
+use crate::{EncodeError, Refusal, raw, status};
 
-/// A value, and the indices of the members that signed it, in order and each once. The value is
-/// borrowed from the certificate's bytes. Nothing is said of whether a signature is genuine.
+/// A value, and the indices of the members that signed it, strictly increasing. The value is borrowed
+/// from the certificate's encoding. Whether a signature is genuine isn't tested.
 ///
 /// ```
 /// use commonware_proved::Certificate;
@@ -22,48 +22,48 @@ pub struct Certificate<'a> {
 }
 
 impl<'a> Certificate<'a> {
-    /// The certificate at the front of a text, with a value of up to `most_bytes` bytes and up to
-    /// `most_signers` signers, and what follows it.
+    /// Decodes the certificate at the start of the input, with a value of up to `most_bytes` bytes and
+    /// up to `most_signers` signers, and returns what follows it.
     ///
     /// # Errors
     ///
-    /// The first fault of the text, or `Memory`; not `LeftOver`.
+    /// The first fault (decoding error) of the input, or `Memory`; not `LeftOver`.
     ///
     /// ```
     /// # use commonware_proved::{Certificate, Refusal};
-    /// let text = Certificate::encode(b"block", &[0, 2, 3])?;
-    /// assert_eq!(Certificate::read(&text, 4, 256), Err(Refusal::InvalidLength(5)));
-    /// assert!(Certificate::read(&text, 32, 256)?.1.is_empty());
+    /// let bytes = Certificate::encode(b"block", &[0, 2, 3])?;
+    /// assert_eq!(Certificate::read(&bytes, 4, 256), Err(Refusal::InvalidLength(5)));
+    /// assert!(Certificate::read(&bytes, 32, 256)?.1.is_empty());
     /// # Ok::<(), Box<dyn std::error::Error>>(())
     /// ```
     pub fn read(
-        text: &'a [u8],
+        input: &'a [u8],
         most_bytes: usize,
         most_signers: usize,
     ) -> Result<(Certificate<'a>, &'a [u8]), Refusal> {
-        // Each signer has a byte at least, so this room suffices.
-        let mut signers = zeros(most_signers.min(text.len())).ok_or(Refusal::Memory)?;
-        // SAFETY: each pointer and the length of its slice; `signers` is a new one.
+        // Each signer takes at least one byte, so these suffice.
+        let mut signers = zeros(most_signers.min(input.len())).ok_or(Refusal::Memory)?;
+        // SAFETY: each pointer and the length after it are those of one slice; `signers` is a new one.
         let view = unsafe {
             raw::commonware_certificate_read(
-                text.as_ptr(),
-                text.len(),
+                input.as_ptr(),
+                input.len(),
                 most_bytes,
                 most_signers,
                 signers.as_mut_ptr(),
                 signers.len(),
             )
         };
-        if view.status != 0 {
+        if view.status != status::OK {
             return Err(Refusal::of(view.status, view.number));
         }
         signers.truncate(view.signers as usize);
-        let value = &text[view.value_start..][..view.value_length];
-        let rest = &text[text.len() - view.left..];
+        let value = &input[view.value_start..][..view.value_length];
+        let rest = &input[input.len() - view.left..];
         Ok((Certificate { value, signers }, rest))
     }
 
-    /// The bytes that were signed.
+    /// Returns the bytes that were signed.
     ///
     /// ```
     /// # use commonware_proved::Certificate;
@@ -75,7 +75,7 @@ impl<'a> Certificate<'a> {
         self.value
     }
 
-    /// The indices of those that signed, in order and each once.
+    /// Returns the indices of those that signed, strictly increasing.
     ///
     /// ```
     /// # use commonware_proved::Certificate;
@@ -87,8 +87,8 @@ impl<'a> Certificate<'a> {
         &self.signers
     }
 
-    /// The bytes of the certificate of a value and of the indices of those that signed it, which
-    /// are in order and each once.
+    /// Encodes the certificate of a value and of the indices of those that signed it, which are
+    /// strictly increasing.
     ///
     /// # Errors
     ///
@@ -113,7 +113,7 @@ impl<'a> Certificate<'a> {
                 out.len(),
             )
         };
-        if view.status != 0 {
+        if view.status != status::OK {
             return Err(EncodeError::of(view.status, view.number));
         }
         out.truncate(view.size);
@@ -121,12 +121,12 @@ impl<'a> Certificate<'a> {
     }
 }
 
-/// The whole text is the certificate, of any lengths.
+/// The whole input is the certificate, of any lengths.
 impl<'a> TryFrom<&'a [u8]> for Certificate<'a> {
     type Error = Refusal;
 
-    fn try_from(text: &'a [u8]) -> Result<Certificate<'a>, Refusal> {
-        match Certificate::read(text, usize::MAX, usize::MAX)? {
+    fn try_from(input: &'a [u8]) -> Result<Certificate<'a>, Refusal> {
+        match Certificate::read(input, usize::MAX, usize::MAX)? {
             (certificate, []) => Ok(certificate),
             (_, rest) => Err(Refusal::LeftOver(rest.len())),
         }

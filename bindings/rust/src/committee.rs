@@ -1,7 +1,7 @@
-//! The members of a committee, in their bytes.
+//! The members of a committee, in their encoding.
 
 use crate::room::zeros;
-use crate::{EncodeError, FaultModel, Refusal, raw};
+use crate::{EncodeError, FaultModel, Refusal, raw, status};
 use std::ops::RangeInclusive;
 use std::slice;
 
@@ -11,7 +11,7 @@ pub const MEMBER_SIZE: usize = 32;
 /// The key of a member. Members are ordered by their bytes.
 pub type Member = [u8; MEMBER_SIZE];
 
-/// The members of a committee, in order and each once, borrowed from its bytes. Nothing is copied.
+/// The members of a committee, strictly increasing, borrowed from its encoding. Nothing is copied.
 ///
 /// ```
 /// use commonware_proved::{Committee, Refusal};
@@ -27,38 +27,43 @@ pub struct Committee<'a> {
 }
 
 impl<'a> Committee<'a> {
-    /// The committee at the front of a text, whose number of members is in the range, and what
-    /// follows it. It takes no memory.
+    /// Decodes the committee at the start of the input, whose number of members is in the range, and
+    /// returns what follows it. Nothing is allocated.
     ///
     /// # Errors
     ///
-    /// The first fault of the text; neither `LeftOver` nor `Memory`.
+    /// The first fault (decoding error) of the input; neither `LeftOver` nor `Memory`.
     ///
     /// ```
     /// # use commonware_proved::{Committee, Refusal};
-    /// let text = [&[1][..], &[9; 32], b"more"].concat();
-    /// let (committee, rest) = Committee::read(&text, 1..=256)?;
+    /// let bytes = [&[1][..], &[9; 32], b"more"].concat();
+    /// let (committee, rest) = Committee::read(&bytes, 1..=256)?;
     /// assert_eq!((committee.len(), rest), (1, &b"more"[..]));
-    /// assert_eq!(Committee::read(&text, 2..=256), Err(Refusal::InvalidLength(1)));
+    /// assert_eq!(Committee::read(&bytes, 2..=256), Err(Refusal::InvalidLength(1)));
     /// # Ok::<(), Refusal>(())
     /// ```
     pub fn read(
-        text: &'a [u8],
+        input: &'a [u8],
         sizes: RangeInclusive<usize>,
     ) -> Result<(Committee<'a>, &'a [u8]), Refusal> {
         // SAFETY: the pointer and the length are those of one slice, which is borrowed for the call.
         let view = unsafe {
-            raw::commonware_committee_read(text.as_ptr(), text.len(), *sizes.start(), *sizes.end())
+            raw::commonware_committee_read(
+                input.as_ptr(),
+                input.len(),
+                *sizes.start(),
+                *sizes.end(),
+            )
         };
-        if view.status != 0 {
+        if view.status != status::OK {
             return Err(Refusal::of(view.status, view.number));
         }
-        let (bytes, rest) = text.split_at(text.len() - view.left);
+        let (bytes, rest) = input.split_at(input.len() - view.left);
         let (members, _) = bytes[view.start..].as_chunks();
         Ok((Committee { members }, rest))
     }
 
-    /// The members in order.
+    /// Returns the members in order.
     ///
     /// ```
     /// # use commonware_proved::Committee;
@@ -71,7 +76,7 @@ impl<'a> Committee<'a> {
         self.members
     }
 
-    /// The members in order.
+    /// Returns the members in order.
     ///
     /// ```
     /// # use commonware_proved::Committee;
@@ -83,7 +88,7 @@ impl<'a> Committee<'a> {
         self.members.iter()
     }
 
-    /// How many members there are.
+    /// Returns how many members there are.
     ///
     /// ```
     /// # use commonware_proved::Committee;
@@ -107,7 +112,7 @@ impl<'a> Committee<'a> {
         self.members.is_empty()
     }
 
-    /// The index of a member, or `None` where there is no such. It takes O(log n) comparisons.
+    /// Returns the index of a member, or `None` where there is no such, in O(log n) comparisons.
     ///
     /// ```
     /// # use commonware_proved::Committee;
@@ -123,7 +128,7 @@ impl<'a> Committee<'a> {
         let view = unsafe {
             raw::commonware_committee_index(self.members.as_ptr(), self.members.len(), key)
         };
-        (view.status == 0).then_some(view.index)
+        (view.status == status::OK).then_some(view.index)
     }
 
     /// Whether the key is that of a member.
@@ -138,7 +143,7 @@ impl<'a> Committee<'a> {
         self.index_of(key).is_some()
     }
 
-    /// How many of the members may be faulty in a model, or `None` where there are no members.
+    /// Returns how many of the members may be faulty in a model, or `None` where there are no members.
     ///
     /// ```
     /// # use commonware_proved::{Committee, FaultModel};
@@ -152,7 +157,7 @@ impl<'a> Committee<'a> {
         model.max_faults(self.count())
     }
 
-    /// How many of the members make a quorum in a model, or `None` where there are no members.
+    /// Returns how many of the members make a quorum in a model, or `None` where there are no members.
     ///
     /// ```
     /// # use commonware_proved::{Committee, FaultModel};
@@ -164,13 +169,13 @@ impl<'a> Committee<'a> {
         model.quorum(self.count())
     }
 
-    /// The number of members, which its varint keeps below 2^32.
+    /// Returns the number of members, which its varint keeps below 2^32.
     fn count(&self) -> u32 {
         self.members.len() as u32
     }
 
-    /// The bytes of the committee of these keys, in order and each once: the one encoding of the
-    /// committee. The keys come in any order, as often as they like.
+    /// Encodes the committee of these keys: sorted, each key once. The keys may come in any order and
+    /// repeat.
     ///
     /// # Errors
     ///
@@ -186,7 +191,7 @@ impl<'a> Committee<'a> {
         let view = unsafe {
             raw::commonware_committee_write(keys.as_ptr(), keys.len(), out.as_mut_ptr(), out.len())
         };
-        if view.status != 0 {
+        if view.status != status::OK {
             return Err(EncodeError::of(view.status, view.number));
         }
         out.truncate(view.size);
@@ -194,12 +199,12 @@ impl<'a> Committee<'a> {
     }
 }
 
-/// The whole text is the committee, of any number of members.
+/// The whole input is the committee, of any number of members.
 impl<'a> TryFrom<&'a [u8]> for Committee<'a> {
     type Error = Refusal;
 
-    fn try_from(text: &'a [u8]) -> Result<Committee<'a>, Refusal> {
-        match Committee::read(text, 0..=usize::MAX)? {
+    fn try_from(input: &'a [u8]) -> Result<Committee<'a>, Refusal> {
+        match Committee::read(input, 0..=usize::MAX)? {
             (committee, []) => Ok(committee),
             (_, rest) => Err(Refusal::LeftOver(rest.len())),
         }

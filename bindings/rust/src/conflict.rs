@@ -1,7 +1,7 @@
-//! The members that signed two certificates for different values.
+//! The members that signed two certificates for different values (equivocation).
 
 use crate::room::zeros;
-use crate::{FaultModel, Refusal, raw};
+use crate::{FaultModel, Refusal, raw, status};
 use std::error::Error;
 use std::fmt;
 
@@ -20,9 +20,9 @@ use std::fmt;
 pub enum ConflictError {
     /// The committee has no members.
     NoMembers,
-    /// The first text isn't a certificate and nothing more.
+    /// The first input isn't exactly one certificate.
     First(Refusal),
-    /// The second text isn't a certificate and nothing more.
+    /// The second input isn't exactly one certificate.
     Second(Refusal),
     /// Both certificates are for the same value.
     SameValue,
@@ -30,7 +30,7 @@ pub enum ConflictError {
     Outside,
     /// Fewer than a quorum signed one of them.
     TooFew,
-    /// Memory was refused. It says nothing of the certificates.
+    /// An allocation failed. This says nothing of the certificates.
     Memory,
 }
 
@@ -57,13 +57,13 @@ impl Error for ConflictError {
     }
 }
 
-/// The members that signed two certificates for different values, in a committee of `members`: their
-/// indices, in order. With f of them faulty at most, they are at least (k - 2)f + 1; where the k of
-/// the model is 3 or more, some of them is outside any f members.
+/// Returns the indices, in order, of the members that signed two certificates for different values, in
+/// a committee of `members`. With f of them faulty at most, they are at least (k - 2)f + 1; where the k
+/// of the model is 3 or more, at least one of them is outside every set of f members.
 ///
 /// # Errors
 ///
-/// Why no one is named, and nothing of whether a signature is genuine.
+/// Why no one is named. Whether a signature is genuine isn't tested.
 ///
 /// ```
 /// use commonware_proved::{Certificate, FaultModel, conflict};
@@ -79,7 +79,7 @@ pub fn conflict(
     first: &[u8],
     second: &[u8],
 ) -> Result<Vec<u32>, ConflictError> {
-    // Each signer has a byte at least, in both.
+    // Each signer takes at least one byte, in both.
     let room = first.len().min(second.len()).min(members as usize);
     let mut accused = zeros(room).ok_or(ConflictError::Memory)?;
     // SAFETY: each pointer and the length after it are those of one slice; `accused` is a new one.
@@ -96,17 +96,17 @@ pub fn conflict(
         )
     };
     Err(match (view.status, view.which) {
-        (0, _) => {
+        (status::OK, _) => {
             accused.truncate(view.count);
             return Ok(accused);
         }
         (status, 1) => ConflictError::First(Refusal::of(status, view.number)),
         (status, 2) => ConflictError::Second(Refusal::of(status, view.number)),
-        (5, _) => ConflictError::Memory,
-        (7, _) => ConflictError::NoMembers,
-        (8, _) => ConflictError::SameValue,
-        (9, _) => ConflictError::Outside,
-        (10, _) => ConflictError::TooFew,
-        (status, _) => unreachable!("no conflict answers status {status} with room enough"),
+        (status::MEMORY, _) => ConflictError::Memory,
+        (status::NO_MEMBERS, _) => ConflictError::NoMembers,
+        (status::SAME_VALUE, _) => ConflictError::SameValue,
+        (status::OUTSIDE, _) => ConflictError::Outside,
+        (status::TOO_FEW, _) => ConflictError::TooFew,
+        (status, _) => unreachable!("with enough space no conflict returns status {status}"),
     })
 }

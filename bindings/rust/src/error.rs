@@ -1,44 +1,45 @@
-//! Why bytes aren't what they should be, and why they can't be written.
+//! Why an input is refused, and why a value can't be encoded.
 
+use crate::status;
 use std::error::Error;
 use std::fmt;
 
-/// Why bytes were refused: their first fault, or an allocation failure.
+/// Why an input was refused: its first fault (decoding error), or an allocation failure.
 ///
 /// ```
 /// use commonware_proved::{Committee, Refusal};
 ///
 /// // It states two members, and has the bytes of none.
 /// assert_eq!(Committee::try_from(&[2][..]), Err(Refusal::EndOfInput));
-/// assert_eq!(Refusal::EndOfInput.to_string(), "the text ends too soon");
+/// assert_eq!(Refusal::EndOfInput.to_string(), "unexpected end of input");
 /// ```
 #[derive(Clone, Copy, Debug, PartialEq, Eq, Hash)]
 pub enum Refusal {
-    /// The text ends before the value does.
+    /// The input ends before the value does.
     EndOfInput,
     /// A varint is longer than it has to be, or its number is past 4294967295.
     InvalidVarint,
     /// This length is out of range.
     InvalidLength(usize),
-    /// The items aren't sorted and unique.
+    /// The items aren't strictly increasing.
     NotStrict,
-    /// This number of bytes follows what was to be the whole text.
+    /// This number of bytes follows the value, and none may.
     LeftOver(usize),
-    /// Memory was refused. It says nothing of the text.
+    /// An allocation failed. This says nothing of the input.
     Memory,
 }
 
 impl Refusal {
-    /// The refusal that a status of the library stands for, with its number.
+    /// Returns the refusal of a status of the library, with its number.
     pub(crate) fn of(status: u32, number: usize) -> Refusal {
         match status {
-            1 => Refusal::EndOfInput,
-            2 => Refusal::InvalidVarint,
-            3 => Refusal::InvalidLength(number),
-            4 => Refusal::NotStrict,
-            5 => Refusal::Memory,
-            6 => Refusal::LeftOver(number),
-            _ => unreachable!("no reader answers status {status}"),
+            status::END_OF_INPUT => Refusal::EndOfInput,
+            status::INVALID_VARINT => Refusal::InvalidVarint,
+            status::INVALID_LENGTH => Refusal::InvalidLength(number),
+            status::NOT_STRICT => Refusal::NotStrict,
+            status::MEMORY => Refusal::Memory,
+            status::LEFT_OVER => Refusal::LeftOver(number),
+            _ => unreachable!("no reader returns status {status}"),
         }
     }
 }
@@ -46,7 +47,7 @@ impl Refusal {
 impl fmt::Display for Refusal {
     fn fmt(&self, f: &mut fmt::Formatter<'_>) -> fmt::Result {
         match self {
-            Refusal::EndOfInput => f.write_str("the text ends too soon"),
+            Refusal::EndOfInput => f.write_str("unexpected end of input"),
             Refusal::InvalidVarint => f.write_str("invalid varint"),
             Refusal::InvalidLength(length) => write!(f, "length {length} is out of range"),
             Refusal::NotStrict => f.write_str("items must be sorted and unique"),
@@ -58,7 +59,7 @@ impl fmt::Display for Refusal {
 
 impl Error for Refusal {}
 
-/// Why nothing was written: the first fault of the request, or an allocation failure.
+/// Why nothing was written: the first thing wrong with the request, or an allocation failure.
 ///
 /// ```
 /// use commonware_proved::{Certificate, EncodeError};
@@ -72,18 +73,18 @@ pub enum EncodeError {
     InvalidLength(usize),
     /// The signer at this place isn't greater than the one before it.
     NotStrict(usize),
-    /// Memory was refused. It says nothing of what was to be written.
+    /// An allocation failed. This says nothing of what was to be written.
     Memory,
 }
 
 impl EncodeError {
-    /// The error that a status of the library stands for, with its number.
+    /// Returns the error of a status of the library, with its number.
     pub(crate) fn of(status: u32, number: usize) -> EncodeError {
         match status {
-            3 => EncodeError::InvalidLength(number),
-            4 => EncodeError::NotStrict(number),
-            5 => EncodeError::Memory,
-            _ => unreachable!("no writer with room enough answers status {status}"),
+            status::INVALID_LENGTH => EncodeError::InvalidLength(number),
+            status::NOT_STRICT => EncodeError::NotStrict(number),
+            status::MEMORY => EncodeError::Memory,
+            _ => unreachable!("with enough space no writer returns status {status}"),
         }
     }
 }

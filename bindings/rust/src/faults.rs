@@ -19,7 +19,7 @@ pub struct FaultModel {
 }
 
 impl FaultModel {
-    /// `n >= 3f + 1`: any two quorums share a participant outside any f.
+    /// `n >= 3f + 1`: any two quorums share f + 1 participants, so one that is outside any given f.
     ///
     /// ```
     /// # use commonware_proved::FaultModel;
@@ -35,7 +35,7 @@ impl FaultModel {
     /// ```
     pub const N5F1: FaultModel = FaultModel { k: 5 };
 
-    /// The model of this k, which is 2 or more; else `None`.
+    /// Returns the model of this k, which is 2 or more; else `None`.
     ///
     /// ```
     /// # use commonware_proved::FaultModel;
@@ -47,7 +47,7 @@ impl FaultModel {
         if k < 2 { None } else { Some(FaultModel { k }) }
     }
 
-    /// The k of `n >= kf + 1`.
+    /// Returns the k of `n >= kf + 1`.
     ///
     /// ```
     /// # use commonware_proved::FaultModel;
@@ -58,7 +58,7 @@ impl FaultModel {
         self.k
     }
 
-    /// How many of `n` participants may be faulty, or `None` of none.
+    /// Returns how many of `n` participants may be faulty, or `None` where `n` is 0.
     ///
     /// ```
     /// # use commonware_proved::FaultModel;
@@ -70,7 +70,7 @@ impl FaultModel {
         (n > 0).then(|| raw::commonware_max_faults(self.k, n))
     }
 
-    /// How many of `n` participants make a quorum, n - f, or `None` of none.
+    /// Returns how many of `n` participants make a quorum, n - f, or `None` where `n` is 0.
     ///
     /// ```
     /// # use commonware_proved::FaultModel;
@@ -81,8 +81,8 @@ impl FaultModel {
         (n > 0).then(|| raw::commonware_quorum(self.k, n))
     }
 
-    /// The least size whose subsets share f + 1 participants with each quorum, 2f + 1, or `None` of
-    /// no participants.
+    /// Returns the least size whose subsets share f + 1 participants with each quorum, 2f + 1, or
+    /// `None` where `n` is 0.
     ///
     /// ```
     /// # use commonware_proved::FaultModel;

@@ -1,10 +1,10 @@
 //! Committees, certificates and quorums of consensus nodes: how many of n participants may be
-//! faulty, the bytes of committees and of certificates, and the members that signed two different
-//! values.
+//! faulty, the encodings of committees and of certificates, and which members signed two different
+//! values (equivocation).
 //!
 //! Each call is one call of the static library `commonware_c`, which is written in Rattle and whose
-//! contracts are proved; nothing is decided here. No call panics, and no call aborts for want of
-//! memory: that is an error, which says nothing of what was given.
+//! contracts are proved; nothing is decided here. No call panics or aborts: an allocation failure is
+//! an error, which says nothing of the input.
 //!
 //! ```
 //! use commonware_proved::{Certificate, Committee, FaultModel, conflict};
@@ -27,6 +27,7 @@ mod error;
 mod faults;
 mod raw;
 mod room;
+mod status;
 
 pub use certificate::Certificate;
 pub use committee::{Committee, MEMBER_SIZE, Member};

@@ -50,15 +50,15 @@ pub struct ConflictView {
 }
 
 unsafe extern "C" {
-    // These take numbers alone, and answer each.
+    // These take numbers only, and return a number for each.
     pub safe fn commonware_max_faults(k: u32, n: u32) -> u32;
     pub safe fn commonware_quorum(k: u32, n: u32) -> u32;
     pub safe fn commonware_smaller_quorum(k: u32, n: u32) -> u32;
 
     // A pointer and the length after it are those of one slice, and `out` overlaps no other.
     pub fn commonware_committee_read(
-        text: *const u8,
-        text_length: usize,
+        input: *const u8,
+        input_length: usize,
         least: usize,
         most: usize,
     ) -> CommitteeView;
@@ -74,8 +74,8 @@ unsafe extern "C" {
         out_length: usize,
     ) -> WrittenView;
     pub fn commonware_certificate_read(
-        text: *const u8,
-        text_length: usize,
+        input: *const u8,
+        input_length: usize,
         most_bytes: usize,
         most_signers: usize,
         out: *mut u32,

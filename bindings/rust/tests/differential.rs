@@ -13,7 +13,7 @@ use std::collections::{BTreeMap, BTreeSet};
 
 const CASES: usize = 100_000;
 
-/// How often each outcome was seen, so that a test can tell that it saw all.
+/// How often each outcome was seen, so that a test can require that it saw all.
 #[derive(Default)]
 struct Seen(BTreeMap<String, usize>);
 
@@ -28,7 +28,7 @@ impl Seen {
     }
 }
 
-/// The name of a refusal, without its number.
+/// Returns the name of a refusal, without its number.
 fn name(refusal: &Refusal) -> &'static str {
     match refusal {
         Refusal::EndOfInput => "end",
@@ -40,7 +40,7 @@ fn name(refusal: &Refusal) -> &'static str {
     }
 }
 
-/// The keys in order, each once.
+/// Returns the keys sorted, each once.
 fn sorted(keys: &[Member]) -> Vec<Member> {
     keys.iter()
         .copied()
@@ -208,10 +208,10 @@ fn certificates_go_both_ways() {
 fn many_signers_conflict() {
     for count in [127, 128, 5_000, 70_000u32] {
         let signers: [Vec<u32>; 2] = [(0..count).collect(), (1..=count).collect()];
-        let texts = [0, 1].map(|i| Certificate::encode(&[i as u8], &signers[i]).unwrap());
-        let certificate = Certificate::try_from(&texts[1][..]).unwrap();
+        let inputs = [0, 1].map(|i| Certificate::encode(&[i as u8], &signers[i]).unwrap());
+        let certificate = Certificate::try_from(&inputs[1][..]).unwrap();
         assert_eq!(certificate.signers(), signers[1]);
-        let both = conflict(FaultModel::N5F1, count + 1, &texts[0], &texts[1]).unwrap();
+        let both = conflict(FaultModel::N5F1, count + 1, &inputs[0], &inputs[1]).unwrap();
         assert_eq!(both, signers[1][..count as usize - 1]);
     }
 }
@@ -305,7 +305,7 @@ fn eight_threads_call_at_once() {
     let keys: Vec<Member> = (0..100u8).rev().map(|i| [i; 32]).collect();
     let bytes = Committee::encode(&keys).unwrap();
     let signers: Vec<u32> = (0..80).collect();
-    let texts = [b"a", b"b"].map(|value| Certificate::encode(value, &signers).unwrap());
+    let inputs = [b"a", b"b"].map(|value| Certificate::encode(value, &signers).unwrap());
     std::thread::scope(|scope| {
         for _ in 0..8 {
             scope.spawn(|| {
@@ -313,7 +313,7 @@ fn eight_threads_call_at_once() {
                     let committee = Committee::try_from(&bytes[..]).unwrap();
                     assert_eq!(committee.index_of(&[77; 32]), Some(77));
                     assert_eq!(Committee::encode(&keys).as_ref(), Ok(&bytes));
-                    let both = conflict(FaultModel::N3F1, 100, &texts[0], &texts[1]);
+                    let both = conflict(FaultModel::N3F1, 100, &inputs[0], &inputs[1]);
                     assert_eq!(both.as_ref(), Ok(&signers));
                 }
             });
@@ -322,7 +322,7 @@ fn eight_threads_call_at_once() {
 }
 
 #[test]
-fn an_empty_slice_is_no_text() {
+fn an_empty_input_ends_too_soon() {
     assert_eq!(Committee::read(&[], 0..=9), Err(Refusal::EndOfInput));
     assert_eq!(Certificate::try_from(&[][..]), Err(Refusal::EndOfInput));
     assert_eq!(Committee::encode(&[]), Ok(vec![0]));
@@ -339,7 +339,7 @@ fn no_number_is_in_a_range_that_is_reversed() {
 }
 
 #[test]
-fn what_is_left_over_is_told() {
+fn bytes_left_over_are_counted() {
     assert_eq!(
         Committee::try_from(&[0, 1, 2][..]),
         Err(Refusal::LeftOver(2))

@@ -1,4 +1,4 @@
-//! Each request for memory is refused in turn, with all after it: nothing is lost, and all is given back.
+//! Each allocation fails in turn, with all after it: no block is lost, and all are freed.
 //!
 //! The three functions of the heap are defined here, in place of those of the archive.
 
@@ -36,7 +36,7 @@ fn tried(block: *mut u8) -> Tried {
     }
 }
 
-/// Whether one more request is let through.
+/// Counts a request for memory; returns whether it is let through.
 fn is_allowed() -> bool {
     let requests = REQUESTS.get();
     REQUESTS.set(requests + 1);
@@ -55,7 +55,7 @@ extern "C" fn rattle_alloc(size: usize, align: usize) -> Tried {
 
 /// # Safety
 ///
-/// `block` came from one of these functions, and wasn't given back.
+/// `block` came from one of these functions, and wasn't freed.
 #[unsafe(no_mangle)]
 unsafe extern "C" fn rattle_realloc(
     block: *mut u8,
@@ -80,7 +80,7 @@ unsafe extern "C" fn rattle_dealloc(block: *mut u8) {
     unsafe { free(block) }
 }
 
-/// Makes the call with each request refused in turn, until one run has none refused; how many
+/// Makes the call with each request refused in turn, until one run has none refused; returns how many
 /// requests there are.
 fn refuse_each<T, E: PartialEq + std::fmt::Debug>(
     refused: &E,
@@ -104,7 +104,7 @@ fn refuse_each<T, E: PartialEq + std::fmt::Debug>(
 }
 
 #[test]
-fn a_committee_is_read_without_memory() {
+fn reading_a_committee_allocates_nothing() {
     let bytes = Committee::encode(&[[2; 32], [1; 32]]).unwrap();
     let requests = refuse_each(&Refusal::Memory, || Committee::try_from(&bytes[..]));
     assert_eq!(requests, 0);
@@ -116,21 +116,21 @@ fn a_committee_is_read_without_memory() {
 }
 
 #[test]
-fn a_committee_is_written_or_memory_is_told() {
+fn writing_a_committee_returns_each_allocation_failure() {
     let keys: Vec<_> = (0..200u8).rev().map(|i| [i; 32]).collect();
     let requests = refuse_each(&EncodeError::Memory, || Committee::encode(&keys));
     assert!(requests > 0);
 }
 
 #[test]
-fn a_certificate_is_written_without_memory() {
+fn writing_a_certificate_allocates_nothing() {
     let signers: Vec<u32> = (0..200).collect();
     let requests = refuse_each(&EncodeError::Memory, || Certificate::encode(b"x", &signers));
     assert_eq!(requests, 0);
 }
 
 #[test]
-fn a_certificate_is_read_or_memory_is_told() {
+fn reading_a_certificate_returns_each_allocation_failure() {
     let signers: Vec<u32> = (0..5_000).collect();
     let bytes = Certificate::encode(&[7; 100], &signers).unwrap();
     let requests = refuse_each(&Refusal::Memory, || Certificate::try_from(&bytes[..]));
@@ -138,10 +138,10 @@ fn a_certificate_is_read_or_memory_is_told() {
 }
 
 #[test]
-fn a_conflict_is_told_or_memory_is() {
+fn a_conflict_returns_each_allocation_failure() {
     let signers: Vec<u32> = (0..5_000).collect();
-    let texts = [b"x", b"y"].map(|value| Certificate::encode(value, &signers).unwrap());
-    let call = || conflict(FaultModel::N3F1, 5_000, &texts[0], &texts[1]);
+    let inputs = [b"x", b"y"].map(|value| Certificate::encode(value, &signers).unwrap());
+    let call = || conflict(FaultModel::N3F1, 5_000, &inputs[0], &inputs[1]);
     let of_memory = |error| match error {
         ConflictError::First(Refusal::Memory) | ConflictError::Second(Refusal::Memory) => {
             ConflictError::Memory

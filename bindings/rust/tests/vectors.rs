@@ -1,4 +1,4 @@
-//! The vectors of certificates at the repository's root, whose answers were worked out by hand.
+//! The vectors of certificates at the repository's root, whose results were worked out by hand.
 
 use commonware_proved::{Certificate, Refusal};
 use std::fs;
@@ -6,10 +6,10 @@ use std::path::{Path, PathBuf};
 
 fn vectors(name: &str) -> String {
     let folder: PathBuf = Path::new(env!("CARGO_MANIFEST_DIR")).join("../../vectors");
-    fs::read_to_string(folder.join(name)).expect("the vectors stand at the root")
+    fs::read_to_string(folder.join(name)).expect("the vectors are at the root")
 }
 
-/// The greatest number of a range without a lower bound: `..`, `..N` or `..=N`.
+/// Returns the greatest number of a range without a lower bound: `..`, `..N` or `..=N`.
 fn most(range: &str) -> Option<usize> {
     let end = range.strip_prefix("..")?;
     match end.strip_prefix('=') {
@@ -28,8 +28,8 @@ fn bytes(digits: &str) -> Vec<u8> {
     digits.chunks(2).map(byte).collect()
 }
 
-fn answer(text: &[u8], most_bytes: usize, most_signers: usize) -> String {
-    match Certificate::read(text, most_bytes, most_signers) {
+fn result_of(input: &[u8], most_bytes: usize, most_signers: usize) -> String {
+    match Certificate::read(input, most_bytes, most_signers) {
         Ok((certificate, rest)) => {
             format!("accepted {} {}", certificate.signers().len(), rest.len())
         }
@@ -42,7 +42,7 @@ fn answer(text: &[u8], most_bytes: usize, most_signers: usize) -> String {
 }
 
 #[test]
-fn certificates_are_judged_as_the_vectors_say() {
+fn certificates_are_decoded_as_the_vectors_say() {
     let (questions, answers) = (
         vectors("certificate.questions"),
         vectors("certificate.answers"),
@@ -53,13 +53,13 @@ fn certificates_are_judged_as_the_vectors_say() {
     let mut tried = 0;
     for (question, expected) in questions.zip(answers.lines()) {
         let words: Vec<&str> = question.split_whitespace().collect();
-        let [_, value, signers, text] = words[..] else {
+        let [_, value, signers, input] = words[..] else {
             panic!("{question}");
         };
         // The call takes no lower bounds.
         if let (Some(most_bytes), Some(most_signers)) = (most(value), most(signers)) {
-            let answer = answer(&bytes(text), most_bytes, most_signers);
-            assert_eq!(answer, expected, "{question}");
+            let result = result_of(&bytes(input), most_bytes, most_signers);
+            assert_eq!(result, expected, "{question}");
             tried += 1;
         }
     }

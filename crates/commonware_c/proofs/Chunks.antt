@@ -22,8 +22,8 @@ chunks_are_members (suc k) s h enough = (
 )
 
 -- together they are the bytes
-pub chunks_are_text : (k : ℕ) (s : List ℕ) → length s ≡ k * 32 → flat_map member_bytes (first_chunks 32 k s) ≡ s
-chunks_are_text zero [] e = refl
-chunks_are_text zero (b ∷ s) e = absurd (omega (arith, e))
-chunks_are_text (suc k) s e =
-    ap (λ t. take 32 s ++ t) (chunks_are_text k (drop 32 s) (omega (arith, e, length-drop 32 s))) ∙ take-append-drop 32 s
+pub chunks_are_bytes : (k : ℕ) (s : List ℕ) → length s ≡ k * 32 → flat_map member_bytes (first_chunks 32 k s) ≡ s
+chunks_are_bytes zero [] e = refl
+chunks_are_bytes zero (b ∷ s) e = absurd (omega (arith, e))
+chunks_are_bytes (suc k) s e =
+    ap (λ t. take 32 s ++ t) (chunks_are_bytes k (drop 32 s) (omega (arith, e, length-drop 32 s))) ∙ take-append-drop 32 s

@@ -1,4 +1,4 @@
--- What a foreign caller is told of the bytes of a committee: numbers, and where its members are.
+-- What the C functions return for the encoding of a committee: numbers, and where its members are.
 use Rattle.std.specs.Prelude.{◌≡◌, ℕ, ◌+◌, ◌*◌, ◌≤◌, List, Some, drop, length, nat_eq, slice_get, take}
 use Rattle.std.specs.List.{AllByRecursion, flat_map}
 use Rattle.std.specs.Cmp.Lexicographic.{pointwise}
@@ -26,7 +26,7 @@ abbrev pub committee_fault : ℕ → ℕ → List ℕ → Fault → Type 0
 committee_fault least most =
     SetFault member_bytes IsMember member_cmp (λ _. Unit {0}) member_fault (between least most)
 
--- each member is the 32 bytes of s at its place, from start on
+-- each member is the 32 bytes of s at its index, counted in members from start on
 abbrev pub StandAt : List ℕ → ℕ → List (List ℕ) → Type 0
 StandAt s start members = (i : ℕ) (m : List ℕ) → slice_get members i ≡ Some m → take 32 (drop (start + 32 * i) s) ≡ m
 

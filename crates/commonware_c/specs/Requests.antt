@@ -1,4 +1,4 @@
--- What a foreign caller requests to be written, and what is wrong with it.
+-- What a caller in C requests to be written, and what is wrong with it.
 use Rattle.std.specs.Prelude.{◌≡◌, ℕ, ◌-◌, ◌^◌, ◌<◌, ◌≤◌, List, length, slice_index_or}
 use Rattle.std.specs.List.{AllAdjacentBelow}
 
@@ -9,8 +9,8 @@ pub record IsFirstDescent (signers : List ℕ) (place : ℕ) : Type 0 where
   pub rising : AllAdjacentBelow (λ x y. x < y) signers place
   pub descends : (d : ℕ) → slice_index_or signers place d ≤ slice_index_or signers (place - 1) d
 
--- The first fault of a request for a certificate: a value or signers of 2 ^ 32 or more, which have no length in the
--- encoding, or the first index that isn't greater than the one before it.
+-- The first thing wrong with a request for a certificate: a value or signers of 2 ^ 32 or more, which have no length in
+-- the encoding, or the first index that isn't greater than the one before it.
 pub data IsUnwritable (value signers : List ℕ) (status number : ℕ) : Type 0 where
   long_value : status ≡ 3 → number ≡ length value → 2 ^ 32 ≤ number → IsUnwritable value signers status number
   many_signers : status ≡ 3 → length value < 2 ^ 32 → number ≡ length signers → 2 ^ 32 ≤ number

@@ -1,4 +1,4 @@
-//! The bytes of a committee, checked in place: nothing is allocated.
+//! The encoding of a committee, checked in place: nothing is allocated.
 ghost use Rattle.std.specs.Prelude.{◌≡◌, ◌↔◌, ◌*◌, ◌<◌, ℕ, List, IfErr, IfNone, IfOk, IfSome, IsTrue, length};
 ghost use Rattle.commonware_base.specs.Refusal.{Refuses};
 ghost use Rattle.commonware_base.specs.Source.{rest_of};

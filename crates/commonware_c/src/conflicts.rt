@@ -1,18 +1,19 @@
 //! Accountability: the members that signed two certificates for different values (equivocation),
-//! from the certificates' bytes.
+//! from the certificates' encodings.
 ghost use Rattle.std.specs.Prelude.{◌≡◌, ◌≢◌, ◌<◌, ◌≤◌, IfErr, IfOk, drop, length, take};
 ghost use Rattle.commonware_c.specs.Certificates.{AreAccused, IsNoWhole, IsStopped, IsWhole, LacksRoom};
 ghost use Rattle.committee_certificates.specs.Certificates.{parts};
 
-use crate::certificates::whole;
+use crate::certificates::decode_certificate;
 use crate::rooms::put;
+use crate::statuses::{MEMORY, NO_MEMBERS, NO_MODEL, OK, OUTSIDE, ROOM, SAME_VALUE, TOO_FEW};
 use committee_certificates::{Certificate, ConflictError, conflict_among};
 use commonware_base::Participant;
 use commonware_faults::tolerated_faults;
 use commonware_ordered::Set;
 use std::alloc::Global;
 
-/// What two certificates prove, for a caller in C.
+/// The result for two certificates, for a caller in C.
 ///
 /// Among 4 members at a resilience of 3, `01 aa 03 00 01 02` and `01 bb 03 01 02 03` have status 0
 /// and count 2: members 1 and 2 signed both values.
@@ -21,7 +22,7 @@ use std::alloc::Global;
 pub struct ConflictView {
     /// 0, or why no one is named.
     pub status: u32,
-    /// 1 or 2 where the status is about the first or the second certificate's bytes alone, else 0.
+    /// 1 or 2 where the status is about the first or the second input alone, else 0.
     pub which: u32,
     /// The length that is out of range, or how many bytes are left over, where that is the status.
     pub number: usize,
@@ -29,9 +30,9 @@ pub struct ConflictView {
     pub count: usize,
 }
 
-/// Why two certificates' bytes name no one.
+/// Why two inputs name no one.
 #[derive(Clone, Copy, Drop)]
-struct Stop {
+struct Reason {
     status: u32,
     which: u32,
     number: usize,
@@ -60,8 +61,8 @@ pub extern "C" fn commonware_conflict(
         result.status result.which result.number }
 {
     match conflict_of(alloc, k, members, first, second) {
-        Ok(both) => named(both.as_slice(), out),
-        Err(stop) => view_of(stop),
+        Ok(both) => view_of_accused(both.as_slice(), out),
+        Err(reason) => view_of_reason(reason),
     }
 }
 
@@ -72,43 +73,43 @@ fn conflict_of(
     members: u32,
     first: &[u8],
     second: &[u8],
-) -> Result<Set<Participant, Global>, Stop>
+) -> Result<Set<Participant, Global>, Reason>
     ensures accused { IfOk result (AreAccused k members first.now second.now) }
-    ensures stopped { IfErr result (λ stop. IsStopped k members first.now second.now
-        stop.status stop.which stop.number) }
-    ensures status { IfErr result (λ stop. (stop.status ≢ 0) × (stop.status ≢ 11)) }
+    ensures stopped { IfErr result (λ reason. IsStopped k members first.now second.now
+        reason.status reason.which reason.number) }
+    ensures status { IfErr result (λ reason. (reason.status ≢ 0) × (reason.status ≢ 11)) }
 {
     if k < 2 {
-        return Err(plain(13));
+        return Err(reason_of_status(NO_MODEL));
     }
     if members == 0 {
-        return Err(plain(7));
+        return Err(reason_of_status(NO_MEMBERS));
     }
-    let one = whole_of(alloc, first, 1)?;
-    let two = whole_of(alloc, second, 2)?;
+    let one = decode_one_of_two(alloc, first, 1)?;
+    let two = decode_one_of_two(alloc, second, 2)?;
     if one.value == two.value {
-        return Err(plain(8));
+        return Err(reason_of_status(SAME_VALUE));
     }
     let faults = tolerated_faults(k, members);
     match conflict_among(alloc, members as usize, faults, &one, &two) {
         Ok(both) => Ok(both),
-        Err(ConflictError::Outside) => Err(plain(9)),
-        Err(ConflictError::TooFew) => Err(plain(10)),
-        Err(ConflictError::Memory) => Err(plain(5)),
+        Err(ConflictError::Outside) => Err(reason_of_status(OUTSIDE)),
+        Err(ConflictError::TooFew) => Err(reason_of_status(TOO_FEW)),
+        Err(ConflictError::Memory) => Err(reason_of_status(MEMORY)),
     }
 }
 
-/// Returns the certificate that the bytes encode, with nothing after it, or the stop that names
-/// which of the two it is.
-fn whole_of(alloc: Global, text: &[u8], which: u32) -> Result<Certificate<Global>, Stop>
-    ensures whole { IfOk result (λ certificate. IsWhole text.now (parts certificate)) }
-    ensures refused { IfErr result (λ stop. IsNoWhole text.now stop.status stop.number) }
-    ensures which { IfErr result (λ stop. stop.which ≡ which) }
-    ensures status { IfErr result (λ stop. (stop.status ≢ 0) × (stop.status ≢ 11)) }
+/// Returns the certificate that the input encodes, with nothing after it; else the reason, with
+/// `which` of the two inputs it is about.
+fn decode_one_of_two(alloc: Global, input: &[u8], which: u32) -> Result<Certificate<Global>, Reason>
+    ensures whole { IfOk result (λ certificate. IsWhole input.now (parts certificate)) }
+    ensures refused { IfErr result (λ reason. IsNoWhole input.now reason.status reason.number) }
+    ensures which { IfErr result (λ reason. reason.which ≡ which) }
+    ensures status { IfErr result (λ reason. (reason.status ≢ 0) × (reason.status ≢ 11)) }
 {
-    match whole(alloc, text) {
+    match decode_certificate(alloc, input) {
         Ok(certificate) => Ok(certificate),
-        Err((status, number)) => Err(Stop {
+        Err((status, number)) => Err(Reason {
             status,
             which,
             number,
@@ -116,36 +117,36 @@ fn whole_of(alloc: Global, text: &[u8], which: u32) -> Result<Certificate<Global
     }
 }
 
-/// Returns the stop of a status about neither certificate alone.
-fn plain(status: u32) -> Stop
+/// Returns the reason of a status about neither certificate alone.
+fn reason_of_status(status: u32) -> Reason
     ensures { result ≡ record { status = status; which = 0; number = 0 } }
 {
-    Stop {
+    Reason {
         status,
         which: 0,
         number: 0,
     }
 }
 
-/// Returns the view of a stop.
-fn view_of(stop: Stop) -> ConflictView
+/// Returns the view of a reason, for which no one is named.
+fn view_of_reason(reason: Reason) -> ConflictView
     ensures { result ≡ record {
-      status = stop.status;
-      which = stop.which;
-      number = stop.number;
+      status = reason.status;
+      which = reason.which;
+      number = reason.number;
       count = 0;
     } }
 {
     ConflictView {
-        status: stop.status,
-        which: stop.which,
-        number: stop.number,
+        status: reason.status,
+        which: reason.which,
+        number: reason.number,
         count: 0,
     }
 }
 
 /// Returns the view of the members that are named, whose indices go to `out` if it is large enough.
-fn named(accused: &[Participant], out: &mut [u32]) -> ConflictView
+fn view_of_accused(accused: &[Participant], out: &mut [u32]) -> ConflictView
     ensures count { result.count ≡ length accused.now }
     ensures fits { result.status ≡ 0 → result.count ≤ length out.new }
     ensures taken { result.status ≡ 0 → take result.count out.new ≡ accused.now }
@@ -156,14 +157,14 @@ fn named(accused: &[Participant], out: &mut [u32]) -> ConflictView
 {
     let count = accused.len();
     let mut view = ConflictView {
-        status: 11,
+        status: ROOM,
         which: 0,
         number: 0,
         count,
     };
     if count <= out.len() {
         put(accused, out);
-        view.status = 0;
+        view.status = OK;
     }
     view
 }

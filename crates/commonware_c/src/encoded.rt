@@ -1,4 +1,4 @@
-//! The bytes of a certificate, written to a caller's room: nothing is allocated.
+//! The encoding of a certificate, written to a caller's room: nothing is allocated.
 ghost use Rattle.std.specs.Prelude.{◌≡◌, ◌≢◌, ◌↔◌, ◌⊎◌, ◌+◌, ◌*◌, ◌≤◌, ◌<◌, ◌^◌, IfNone, IfSome, length};
 ghost use Rattle.std.specs.List.{flat_map};
 ghost use Rattle.std.specs.Ordering.{nat_cmp};
@@ -9,6 +9,7 @@ ghost use Rattle.commonware_c.specs.Requests.{IsFirstDescent, IsUnwritable};
 ghost use Rattle.commonware_c.specs.Splices.{spliced};
 
 use crate::rooms::{put_bytes, put_varint};
+use crate::statuses::{INVALID_LENGTH, NOT_STRICT, OK, ROOM};
 use crate::written::{WrittenView, refused};
 use commonware_base::codec::{EncodeSize, UInt};
 
@@ -38,7 +39,7 @@ pub extern "C" fn commonware_certificate_write(
         return refused(status, number);
     }
     let mut view = WrittenView {
-        status: 11,
+        status: ROOM,
         count: signers.len(),
         number: 0,
         size: certificate_size(value, signers),
@@ -47,25 +48,25 @@ pub extern "C" fn commonware_certificate_write(
         return view;
     }
     put_certificate(value, signers, out);
-    view.status = 0;
+    view.status = OK;
     view
 }
 
-/// Returns the status and the number of the first fault of a request, where there is one.
+/// Returns the status and the number of the first thing wrong with a request, where there is one.
 fn fault_of(value: &[u8], signers: &[u32]) -> Option<(u32, usize)>
     ensures none { IfNone result (IsWritableCertificate (value.now, signers.now)) }
     ensures some { IfSome result (λ why. IsUnwritable value.now signers.now why.0 why.1) }
 {
     if value.len() > u32::MAX as usize {
-        return Some((3, value.len()));
+        return Some((INVALID_LENGTH, value.len()));
     }
     if signers.len() > u32::MAX as usize {
-        return Some((3, signers.len()));
+        return Some((INVALID_LENGTH, signers.len()));
     }
     let Some(place) = first_descent(signers) else {
         return None;
     };
-    Some((4, place))
+    Some((NOT_STRICT, place))
 }
 
 /// Returns the place of the first index that isn't greater than the one before it.

@@ -6,6 +6,7 @@ ghost use Rattle.committee_core.specs.Members.{member_cmp};
 ghost use Rattle.commonware_c.specs.Gaps.{IsGapFor};
 
 use crate::checked::order;
+use crate::statuses::{ABSENT, OK};
 use std::cmp::Ordering;
 
 /// Where a key is among others.
@@ -45,14 +46,14 @@ pub extern "C" fn commonware_committee_index(members: &[[u8; 32]], key: &[u8; 32
             Ordering::Greater => high = middle,
             Ordering::Equal => {
                 return PlaceView {
-                    status: 0,
+                    status: OK,
                     index: middle,
                 };
             }
         }
     }
     PlaceView {
-        status: 12,
+        status: ABSENT,
         index: low,
     }
 }

@@ -1,10 +1,10 @@
-//! The formats and the answers once more, in plain Rust and item by item: what the library is compared
+//! The encodings and the results once more, in plain Rust and item by item: what the library is compared
 //! with. It is written from `docs/FORMAT.md`.
 
 use commonware_proved::{ConflictError, EncodeError, Member, Refusal};
 use std::collections::BTreeSet;
 
-/// The bytes of a number: groups of seven bits, the lowest first.
+/// Returns the varint of a number: groups of seven bits, the lowest first.
 pub fn varint(mut n: u64) -> Vec<u8> {
     let mut bytes = Vec::new();
     while n >= 128 {
@@ -15,10 +15,10 @@ pub fn varint(mut n: u64) -> Vec<u8> {
     bytes
 }
 
-fn read_varint(text: &[u8]) -> Result<(u32, &[u8]), Refusal> {
+fn read_varint(input: &[u8]) -> Result<(u32, &[u8]), Refusal> {
     let mut n = 0u64;
     for i in 0..5 {
-        let Some(&b) = text.get(i) else {
+        let Some(&b) = input.get(i) else {
             return Err(Refusal::EndOfInput);
         };
         n |= u64::from(b & 127) << (7 * i);
@@ -26,19 +26,19 @@ fn read_varint(text: &[u8]) -> Result<(u32, &[u8]), Refusal> {
             if (b == 0 && i > 0) || n > u64::from(u32::MAX) {
                 return Err(Refusal::InvalidVarint);
             }
-            return Ok((n as u32, &text[i + 1..]));
+            return Ok((n as u32, &input[i + 1..]));
         }
     }
     Err(Refusal::InvalidVarint)
 }
 
-/// The committee at the front of a text, of `least` to `most` members, and what follows it.
+/// Decodes the committee of `least` to `most` members at the start of the input; returns what follows it.
 pub fn read_members(
-    text: &[u8],
+    input: &[u8],
     least: usize,
     most: usize,
 ) -> Result<(Vec<Member>, &[u8]), Refusal> {
-    let (count, mut rest) = read_varint(text)?;
+    let (count, mut rest) = read_varint(input)?;
     let count = count as usize;
     if count < least || most < count {
         return Err(Refusal::InvalidLength(count));
@@ -57,7 +57,7 @@ pub fn read_members(
     Ok((members, rest))
 }
 
-/// The bytes of these members, in their order.
+/// Returns the encoding of these members, in their order.
 pub fn committee_bytes(members: &[Member]) -> Vec<u8> {
     let mut bytes = varint(members.len() as u64);
     bytes.extend(members.iter().flatten());
@@ -66,13 +66,13 @@ pub fn committee_bytes(members: &[Member]) -> Vec<u8> {
 
 type Parts<'a> = (&'a [u8], Vec<u32>, &'a [u8]);
 
-/// The value and the signers of the certificate at the front of a text, and what follows it.
+/// Decodes the certificate at the start of the input into its value and signers; returns what follows it.
 pub fn read_parts(
-    text: &[u8],
+    input: &[u8],
     most_bytes: usize,
     most_signers: usize,
 ) -> Result<Parts<'_>, Refusal> {
-    let (length, rest) = read_varint(text)?;
+    let (length, rest) = read_varint(input)?;
     let length = length as usize;
     if most_bytes < length {
         return Err(Refusal::InvalidLength(length));
@@ -97,7 +97,7 @@ pub fn read_parts(
     Ok((value, signers, rest))
 }
 
-/// The bytes of a value and of signers, whatever their order.
+/// Returns the encoding of a value and of signers, whatever their order.
 pub fn certificate_bytes(value: &[u8], signers: &[u32]) -> Vec<u8> {
     let mut bytes = varint(value.len() as u64);
     bytes.extend(value);
@@ -108,7 +108,7 @@ pub fn certificate_bytes(value: &[u8], signers: &[u32]) -> Vec<u8> {
     bytes
 }
 
-/// The bytes of a certificate, or the first signer that is out of order.
+/// Returns the encoding of a certificate, or the first signer that is out of order.
 pub fn encode_parts(value: &[u8], signers: &[u32]) -> Result<Vec<u8>, EncodeError> {
     match signers.windows(2).position(|w| w[0] >= w[1]) {
         Some(place) => Err(EncodeError::NotStrict(place + 1)),
@@ -116,15 +116,15 @@ pub fn encode_parts(value: &[u8], signers: &[u32]) -> Result<Vec<u8>, EncodeErro
     }
 }
 
-fn whole(text: &[u8]) -> Result<(&[u8], Vec<u32>), Refusal> {
-    let (value, signers, rest) = read_parts(text, usize::MAX, usize::MAX)?;
+fn exactly_one(input: &[u8]) -> Result<(&[u8], Vec<u32>), Refusal> {
+    let (value, signers, rest) = read_parts(input, usize::MAX, usize::MAX)?;
     if !rest.is_empty() {
         return Err(Refusal::LeftOver(rest.len()));
     }
     Ok((value, signers))
 }
 
-/// The members that signed both of two certificates for different values.
+/// Returns the members that signed both of two certificates for different values.
 pub fn accused(
     k: u32,
     members: u32,
@@ -134,8 +134,8 @@ pub fn accused(
     if members == 0 {
         return Err(ConflictError::NoMembers);
     }
-    let (x, a) = whole(first).map_err(ConflictError::First)?;
-    let (y, b) = whole(second).map_err(ConflictError::Second)?;
+    let (x, a) = exactly_one(first).map_err(ConflictError::First)?;
+    let (y, b) = exactly_one(second).map_err(ConflictError::Second)?;
     if x == y {
         return Err(ConflictError::SameValue);
     }

@@ -7,7 +7,7 @@ use commonware_proved::Member;
 pub struct Random(pub u64);
 
 impl Random {
-    /// A number of 64 bits.
+    /// Returns a number of 64 bits.
     pub fn next(&mut self) -> u64 {
         self.0 ^= self.0 << 13;
         self.0 ^= self.0 >> 7;
@@ -15,7 +15,7 @@ impl Random {
         self.0
     }
 
-    /// A number below `n`.
+    /// Returns a number below `n`.
     pub fn below(&mut self, n: usize) -> usize {
         (self.next() >> 11) as usize % n
     }
@@ -34,21 +34,21 @@ pub fn spoil(random: &mut Random, bytes: &mut Vec<u8>) {
             let at = random.below(bytes.len());
             bytes[at] = random.next() as u8;
         }
-        // A longer spelling of the first varint, where it has one byte.
+        // An overlong encoding of the first varint, where it has one byte.
         3 if bytes[0] < 128 => {
             bytes[0] |= 128;
             bytes.insert(1, 0);
         }
         4 => {
             let n = random.next();
-            let front = varint(n >> random.below(64));
-            bytes.splice(..1, front);
+            let count = varint(n >> random.below(64));
+            bytes.splice(..1, count);
         }
         _ => {}
     }
 }
 
-/// Some keys that differ in their first byte, in the midst, at the end or nowhere.
+/// Returns some keys that differ in their first byte, in the middle, at the end or nowhere.
 pub fn some_keys(random: &mut Random) -> Vec<Member> {
     (0..random.below(9))
         .map(|_| {
@@ -60,7 +60,8 @@ pub fn some_keys(random: &mut Random) -> Vec<Member> {
         .collect()
 }
 
-/// A value, and signers of a committee of `members` that are nearly always in order, and members.
+/// Returns a value, and signers of a committee of `members` that are nearly always in order, and
+/// members.
 pub fn some_parts(random: &mut Random, members: usize) -> (Vec<u8>, Vec<u32>) {
     let value = (0..random.below(3))
         .map(|_| random.below(2) as u8)

@@ -64,7 +64,7 @@ returns-in-Err-TooFew-clause-stopped c =
     let two = c.in_ok-two.two in
     let differ : one.value.items ≢ two.value.items = search rules in
     let said = c.in-Err-TooFew.ensures.too_few.0 (ap Err c.in-Err-TooFew.field-0-is) in
-    too_few c.tolerated_faults-faults.result (ap (λ r. r.which) c.plain-in-Err-TooFew.ensures) (ap (λ r. r.status) c.plain-in-Err-TooFew.ensures)
+    too_few c.tolerated_faults-faults.result (ap (λ r. r.which) c.reason_of_status-in-Err-TooFew.ensures) (ap (λ r. r.status) c.reason_of_status-in-Err-TooFew.ensures)
     c.tolerated_faults-faults.ensures
     (parts one, parts two, c.in_ok-one.ensures.whole, c.in_ok-two.ensures.whole, (differ, said.0, said.1, said.2))
 
@@ -73,6 +73,6 @@ returns-clause-stopped c =
     let one = c.in_ok-one.one in
     let two = c.in_ok-two.two in
     let differ : one.value.items ≢ two.value.items = search rules in
-    memory c.tolerated_faults-faults.result (ap (λ r. r.which) c.plain-in-Err-Memory.ensures) (ap (λ r. r.status) c.plain-in-Err-Memory.ensures)
+    memory c.tolerated_faults-faults.result (ap (λ r. r.which) c.reason_of_status-in-Err-Memory.ensures) (ap (λ r. r.status) c.reason_of_status-in-Err-Memory.ensures)
     c.tolerated_faults-faults.ensures
     (parts one, parts two, c.in_ok-one.ensures.whole, c.in_ok-two.ensures.whole, (differ, (λ h. let e = c.in-Err-Memory.ensures.outside.1 h.1 in cc), (λ h. let e = c.in-Err-Memory.ensures.too_few.1 (h.1, h.2, h.3) in cc)))

@@ -1,0 +1,43 @@
+//! The statuses of the functions for C, by the names that the header gives them.
+
+/// The call did what it is for.
+pub(crate) const OK: u32 = 0;
+
+/// The input ends before the value does.
+pub(crate) const END_OF_INPUT: u32 = 1;
+
+/// A varint is longer than it has to be, or past 4294967295.
+pub(crate) const INVALID_VARINT: u32 = 2;
+
+/// A length is out of range.
+pub(crate) const INVALID_LENGTH: u32 = 3;
+
+/// The items aren't strictly increasing.
+pub(crate) const NOT_STRICT: u32 = 4;
+
+/// An allocation failed, which says nothing of the input.
+pub(crate) const MEMORY: u32 = 5;
+
+/// Bytes follow the certificate.
+pub(crate) const LEFT_OVER: u32 = 6;
+
+/// The committee has no members.
+pub(crate) const NO_MEMBERS: u32 = 7;
+
+/// Both certificates are for one value.
+pub(crate) const SAME_VALUE: u32 = 8;
+
+/// A signer is no member.
+pub(crate) const OUTSIDE: u32 = 9;
+
+/// Fewer members signed than a quorum has.
+pub(crate) const TOO_FEW: u32 = 10;
+
+/// The caller's room is too short.
+pub(crate) const ROOM: u32 = 11;
+
+/// The key isn't among the members.
+pub(crate) const ABSENT: u32 = 12;
+
+/// There is no fault model at a k below 2.
+pub(crate) const NO_MODEL: u32 = 13;
