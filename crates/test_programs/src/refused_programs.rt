@@ -12,7 +12,7 @@ use commonware_base::codec::Error;
 use std::alloc::Global;
 use std::io::ErrorKind;
 use test_equipment::ScriptedWriter;
-use test_equipment::walk::{Heap, Outcome, Refusable, asks_for, full, refused};
+use test_equipment::walk::{Heap, Outcome, Refusable, full, makes_requests, refused};
 
 /// What a program is asked and given, and what becomes of it.
 #[derive(Drop)]
@@ -206,8 +206,8 @@ impl<'b> Refusable for Session<'b> {
 
 /// Whether a run and a session make their allocations, and are silent wherever one fails.
 fn is_silent_without_memory(alloc: Global, asked: &Asked<'_>) -> bool {
-    let run = asks_for(alloc, &Run(alloc, asked), asked.least);
-    run && asks_for(alloc, &Session(alloc, asked), asked.least)
+    let run = makes_requests(alloc, &Run(alloc, asked), asked.least);
+    run && makes_requests(alloc, &Session(alloc, asked), asked.least)
 }
 
 #[test]

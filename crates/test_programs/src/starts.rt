@@ -7,7 +7,7 @@ use committee_core::{Watched, start};
 use std::alloc::{AllocError, Global};
 use std::io;
 use std::io::ErrorKind;
-use test_equipment::walk::{Heap, Outcome, Refusable, asks_for, full, refused};
+use test_equipment::walk::{Heap, Outcome, Refusable, full, makes_requests, refused};
 use test_equipment::{Refusing, ScriptedWriter};
 
 /// What is said to other words.
@@ -106,6 +106,6 @@ fn each_refused_request_of_a_start_gives_status_3(rt: HostRuntime) {
             bytes,
             report,
         };
-        assert!(rt; asks_for(alloc, &start, 4));
+        assert!(rt; makes_requests(alloc, &start, 4));
     }
 }
