@@ -102,9 +102,9 @@ abbrev feed : ℕ → Bool
 feed b = b == 10
 
 -- the parts of bytes up to a line feed, and after it
-parts_at : (front rest : List ℕ) → HasNoFeed front → slice_split feed (front ++ 10 ∷ rest) ≡ front ∷ slice_split feed rest
+parts_at : (pending rest : List ℕ) → HasNoFeed pending → slice_split feed (pending ++ 10 ∷ rest) ≡ pending ∷ slice_split feed rest
 parts_at [] rest none = refl
-parts_at (b ∷ front) rest none = rw none.0 (ap (onto_first b) (parts_at front rest none.1))
+parts_at (b ∷ pending) rest none = rw none.0 (ap (onto_first b) (parts_at pending rest none.1))
 
 -- the only part of bytes without one
 one_part : (text : List ℕ) → HasNoFeed text → slice_split feed text ≡ text ∷ []
@@ -121,10 +121,10 @@ some_part (b ∷ text) = let (first, rest, e) = some_part text in joined (feed b
     joined false b first rest parts e = (b ∷ first, rest, ap (onto_first b) e)
 
 -- a line and the lines after it
-pub line_then : (front rest : List ℕ) → HasNoFeed front → lines (front ++ 10 ∷ rest) ≡ strip_carriage_return front ∷ lines rest
-line_then front rest none =
+pub line_then : (pending rest : List ℕ) → HasNoFeed pending → lines (pending ++ 10 ∷ rest) ≡ strip_carriage_return pending ∷ lines rest
+line_then pending rest none =
     let (first, more, e) = some_part rest in
-    ap lines_of_parts (parts_at front rest none) ∙ ap (λ parts. lines_of_parts (front ∷ parts)) e ∙ ap (λ parts. strip_carriage_return front ∷ lines_of_parts parts) (sym e)
+    ap lines_of_parts (parts_at pending rest none) ∙ ap (λ parts. lines_of_parts (pending ∷ parts)) e ∙ ap (λ parts. strip_carriage_return pending ∷ lines_of_parts parts) (sym e)
 
 -- no line feed in either, none in both
 pub no_feed-append : (a b : List ℕ) → HasNoFeed a → HasNoFeed b → HasNoFeed (a ++ b)
@@ -217,30 +217,30 @@ kept_lines n line kept rest (inl same) none none' = ap (λ l. asked_from n (line
 kept_lines n line kept rest (inr (one, other)) none none' = comment_lines n line rest one none ∙ sym (comment_lines n kept rest other none')
 
 -- nothing came yet
-pub begins : (numbered : Bool) (n : ℕ) (front : List ℕ) → Continues numbered n front [] n front [] [] true
-begins numbered n front = ([], λ rest. refl, none_answered numbered)
+pub begins : (numbered : Bool) (n : ℕ) (pending : List ℕ) → Continues numbered n pending [] n pending [] [] true
+begins numbered n pending = ([], λ rest. refl, none_answered numbered)
 
 -- one piece after another
-pub continues_on : (numbered : Bool) (n : ℕ) (front one : List ℕ) (m : ℕ) (mid other : List ℕ) (o : ℕ) (back s t u v : List ℕ) (a b : Bool) → Continues numbered n front one m mid s u a → Continues numbered m mid other o back t v b
-    → Continues numbered n front (one ++ other) o back (s ++ t) (u ++ v) (a && b)
-continues_on numbered n front one m mid other o back s t u v a b (done, splits, answered) (more, splits', answered') = (
+pub continues_on : (numbered : Bool) (n : ℕ) (pending one : List ℕ) (m : ℕ) (mid other : List ℕ) (o : ℕ) (back s t u v : List ℕ) (a b : Bool) → Continues numbered n pending one m mid s u a → Continues numbered m mid other o back t v b
+    → Continues numbered n pending (one ++ other) o back (s ++ t) (u ++ v) (a && b)
+continues_on numbered n pending one m mid other o back s t u v a b (done, splits, answered) (more, splits', answered') = (
   done ++ more,
   (λ rest.
-      ap (λ w. asked_from n (lines (front ++ w))) (append_assoc one other rest) ∙ splits (other ++ rest) ∙ ap (λ w. done ++ w) (splits' rest) ∙ sym (append_assoc done more (asked_from o (lines (back ++ rest))))),
+      ap (λ w. asked_from n (lines (pending ++ w))) (append_assoc one other rest) ∙ splits (other ++ rest) ∙ ap (λ w. done ++ w) (splits' rest) ∙ sym (append_assoc done more (asked_from o (lines (back ++ rest))))),
   both_answered numbered done more s t u v a b answered answered',
 )
 
 -- a line ended, of which something was kept, and was answered
-pub line_ended : (numbered : Bool) (n : ℕ) (front head kept s u : List ℕ) (a : Bool) → IsKept (front ++ head) kept → HasNoFeed front → HasNoFeed head → AreAnswered numbered (asked_from n (strip_carriage_return kept ∷ [])) s u a
-    → Continues numbered n front (head ++ (10 ∷ [])) (n + 1) [] s u a
-line_ended numbered n front head kept s u a is none none' answered = (
+pub line_ended : (numbered : Bool) (n : ℕ) (pending head kept s u : List ℕ) (a : Bool) → IsKept (pending ++ head) kept → HasNoFeed pending → HasNoFeed head → AreAnswered numbered (asked_from n (strip_carriage_return kept ∷ [])) s u a
+    → Continues numbered n pending (head ++ (10 ∷ [])) (n + 1) [] s u a
+line_ended numbered n pending head kept s u a is none none' answered = (
   asked_from n (strip_carriage_return kept ∷ []),
   (λ rest.
-      ap (λ w. asked_from n (lines (front ++ w))) (append_assoc head (10 ∷ []) rest)
-      ∙ ap (λ w. asked_from n (lines w)) (sym (append_assoc front head (10 ∷ rest)))
-      ∙ ap (asked_from n) (line_then (front ++ head) rest (no_feed-append front head none none'))
-      ∙ asked_then n (strip_carriage_return (front ++ head)) (lines rest)
-      ∙ ap (λ w. w ++ asked_from (n + 1) (lines rest)) (kept_asked n (front ++ head) kept is)),
+      ap (λ w. asked_from n (lines (pending ++ w))) (append_assoc head (10 ∷ []) rest)
+      ∙ ap (λ w. asked_from n (lines w)) (sym (append_assoc pending head (10 ∷ rest)))
+      ∙ ap (asked_from n) (line_then (pending ++ head) rest (no_feed-append pending head none none'))
+      ∙ asked_then n (strip_carriage_return (pending ++ head)) (lines rest)
+      ∙ ap (λ w. w ++ asked_from (n + 1) (lines rest)) (kept_asked n (pending ++ head) kept is)),
   answered,
 )
 
@@ -250,9 +250,9 @@ last_asked n [] none = refl
 last_asked n (b ∷ back) none = ap (asked_from n) (sym (one_line b back)) ∙ ap (λ parts. asked_from n (lines_of_parts parts)) (sym (one_part (b ∷ back) none))
 
 -- the lines of what came, and of the prefix of a line that came before
-pub all_lines : (numbered : Bool) (n : ℕ) (front text : List ℕ) (m : ℕ) (back s u : List ℕ) (a : Bool) (c : Continues numbered n front text m back s u a) → asked_from n (lines (front ++ text)) ≡ c.0 ++ asked_from m (lines back)
-all_lines numbered n front text m back s u a (done, splits, answered) =
-    ap (λ w. asked_from n (lines (front ++ w))) (sym (append-nil text)) ∙ splits [] ∙ ap (λ w. done ++ asked_from m (lines w)) (append-nil back)
+pub all_lines : (numbered : Bool) (n : ℕ) (pending text : List ℕ) (m : ℕ) (back s u : List ℕ) (a : Bool) (c : Continues numbered n pending text m back s u a) → asked_from n (lines (pending ++ text)) ≡ c.0 ++ asked_from m (lines back)
+all_lines numbered n pending text m back s u a (done, splits, answered) =
+    ap (λ w. asked_from n (lines (pending ++ w))) (sym (append-nil text)) ∙ splits [] ∙ ap (λ w. done ++ asked_from m (lines w)) (append-nil back)
 
 -- the whole input was answered
 pub text_ended : (numbered : Bool) (n : ℕ) (text : List ℕ) (m : ℕ) (back s t u v : List ℕ) (a b : Bool) → Continues numbered n [] text m back s u a → HasNoFeed back → AreAnswered numbered (asked_from m (back ∷ [])) t v b
@@ -262,12 +262,12 @@ text_ended numbered n text m back s t u v a b (done, splits, answered) none h =
     subst (λ ls. AreAnswered numbered ls (s ++ t) (u ++ v) (a && b)) (sym all) (both_answered numbered done (asked_from m (back ∷ [])) s t u v a b answered h)
 
 -- a line went on after what was answered, and something of it was kept
-pub goes_on : (numbered : Bool) (n : ℕ) (front gone : List ℕ) (m : ℕ) (mid rest kept s u : List ℕ) (a : Bool) → Continues numbered n front gone m mid s u a → IsKept (mid ++ rest) kept → HasNoFeed (mid ++ rest) → HasNoFeed kept
-    → Continues numbered n front (gone ++ rest) m kept s u a
-goes_on numbered n front gone m mid rest kept s u a (done, splits, answered) is none none' = (
+pub goes_on : (numbered : Bool) (n : ℕ) (pending gone : List ℕ) (m : ℕ) (mid rest kept s u : List ℕ) (a : Bool) → Continues numbered n pending gone m mid s u a → IsKept (mid ++ rest) kept → HasNoFeed (mid ++ rest) → HasNoFeed kept
+    → Continues numbered n pending (gone ++ rest) m kept s u a
+goes_on numbered n pending gone m mid rest kept s u a (done, splits, answered) is none none' = (
   done,
   (λ more.
-      ap (λ w. asked_from n (lines (front ++ w))) (append_assoc gone rest more)
+      ap (λ w. asked_from n (lines (pending ++ w))) (append_assoc gone rest more)
       ∙ splits (rest ++ more)
       ∙ ap (λ w. done ++ asked_from m (lines w)) (sym (append_assoc mid rest more))
       ∙ ap (λ w. done ++ w) (kept_lines m (mid ++ rest) kept more is none none')),

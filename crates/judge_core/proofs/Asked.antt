@@ -1,7 +1,7 @@
 -- What a line asks for by a verb.
-use Rattle.std.proofs.Common.{◌≡◌, ◌≤◌, ℕ, List, Bool, true, false, inl, inr, subst, sym, arith}
+use Rattle.std.proofs.Common.{◌≡◌, ℕ, List, Bool, true, false, subst, sym}
 use Rattle.judge_questions.specs.Tasks.{AsksForConflict, AsksForFaults, AsksForPosition, AsksToBuild, AsksToRefute}
-use Rattle.judge_questions.specs.Tasks.{IsModel, IsTask, build_verb}
+use Rattle.judge_questions.specs.Tasks.{IsTask, build_verb}
 use Rattle.judge_questions.specs.declared.collection.Collection.{Collection}
 use Rattle.judge_questions.specs.declared.collection.SetForm.{SetForm}
 use Rattle.judge_questions.specs.declared.task.Task.TheVariants as tasks

@@ -47,13 +47,13 @@ stripped_unfree n (b ∷ line) long none free = by (get_or (b ∷ line) (length 
         long_unfree n (b ∷ take (length line - 1) line) (asking b (take (length line - 1) line) other) (omega arith) (subst (λ l. AreMemoryFree (asked_from n (l ∷ []))) shorter free)
     by false free = whole_unfree n (b ∷ line) long none free
 
-module _ (numbered : Bool) (n : ℕ) (front gone : List ℕ) (m : ℕ) (back said noted : List ℕ) (judged : Bool) (so_far : Continues numbered n front gone m back said noted judged) where
+module _ (numbered : Bool) (n : ℕ) (pending gone : List ℕ) (m : ℕ) (back said noted : List ℕ) (judged : Bool) (so_far : Continues numbered n pending gone m back said noted judged) where
   -- a line that ends in the piece isn't answered without an allocation
   pub ended_unfree : (head rest piece : List ℕ) → piece ≡ gone ++ (head ++ 10 ∷ rest) → HasNoFeed back → HasNoFeed head → ¬ AreMemoryFree (asked_from m (strip_carriage_return (back ++ head) ∷ []))
-      → ¬ AreMemoryFree (asked_from n (lines (front ++ piece)))
+      → ¬ AreMemoryFree (asked_from n (lines (pending ++ piece)))
   ended_unfree head rest piece split none none' unfree free =
-      let whole : asked_from n (lines (front ++ piece)) ≡ so_far.0 ++ (asked_from m (strip_carriage_return (back ++ head) ∷ []) ++ asked_from (m + 1) (lines rest)) =
-      ap (λ p. asked_from n (lines (front ++ p))) split
+      let whole : asked_from n (lines (pending ++ piece)) ≡ so_far.0 ++ (asked_from m (strip_carriage_return (back ++ head) ∷ []) ++ asked_from (m + 1) (lines rest)) =
+      ap (λ p. asked_from n (lines (pending ++ p))) split
       ∙ so_far.1 (head ++ 10 ∷ rest)
       ∙ ap (λ l. so_far.0 ++ asked_from m (lines l)) (sym (append_assoc back head (10 ∷ rest)))
       ∙ ap (λ ls. so_far.0 ++ asked_from m ls) (line_then (back ++ head) rest (no_feed-append back head none none'))
@@ -61,8 +61,8 @@ module _ (numbered : Bool) (n : ℕ) (front gone : List ℕ) (m : ℕ) (back sai
       unfree (free_first (asked_from m (strip_carriage_return (back ++ head) ∷ [])) (asked_from (m + 1) (lines rest)) (free_after so_far.0 _ (subst AreMemoryFree whole free)))
 
   -- a line that goes on past the piece isn't
-  pub going_unfree : (rest piece : List ℕ) → piece ≡ gone ++ rest → HasNoFeed (back ++ rest) → ¬ AreMemoryFree (asked_from m ((back ++ rest) ∷ [])) → ¬ AreMemoryFree (asked_from n (lines (front ++ piece)))
+  pub going_unfree : (rest piece : List ℕ) → piece ≡ gone ++ rest → HasNoFeed (back ++ rest) → ¬ AreMemoryFree (asked_from m ((back ++ rest) ∷ [])) → ¬ AreMemoryFree (asked_from n (lines (pending ++ piece)))
   going_unfree rest piece split none unfree free =
-      let whole : asked_from n (lines (front ++ piece)) ≡ so_far.0 ++ asked_from m ((back ++ rest) ∷ []) =
-      ap (λ p. asked_from n (lines (front ++ p))) split ∙ so_far.1 rest ∙ ap (λ ls. so_far.0 ++ ls) (sym (last_asked m (back ++ rest) none)) in
+      let whole : asked_from n (lines (pending ++ piece)) ≡ so_far.0 ++ asked_from m ((back ++ rest) ∷ []) =
+      ap (λ p. asked_from n (lines (pending ++ p))) split ∙ so_far.1 rest ∙ ap (λ ls. so_far.0 ++ ls) (sym (last_asked m (back ++ rest) none)) in
       unfree (free_after so_far.0 _ (subst AreMemoryFree whole free))

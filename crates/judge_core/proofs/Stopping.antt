@@ -5,7 +5,7 @@ use Rattle.std.specs.Result.{IsErrAnd}
 use Rattle.std.specs.Io.KnownBytes.{Appends, Consumes, Keeps}
 use Rattle.std.proofs.KnownBytes.{Consumes-trans}
 use Rattle.judge_core.specs.Answered.{Continues}
-use Rattle.judge_core.specs.Session.{IsBeginningAnswered}
+use Rattle.judge_core.specs.Session.{IsPrefixAnswered}
 use Rattle.judge_core.specs.declared.error.Failure.{Failure}
 use Rattle.judge_core.specs.declared.error.Failure.TheVariants.{Memory, ReadFailed, TooLong, WriteFailed}
 
@@ -29,7 +29,7 @@ for_memory WriteFailed B fails memory other = absurd (other refl)
 
 -- what was answered of the input, and what came after it
 pub beginning : (numbered : Bool) (in_old in_mid in_new out_old out_new : Option (List ℕ)) (text after : List ℕ) (number : ℕ) (back said noted : List ℕ) (judged : Bool) → Consumes in_old in_mid text → Consumes in_mid in_new after → Appends out_old out_new said
-    → Continues numbered 1 [] text number back said noted judged → IsBeginningAnswered numbered in_old in_new out_old out_new
+    → Continues numbered 1 [] text number back said noted judged → IsPrefixAnswered numbered in_old in_new out_old out_new
 beginning numbered in_old in_mid in_new out_old out_new text after number back said noted judged given then written answered = record {
   text = text;
   after = after;

@@ -133,9 +133,9 @@ pub record AreAnswered (numbered : Bool) (asked : List (ℕ × List ℕ)) (said 
 -- After the prefix of a line, of number n, came more of the input; its whole lines were answered, and the prefix of a
 -- line, of number m, is left.
 abbrev pub Continues : Bool → ℕ → List ℕ → List ℕ → ℕ → List ℕ → List ℕ → List ℕ → Bool → Type 0
-Continues numbered n front more m back said noted judged =
+Continues numbered n pending more m back said noted judged =
     (done : List (ℕ × List ℕ))
-    × ((rest : List ℕ) → asked_from n (lines (front ++ (more ++ rest))) ≡ done ++ asked_from m (lines (back ++ rest)))
+    × ((rest : List ℕ) → asked_from n (lines (pending ++ (more ++ rest))) ≡ done ++ asked_from m (lines (back ++ rest)))
     × AreAnswered numbered done said noted judged
 
 -- no line feed is in the bytes

@@ -11,7 +11,7 @@ abbrev pub IsKept : List ℕ → List ℕ → Type 0
 IsKept line kept = (kept ≡ line) ⊎ (IsComment line × IsComment kept)
 
 -- The whole lines of a prefix of the piece were answered, and none that came after it.
-pub record IsStoppedWithin (numbered : Bool) (n : ℕ) (front piece : List ℕ)
+pub record IsStoppedWithin (numbered : Bool) (n : ℕ) (pending piece : List ℕ)
     (Said : List ℕ → Type 0) : Type 0 where
   pub gone : List ℕ
   pub after : List ℕ
@@ -22,4 +22,4 @@ pub record IsStoppedWithin (numbered : Bool) (n : ℕ) (front piece : List ℕ)
   pub judged : Bool
   pub split : piece ≡ gone ++ after
   pub told : Said said
-  pub answered : Continues numbered n front gone m back said noted judged
+  pub answered : Continues numbered n pending gone m back said noted judged

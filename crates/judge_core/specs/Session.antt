@@ -18,7 +18,7 @@ IsAllAnswered numbered Given Written Noted judged =
 
 -- Where a run stops early and its writer has not failed: what it wrote are the answers to the whole lines of a prefix
 -- of the input, and no answer was written to what came after that prefix.
-pub record IsBeginningAnswered (numbered : Bool) (in_old in_new out_old out_new : Option (List ℕ)) : Type 0 where
+pub record IsPrefixAnswered (numbered : Bool) (in_old in_new out_old out_new : Option (List ℕ)) : Type 0 where
   pub text : List ℕ
   pub after : List ℕ
   pub number : ℕ
@@ -49,7 +49,7 @@ IsDone Version Given Written Noted judged = Written version_text × (judged ≡ 
 -- a run of the command stopped early, and its writer has not failed
 abbrev pub IsStopped : Command → Option (List ℕ) → Option (List ℕ) → Option (List ℕ) → Option (List ℕ) → Type 0
 IsStopped (Judge numbered) in_old in_new out_old out_new =
-    IsBeginningAnswered numbered in_old in_new out_old out_new
+    IsPrefixAnswered numbered in_old in_new out_old out_new
 IsStopped Types in_old in_new out_old out_new = out_new ≡ out_old
 IsStopped Help in_old in_new out_old out_new = out_new ≡ out_old
 IsStopped Version in_old in_new out_old out_new = out_new ≡ out_old

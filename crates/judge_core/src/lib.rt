@@ -9,12 +9,12 @@
 mod answer;
 mod command;
 mod error;
-mod front;
 mod help;
 mod host;
 mod input;
 mod lines;
 mod notes;
+mod pending;
 mod reply;
 mod report;
 mod room;

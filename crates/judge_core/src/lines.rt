@@ -11,8 +11,8 @@ ghost use Rattle.judge_core.specs.Said.{Says};
 
 use crate::answer::Answer;
 use crate::error::Failure;
-use crate::front::Front;
 use crate::notes::note;
+use crate::pending::Pending;
 use crate::reply::{Reply, reply_to};
 use crate::report::{Part, say_parts, say_reply};
 use crate::room::Room;
@@ -30,35 +30,35 @@ use std::io::Write;
 pub(crate) fn answer_piece<A: Allocator + Copy, W: Write, E: Write>(
     alloc: A,
     numbered: bool,
-    front: &mut Front<A>,
+    pending: &mut Pending<A>,
     number: &mut u128,
     piece: &[u8],
     output: &mut Watched<W>,
     errors: &mut E,
 ) -> Result<bool, Failure>
-    requires unfinished { HasNoFeed front.old }
+    requires unfinished { HasNoFeed pending.old }
     requires countable { number.old + length piece.now < 2 ^ 128 }
-    ensures unfinished { OnOk result (HasNoFeed front.new) }
+    ensures unfinished { OnOk result (HasNoFeed pending.new) }
     ensures counted { OnOk result (number.new ≤ number.old + length piece.now) }
     ensures answered { IfOk result (λ judged. (said noted : List ℕ)
         × Appends (W.contents output.old.inner) (W.contents output.new.inner) said
         × Appends (E.contents errors.old) (E.contents errors.new) noted
-        × Continues numbered number.old front.old piece.now number.new front.new said noted
+        × Continues numbered number.old pending.old piece.now number.new pending.new said noted
         judged) }
     ensures quiet { result ≡ Ok true → errors.new ≡ errors.old }
     ensures sound { OnOk result (output.new.failed ≡ output.old.failed) }
 
     // Where it gives up.
     ensures memory { result ≡ Err Failure.Memory → (output.new.failed ≡ output.old.failed)
-        × IsStoppedWithin numbered number.old front.old piece.now
+        × IsStoppedWithin numbered number.old pending.old piece.now
         (Appends (W.contents output.old.inner) (W.contents output.new.inner))
-        × ¬ AreMemoryFree (asked_from number.old (lines (front.old ++ piece.now))) }
+        × ¬ AreMemoryFree (asked_from number.old (lines (pending.old ++ piece.now))) }
     ensures failed { IfErr result (λ e. e ≢ Failure.Memory
         → (e ≡ Failure.WriteFailed) × (output.new.failed ≡ true)) }
 {
     let mut room = Room::new();
     let judged = answer_lines(
-        alloc, numbered, front, number, piece, &mut room, output, errors,
+        alloc, numbered, pending, number, piece, &mut room, output, errors,
     );
     if judged == Err(Failure::WriteFailed) {
         return judged;
@@ -71,45 +71,45 @@ pub(crate) fn answer_piece<A: Allocator + Copy, W: Write, E: Write>(
 fn answer_lines<A: Allocator + Copy, W: Write, E: Write>(
     alloc: A,
     numbered: bool,
-    front: &mut Front<A>,
+    pending: &mut Pending<A>,
     number: &mut u128,
     piece: &[u8],
     room: &mut Room,
     output: &mut Watched<W>,
     errors: &mut E,
 ) -> Result<bool, Failure>
-    requires unfinished { HasNoFeed front.old }
+    requires unfinished { HasNoFeed pending.old }
     requires countable { number.old + length piece.now < 2 ^ 128 }
-    ensures unfinished { OnOk result (HasNoFeed front.new) }
+    ensures unfinished { OnOk result (HasNoFeed pending.new) }
     ensures counted { OnOk result (number.new ≤ number.old + length piece.now) }
     ensures answered { IfOk result (λ judged. (said noted : List ℕ)
         × Says (W.contents output.old.inner) (W.contents output.new.inner) room.old room.new said
         × Appends (E.contents errors.old) (E.contents errors.new) noted
-        × Continues numbered number.old front.old piece.now number.new front.new said noted
+        × Continues numbered number.old pending.old piece.now number.new pending.new said noted
         judged) }
     ensures quiet { result ≡ Ok true → errors.new ≡ errors.old }
     ensures sound { OnOk result (output.new.failed ≡ output.old.failed) }
 
     // Where it gives up.
     ensures memory { result ≡ Err Failure.Memory → (output.new.failed ≡ output.old.failed)
-        × IsStoppedWithin numbered number.old front.old piece.now
+        × IsStoppedWithin numbered number.old pending.old piece.now
         (Says (W.contents output.old.inner) (W.contents output.new.inner) room.old room.new)
-        × ¬ AreMemoryFree (asked_from number.old (lines (front.old ++ piece.now))) }
+        × ¬ AreMemoryFree (asked_from number.old (lines (pending.old ++ piece.now))) }
     ensures failed { IfErr result (λ e. e ≢ Failure.Memory
         → (e ≡ Failure.WriteFailed) × (output.new.failed ≡ true)) }
 {
     let mut rest = piece;
     let mut judged = true;
     while let Some(at) = place_of(rest, b'\n') {
-        extend_line(front, &rest[..at])?;
-        let line = without_return(front.as_slice());
+        extend_line(pending, &rest[..at])?;
+        let line = without_return(pending.as_slice());
         let verdict = answer_line(alloc, numbered, *number, line, room, output, errors)?;
         judged = both(judged, verdict);
-        front.clear();
+        pending.clear();
         *number += 1;
         rest = &rest[at + 1..];
     }
-    extend_line(front, rest)?;
+    extend_line(pending, rest)?;
     Ok(judged)
 }
 
@@ -203,29 +203,29 @@ fn note_answer<E: Write>(errors: &mut E, number: u128, answer: &Answer)
 ///
 /// The error is an allocation failure, which no comment meets, and no line of up to 4096 bytes.
 pub(crate) fn extend_line<A: Allocator + Copy>(
-    front: &mut Front<A>,
+    pending: &mut Pending<A>,
     bytes: &[u8],
 ) -> Result<(), AllocError>
-    ensures kept { OnOk result (IsKept (front.old ++ bytes.now) front.new) }
-    ensures unfinished { OnOk result (HasNoFeed front.old → HasNoFeed bytes.now
-        → HasNoFeed front.new) }
-    ensures memory { IfErr result (λ _. (4096 < length (front.old ++ bytes.now))
-        × ¬ IsComment (front.old ++ bytes.now)) }
+    ensures kept { OnOk result (IsKept (pending.old ++ bytes.now) pending.new) }
+    ensures unfinished { OnOk result (HasNoFeed pending.old → HasNoFeed bytes.now
+        → HasNoFeed pending.new) }
+    ensures memory { IfErr result (λ _. (4096 < length (pending.old ++ bytes.now))
+        × ¬ IsComment (pending.old ++ bytes.now)) }
 {
-    if is_comment(front.as_slice()) {
+    if is_comment(pending.as_slice()) {
         return Ok(());
     }
-    if begins_comment(front.as_slice(), bytes) {
-        return front.extend(b"#");
+    if begins_comment(pending.as_slice(), bytes) {
+        return pending.extend(b"#");
     }
-    front.extend(bytes)
+    pending.extend(bytes)
 }
 
 /// Whether bytes begin a comment, where these came before in the line.
-fn begins_comment(front: &[u8], bytes: &[u8]) -> bool
-    ensures { IsTrue result ↔ ((front.now ≡ []) × IsComment bytes.now) }
+fn begins_comment(pending: &[u8], bytes: &[u8]) -> bool
+    ensures { IsTrue result ↔ ((pending.now ≡ []) × IsComment bytes.now) }
 {
-    front.is_empty() && is_comment(bytes)
+    pending.is_empty() && is_comment(bytes)
 }
 
 /// Whether the line is a comment, as far as it has come.
@@ -243,7 +243,7 @@ fn without_return(line: &[u8]) -> &[u8]
     ensures { result.now ≡ strip_carriage_return line.now }
 {
     match line {
-        [front @ .., b'\r'] => front,
+        [pending @ .., b'\r'] => pending,
         _ => line,
     }
 }

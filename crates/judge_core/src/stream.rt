@@ -6,12 +6,12 @@ ghost use Rattle.judge_questions.specs.Forms.{types_text};
 ghost use Rattle.judge_core.specs.Answered.{AreAnswered, asked_from};
 ghost use Rattle.judge_core.specs.Memory.{AreMemoryFree};
 ghost use Rattle.judge_core.specs.Said.{Says};
-ghost use Rattle.judge_core.specs.Session.{IsAllAnswered, IsBeginningAnswered, IsTooLong, NeedsMemory};
+ghost use Rattle.judge_core.specs.Session.{IsAllAnswered, IsPrefixAnswered, IsTooLong, NeedsMemory};
 
 use crate::error::Failure;
-use crate::front::Front;
 use crate::input::read_piece;
 use crate::lines::{answer_line, answer_piece, both};
+use crate::pending::Pending;
 use crate::report::{Part, say_parts};
 use crate::room::Room;
 use judge_questions::FORMS;
@@ -46,7 +46,7 @@ pub fn answer_all<A: Allocator + Copy, R: Read, W: Write, E: Write>(
         (Appends (E.contents errors.old) (E.contents errors.new))) }
     ensures quiet { result ≡ Ok true → errors.new ≡ errors.old }
     ensures stopped { IfErr result (λ failure. failure ≢ Failure.WriteFailed
-        → IsBeginningAnswered numbered (R.remaining input.old.inner) (R.remaining input.new.inner)
+        → IsPrefixAnswered numbered (R.remaining input.old.inner) (R.remaining input.new.inner)
         (W.contents output.old.inner) (W.contents output.new.inner)) }
     ensures memory { result ≡ Err Failure.Memory
         → NeedsMemory (R.remaining input.old.inner) (R.remaining input.new.inner) }
@@ -61,19 +61,19 @@ pub fn answer_all<A: Allocator + Copy, R: Read, W: Write, E: Write>(
     ensures ended { OnOk result (input.new.ended ≡ true) }
 {
     let mut room = [0u8; ROOM];
-    let mut front = Front::new(alloc);
+    let mut pending = Pending::new(alloc);
     let mut number = 1u128;
     let mut judged = true;
     for _piece in 0..PIECES {
         let count = read_piece(input, &mut room)?;
         if count == 0 {
-            let last = answer_last(alloc, numbered, number, front.as_slice(), output, errors)?;
+            let last = answer_last(alloc, numbered, number, pending.as_slice(), output, errors)?;
             return Ok(both(judged, last));
         }
         let verdicts = answer_piece(
             alloc,
             numbered,
-            &mut front,
+            &mut pending,
             &mut number,
             &room[..count],
             output,

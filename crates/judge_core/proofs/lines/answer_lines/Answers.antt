@@ -26,7 +26,7 @@ loop-at-init g c = (
   c.requires.unfinished,
   refl,
   (λ _. refl),
-  ([], [], [], refl, omega arith, says_nothing _ _, Appends-nil _, begins c.args.numbered c.args.number.now c.args.front.now),
+  ([], [], [], refl, omega arith, says_nothing _ _, Appends-nil _, begins c.args.numbered c.args.number.now c.args.pending.now),
 )
 
 pub loop-at-preserved : goal.loop-at-preserved
@@ -36,15 +36,15 @@ loop-at-preserved g c =
     let rest = c.loop-at.rest.now in
     let at = c.in-Some.at in
     let head = take at rest in
-    let front = c.loop-at.front in
-    let kept = c.extend_line.new.front in
+    let pending = c.loop-at.pending in
+    let kept = c.extend_line.new.pending in
     let n = c.loop-at.number in
     let (none', around) = at_feed rest at (sym c.place_of.ensures ∙ c.in-Some.is) in
     let (s, u, says', notes', answered) = c.in_ok-verdict.ensures.answered in
     let line : c.without_return-line.result.now ≡ strip_carriage_return kept = c.without_return-line.ensures ∙ ap strip_carriage_return c.as_slice.ensures in
     let answered' = subst (λ l. AreAnswered c.args.numbered (asked_from n (l ∷ [])) s u c.in_ok-verdict.verdict) line answered in
-    let ended = line_ended c.args.numbered n front head kept s u c.in_ok-verdict.verdict c.in_ok-extend_line.ensures.kept none none' answered' in
-    let on = continues_on c.args.numbered c.args.number.now c.args.front.now gone n front (head ++ (10 ∷ [])) (n + 1) [] said s noted u c.loop-at.judged c.in_ok-verdict.verdict continues ended in
+    let ended = line_ended c.args.numbered n pending head kept s u c.in_ok-verdict.verdict c.in_ok-extend_line.ensures.kept none none' answered' in
+    let on = continues_on c.args.numbered c.args.number.now c.args.pending.now gone n pending (head ++ (10 ∷ [])) (n + 1) [] said s noted u c.loop-at.judged c.in_ok-verdict.verdict continues ended in
     let long = length-append gone (head ++ (10 ∷ [])) in
     let longer = length-append head (10 ∷ []) in (
       subst HasNoFeed (sym c.clear.ensures) tt,
@@ -58,8 +58,8 @@ loop-at-preserved g c =
         omega (arith, counted, long, longer),
         says_on _ _ _ c.args.room.now c.loop-at.room c.answer_line.new.room said s says says',
         Appends-trans _ _ _ noted u notes notes',
-        subst (λ b. Continues c.args.numbered c.args.number.now c.args.front.now (gone ++ (head ++ (10 ∷ []))) (n + 1) c.clear.new.self (said ++ s) (noted ++ u) b) (sym c.both-judged.ensures)
-            (subst (λ f. Continues c.args.numbered c.args.number.now c.args.front.now (gone ++ (head ++ (10 ∷ []))) (n + 1) f (said ++ s) (noted ++ u) (c.loop-at.judged && c.in_ok-verdict.verdict)) (sym c.clear.ensures) on),
+        subst (λ b. Continues c.args.numbered c.args.number.now c.args.pending.now (gone ++ (head ++ (10 ∷ []))) (n + 1) c.clear.new.self (said ++ s) (noted ++ u) b) (sym c.both-judged.ensures)
+            (subst (λ f. Continues c.args.numbered c.args.number.now c.args.pending.now (gone ++ (head ++ (10 ∷ []))) (n + 1) f (said ++ s) (noted ++ u) (c.loop-at.judged && c.in_ok-verdict.verdict)) (sym c.clear.ensures) on),
       ),
     )
 
@@ -70,15 +70,15 @@ returns-in_err-extend_line-clause-memory g c =
     let (gone, said, noted, split, counted, says, notes, continues) = so_far in
     let rest = c.loop-at.rest.now in
     let at = c.in-Some.at in
-    let front = c.loop-at.front in
+    let pending = c.loop-at.pending in
     let n = c.loop-at.number in
     let (none', around) = at_feed rest at (sym c.place_of.ensures ∙ c.in-Some.is) in
     let (long, other) = c.in_err-extend_line.ensures.memory in
     λ _. (
       sound,
-      record { gone = gone; after = rest; m = n; back = front; said = said; noted = noted; judged = c.loop-at.judged; split = split; told = says; answered = continues },
-      ended_unfree c.args.numbered c.args.number.now c.args.front.now gone n front said noted c.loop-at.judged continues (take at rest) (drop (at + 1) rest) c.args.piece.now (split ∙ ap (λ u. gone ++ u) around) none none'
-          (stripped_unfree n (front ++ take at rest) long other),
+      record { gone = gone; after = rest; m = n; back = pending; said = said; noted = noted; judged = c.loop-at.judged; split = split; told = says; answered = continues },
+      ended_unfree c.args.numbered c.args.number.now c.args.pending.now gone n pending said noted c.loop-at.judged continues (take at rest) (drop (at + 1) rest) c.args.piece.now (split ∙ ap (λ u. gone ++ u) around) none none'
+          (stripped_unfree n (pending ++ take at rest) long other),
     )
 
 -- one failed as a line was answered
@@ -88,8 +88,8 @@ returns-in_err-verdict-clause-memory g c =
     let (gone, said, noted, split, counted, says, notes, continues) = so_far in
     let rest = c.loop-at.rest.now in
     let at = c.in-Some.at in
-    let front = c.loop-at.front in
-    let kept = c.extend_line.new.front in
+    let pending = c.loop-at.pending in
+    let kept = c.extend_line.new.pending in
     let n = c.loop-at.number in
     let (none', around) = at_feed rest at (sym c.place_of.ensures ∙ c.in-Some.is) in
     let line : c.without_return-line.result.now ≡ strip_carriage_return kept = c.without_return-line.ensures ∙ ap strip_carriage_return c.as_slice.ensures in
@@ -99,9 +99,9 @@ returns-in_err-verdict-clause-memory g c =
     let told = subst (λ o. Says old (g.W.Write.contents o.inner) c.args.room.now c.answer_line.new.room said) (sym output) (subst (λ r. Says old (g.W.Write.contents c.loop-at.output.inner) c.args.room.now r said) (sym room) says) in
     let unfree' = subst (λ l. ¬ AreMemoryFree (asked_from n (l ∷ []))) line unfree in (
       ap (λ o. o.failed) output ∙ sound,
-      record { gone = gone; after = rest; m = n; back = front; said = said; noted = noted; judged = c.loop-at.judged; split = split; told = told; answered = continues },
-      ended_unfree c.args.numbered c.args.number.now c.args.front.now gone n front said noted c.loop-at.judged continues (take at rest) (drop (at + 1) rest) c.args.piece.now (split ∙ ap (λ u. gone ++ u) around) none none'
-          (subst (λ ls. ¬ AreMemoryFree ls) (sym (kept_asked n (front ++ take at rest) kept c.in_ok-extend_line.ensures.kept)) unfree'),
+      record { gone = gone; after = rest; m = n; back = pending; said = said; noted = noted; judged = c.loop-at.judged; split = split; told = told; answered = continues },
+      ended_unfree c.args.numbered c.args.number.now c.args.pending.now gone n pending said noted c.loop-at.judged continues (take at rest) (drop (at + 1) rest) c.args.piece.now (split ∙ ap (λ u. gone ++ u) around) none none'
+          (subst (λ ls. ¬ AreMemoryFree ls) (sym (kept_asked n (pending ++ take at rest) kept c.in_ok-extend_line.ensures.kept)) unfree'),
     )
 
 -- one failed as a line was kept that goes on past the piece
@@ -110,14 +110,14 @@ returns-in_err-extend_line-2-clause-memory g c =
     let (none, sound, quiet, so_far) = c.loop-at.invariant in
     let (gone, said, noted, split, counted, says, notes, continues) = so_far in
     let rest = c.loop-at.rest.now in
-    let front = c.loop-at.front in
+    let pending = c.loop-at.pending in
     let n = c.loop-at.number in
     let (long, other) = c.in_err-extend_line-2.ensures.memory in
     λ _. (
       sound,
-      record { gone = gone; after = rest; m = n; back = front; said = said; noted = noted; judged = c.loop-at.judged; split = split; told = says; answered = continues },
-      going_unfree c.args.numbered c.args.number.now c.args.front.now gone n front said noted c.loop-at.judged continues rest c.args.piece.now split (no_feed-append front rest none (no_feed rest (sym c.place_of.ensures ∙ c.in_default.is)))
-          (whole_unfree n (front ++ rest) long other),
+      record { gone = gone; after = rest; m = n; back = pending; said = said; noted = noted; judged = c.loop-at.judged; split = split; told = says; answered = continues },
+      going_unfree c.args.numbered c.args.number.now c.args.pending.now gone n pending said noted c.loop-at.judged continues rest c.args.piece.now split (no_feed-append pending rest none (no_feed rest (sym c.place_of.ensures ∙ c.in_default.is)))
+          (whole_unfree n (pending ++ rest) long other),
     )
 
 pub returns-clause-unfinished : goal.returns-clause-unfinished
@@ -128,9 +128,9 @@ returns-clause-answered g c =
     let (none, sound, quiet, so_far) = c.loop-at.invariant in
     let (gone, said, noted, split, counted, says, notes, continues) = so_far in
     let rest = c.loop-at.rest.now in
-    let front = c.loop-at.front in
-    let kept = c.extend_line-2.new.front in
+    let pending = c.loop-at.pending in
+    let kept = c.extend_line-2.new.pending in
     let n = c.loop-at.number in
     let none' = no_feed rest (sym c.place_of.ensures ∙ c.in_default.is) in
-    let on = goes_on c.args.numbered c.args.number.now c.args.front.now gone n front rest kept said noted c.loop-at.judged continues c.in_ok-extend_line-2.ensures.kept (no_feed-append front rest none none') (c.in_ok-extend_line-2.ensures.unfinished none none') in
-    (said, noted, says, notes, subst (λ p. Continues c.args.numbered c.args.number.now c.args.front.now p n kept said noted c.loop-at.judged) (sym split) on)
+    let on = goes_on c.args.numbered c.args.number.now c.args.pending.now gone n pending rest kept said noted c.loop-at.judged continues c.in_ok-extend_line-2.ensures.kept (no_feed-append pending rest none none') (c.in_ok-extend_line-2.ensures.unfinished none none') in
+    (said, noted, says, notes, subst (λ p. Continues c.args.numbered c.args.number.now c.args.pending.now p n kept said noted c.loop-at.judged) (sym split) on)

@@ -1,4 +1,4 @@
-use Rattle.std.proofs.Common.{[], ◌∷◌, ◌++◌, take, subst, sym, ◌∙◌}
+use Rattle.std.proofs.Common.{[], ◌∷◌, take, subst, sym, ◌∙◌}
 use Rattle.judge_core.specs.Replies.{reply_text}
 use Rattle.judge_core.specs.Said.{Says, parts_text}
 use Rattle.judge_core.proofs.Saying.{line_split, on_ok, says_on}

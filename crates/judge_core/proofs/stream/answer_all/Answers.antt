@@ -7,7 +7,7 @@ use Rattle.std.proofs.lemmas.List.{length-take-le}
 use Rattle.commonware_base.proofs.Errors.{err_along}
 use Rattle.judge_core.specs.Answered.{AreAnswered, Continues, HasNoFeed, asked_from}
 use Rattle.judge_core.specs.Memory.{AreMemoryFree}
-use Rattle.judge_core.specs.Session.{IsBeginningAnswered}
+use Rattle.judge_core.specs.Session.{IsPrefixAnswered}
 use Rattle.judge_core.specs.declared.error.Failure.TheVariants.{Memory, WriteFailed}
 use Rattle.judge_core.proofs.Answering.{begins, both_true, continues_on, text_ended}
 use Rattle.judge_core.proofs.Freeness.{free_after, going_unfree}
@@ -18,7 +18,7 @@ pub loop-piece-init : goal.loop-piece-init
 loop-piece-init g c = (
   refl,
   refl,
-  subst HasNoFeed (sym c.new-front.ensures) tt,
+  subst HasNoFeed (sym c.new-pending.ensures) tt,
   (λ _. refl),
   (
     [],
@@ -27,7 +27,7 @@ loop-piece-init g c = (
     Consumes-nil _,
     Appends-nil _,
     Appends-nil _,
-    subst (λ f. Continues c.args.numbered 1 [] [] 1 f [] [] true) (sym c.new-front.ensures) (begins c.args.numbered 1 []),
+    subst (λ f. Continues c.args.numbered 1 [] [] 1 f [] [] true) (sym c.new-pending.ensures) (begins c.args.numbered 1 []),
     omega arith,
     omega arith,
     omega arith,
@@ -38,8 +38,8 @@ pub returns-in_err-count-clause-stopped : goal.returns-in_err-count-clause-stopp
 returns-in_err-count-clause-stopped g c =
     let (sound, whole, none, quiet, so_far) = c.loop-piece.invariant in
     let (text, said, noted, given, written, notes, answered, few, many, most) = so_far in
-    err_along c.from_residual.result c.in_err-count.field-0.0 (λ failure. failure ≢ WriteFailed → IsBeginningAnswered c.args.numbered _ _ _ _) c.from_residual.ensures.1
-    (λ _. beginning c.args.numbered _ _ _ _ _ text [] c.loop-piece.number c.loop-piece.front said noted c.loop-piece.judged given (kept _ _ c.in_err-count.ensures.kept) written answered)
+    err_along c.from_residual.result c.in_err-count.field-0.0 (λ failure. failure ≢ WriteFailed → IsPrefixAnswered c.args.numbered _ _ _ _) c.from_residual.ensures.1
+    (λ _. beginning c.args.numbered _ _ _ _ _ text [] c.loop-piece.number c.loop-piece.pending said noted c.loop-piece.judged given (kept _ _ c.in_err-count.ensures.kept) written answered)
 
 pub returns-in_err-last-clause-stopped : goal.returns-in_err-last-clause-stopped
 returns-in_err-last-clause-stopped g c =
@@ -47,25 +47,25 @@ returns-in_err-last-clause-stopped g c =
     let (text, said, noted, given, written, notes, answered, few, many, most) = so_far in
     let e = c.in_err-last.field-0.0 in
     let after = take c.in_ok-count.count c.read_piece.new.room in
-    err_along c.from_residual-in_err-last.result e (λ failure. failure ≢ WriteFailed → IsBeginningAnswered c.args.numbered _ _ _ _) c.from_residual-in_err-last.ensures.1
+    err_along c.from_residual-in_err-last.result e (λ failure. failure ≢ WriteFailed → IsPrefixAnswered c.args.numbered _ _ _ _) c.from_residual-in_err-last.ensures.1
     (for_memory e _ (λ other. (c.in_err-last.ensures.failed other).0)
-    (λ is. beginning c.args.numbered _ _ _ _ _ text after c.loop-piece.number c.loop-piece.front said noted c.loop-piece.judged given c.in_ok-count.ensures.bytes
+    (λ is. beginning c.args.numbered _ _ _ _ _ text after c.loop-piece.number c.loop-piece.pending said noted c.loop-piece.judged given c.in_ok-count.ensures.bytes
     (subst (λ out. Appends (g.W.Write.contents c.args.output.now.inner) (g.W.Write.contents out.inner) said) (sym (c.in_err-last.ensures.memory (ap Err is)).0) written) answered))
 
 pub returns-in_err-last-clause-memory : goal.returns-in_err-last-clause-memory
 returns-in_err-last-clause-memory g c =
     let (sound, whole, none, quiet, so_far) = c.loop-piece.invariant in
     let (text, said, noted, given, written, notes, answered, few, many, most) = so_far in
-    let front = c.loop-piece.front in
+    let pending = c.loop-piece.pending in
     let n = c.loop-piece.number in
     let after = take c.in_ok-count.count c.read_piece.new.room in
     let nothing : text ++ after ≡ text = ap (λ k. text ++ take k c.read_piece.new.room) c.if-count-eq0.true ∙ append-nil text in
     λ is.
     let unfree = (c.in_err-last.ensures.memory (ap Err (err_is c.from_residual-in_err-last.result c.in_err-last.field-0.0 Memory c.from_residual-in_err-last.ensures.1 is))).1 in
-    let line : c.as_slice.result.now ≡ front ++ [] = c.as_slice.ensures ∙ sym (append-nil front) in (
+    let line : c.as_slice.result.now ≡ pending ++ [] = c.as_slice.ensures ∙ sym (append-nil pending) in (
       text,
       subst (Consumes _ _) nothing (Consumes-trans _ _ _ text after given c.in_ok-count.ensures.bytes),
-      going_unfree c.args.numbered 1 [] text n front said noted c.loop-piece.judged answered [] text (sym (append-nil text)) (subst HasNoFeed (sym (append-nil front)) none) (subst (λ l. ¬ AreMemoryFree (asked_from n (l ∷ []))) line unfree),
+      going_unfree c.args.numbered 1 [] text n pending said noted c.loop-piece.judged answered [] text (sym (append-nil text)) (subst HasNoFeed (sym (append-nil pending)) none) (subst (λ l. ¬ AreMemoryFree (asked_from n (l ∷ []))) line unfree),
     )
 
 pub returns-then-count-eq0-clause-done : goal.returns-then-count-eq0-clause-done
@@ -85,7 +85,7 @@ returns-then-count-eq0-clause-done g c =
       Appends-trans _ _ _ _ _ written written',
       Appends-trans _ _ _ _ _ notes notes',
       subst (AreAnswered c.args.numbered (asked_from 1 (lines text)) (said ++ t) (noted ++ u)) (sym c.both.ensures)
-          (text_ended c.args.numbered 1 text n c.loop-piece.front said t noted u c.loop-piece.judged c.in_ok-last.last answered none line),
+          (text_ended c.args.numbered 1 text n c.loop-piece.pending said t noted u c.loop-piece.judged c.in_ok-last.last answered none line),
     )
 
 pub returns-in_err-verdicts-clause-stopped : goal.returns-in_err-verdicts-clause-stopped
@@ -94,8 +94,8 @@ returns-in_err-verdicts-clause-stopped g c =
     let (text, said, noted, given, written, notes, answered, few, many, most) = so_far in
     let e = c.in_err-verdicts.field-0.0 in
     let n = c.loop-piece.number in
-    let front = c.loop-piece.front in
-    err_along c.from_residual-in_err-verdicts.result e (λ failure. failure ≢ WriteFailed → IsBeginningAnswered c.args.numbered _ _ _ _) c.from_residual-in_err-verdicts.ensures.1
+    let pending = c.loop-piece.pending in
+    err_along c.from_residual-in_err-verdicts.result e (λ failure. failure ≢ WriteFailed → IsPrefixAnswered c.args.numbered _ _ _ _) c.from_residual-in_err-verdicts.ensures.1
     (for_memory e _ (λ other. (c.in_err-verdicts.ensures.failed other).0)
     (λ is.
     let (whole', stop, unfree) = c.in_err-verdicts.ensures.memory (ap Err is) in
@@ -110,7 +110,7 @@ returns-in_err-verdicts-clause-stopped g c =
       judged = c.loop-piece.judged && stop.judged;
       given = subst (Consumes _ _) (sym (append_assoc text stop.gone stop.after)) (Consumes-trans _ _ _ text (stop.gone ++ stop.after) given more);
       written = Appends-trans _ _ _ _ _ written stop.told;
-      answered = continues_on c.args.numbered 1 [] text n front stop.gone stop.m stop.back said stop.said noted stop.noted c.loop-piece.judged stop.judged answered stop.answered;
+      answered = continues_on c.args.numbered 1 [] text n pending stop.gone stop.m stop.back said stop.said noted stop.noted c.loop-piece.judged stop.judged answered stop.answered;
     }))
 
 pub returns-in_err-verdicts-clause-memory : goal.returns-in_err-verdicts-clause-memory
@@ -133,7 +133,7 @@ loop-piece-preserved g c =
     let piece = take c.in_ok-count.count room in
     let n = c.loop-piece.number in
     let m = c.answer_piece.new.number in
-    let back = c.answer_piece.new.front in
+    let back = c.answer_piece.new.pending in
     let (t, u, written', notes', answered') = c.in_ok-verdicts.ensures.answered in
     let long = length-append text piece in
     let exact : length piece ≡ c.in_ok-count.count = length-take-le c.in_ok-count.count room c.in_ok-count.ensures.within in
@@ -150,7 +150,7 @@ loop-piece-preserved g c =
         Appends-trans _ _ _ _ _ written written',
         Appends-trans _ _ _ _ _ notes notes',
         subst (Continues c.args.numbered 1 [] (text ++ piece) m back (said ++ t) (noted ++ u)) (sym c.both-judged.ensures)
-            (continues_on c.args.numbered 1 [] text n c.loop-piece.front piece m back said t noted u c.loop-piece.judged c.in_ok-verdicts.verdicts answered answered'),
+            (continues_on c.args.numbered 1 [] text n c.loop-piece.pending piece m back said t noted u c.loop-piece.judged c.in_ok-verdicts.verdicts answered answered'),
         omega (arith, few, long, counted),
         omega (arith, many, long, exact, c.if-count-eq0.false),
         omega (arith, most, long, exact, c.in_ok-count.ensures.within, c.read_piece.auto.room),
@@ -161,4 +161,4 @@ pub returns-clause-stopped : goal.returns-clause-stopped
 returns-clause-stopped g c =
     let (sound, whole, none, quiet, so_far) = c.loop-piece.invariant in
     let (text, said, noted, given, written, notes, answered, few, many, most) = so_far in
-    λ _. beginning c.args.numbered _ _ _ _ _ text [] c.loop-piece.number c.loop-piece.front said noted c.loop-piece.judged given (Consumes-nil _) written answered
+    λ _. beginning c.args.numbered _ _ _ _ _ text [] c.loop-piece.number c.loop-piece.pending said noted c.loop-piece.judged given (Consumes-nil _) written answered

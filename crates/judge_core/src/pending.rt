@@ -10,7 +10,7 @@ const SHORT: usize = 4096;
 /// The bytes of the line under way, of which no line feed has come yet. Up to 4096 of them are kept
 /// in the value itself; more are allocated.
 #[derive(Drop)]
-pub(crate) struct Front<A: Allocator> {
+pub(crate) struct Pending<A: Allocator> {
     /// All the bytes while there are at most 4096.
     short: [u8; SHORT],
     /// How many of `short` are in use: none once there are more.
@@ -19,23 +19,23 @@ pub(crate) struct Front<A: Allocator> {
     long: Vec<u8, A>,
 }
 
-impl<A: Allocator> Model for Front<A> {
+impl<A: Allocator> Model for Pending<A> {
     ghost use Rattle.std.specs.Prelude.{◌≡◌, ◌≤◌, ◌<◌, ◌⊎◌, ◌++◌, [], ℕ, List, length, take};
 
     ghost Value = { List ℕ };
 
-    ghost view = { λ front. take front.count front.short ++ front.long.items };
+    ghost view = { λ pending. take pending.count pending.short ++ pending.long.items };
 
-    ghost invariant = { λ front. (front.count ≤ 4096) × ((front.long.items ≡ [])
-        ⊎ ((front.count ≡ 0) × (4096 < length front.long.items))) };
+    ghost invariant = { λ pending. (pending.count ≤ 4096) × ((pending.long.items ≡ [])
+        ⊎ ((pending.count ≡ 0) × (4096 < length pending.long.items))) };
 }
 
-impl<A: Allocator + Copy> Front<A> {
+impl<A: Allocator + Copy> Pending<A> {
     /// No bytes.
-    pub(crate) fn new(alloc: A) -> Front<A>
+    pub(crate) fn new(alloc: A) -> Pending<A>
         ensures { result ≡ [] }
     {
-        Front {
+        Pending {
             short: [0; SHORT],
             count: 0,
             long: Vec::new(alloc),
