@@ -5,7 +5,7 @@ ghost use Rattle.std.specs.Int.NonZero.{non_zero_u64_get};
 use std::num::NonZeroU64;
 
 /// The least number of seven digits for each hundredth above 0, as 1,023,293 for 0.01.
-const POWERS: [u128; 99] = [
+static POWERS: [u128; 99] = [
     1_023_293, 1_047_129, 1_071_520, 1_096_479, 1_122_019, 1_148_154, 1_174_898, 1_202_265,
     1_230_269, 1_258_926, 1_288_250, 1_318_257, 1_348_963, 1_380_385, 1_412_538, 1_445_440,
     1_479_109, 1_513_562, 1_548_817, 1_584_894, 1_621_811, 1_659_587, 1_698_244, 1_737_801,

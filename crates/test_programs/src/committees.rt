@@ -68,7 +68,7 @@ pub fn write_line(report: &mut String, member: u64) -> Result<(), AllocError> {
 }
 
 /// The hexadecimal digits.
-const DIGITS: [char; 16] = [
+static DIGITS: [char; 16] = [
     '0', '1', '2', '3', '4', '5', '6', '7', '8', '9', 'a', 'b', 'c', 'd', 'e', 'f',
 ];
 

@@ -42,7 +42,7 @@ fn a_report_takes_several_calls(rt: HostRuntime) {
     }
 }
 
-const READ_FAULTS: [ReadFault; 4] = [
+static READ_FAULTS: [ReadFault; 4] = [
     ReadFault::Fails(ErrorKind::BrokenPipe),
     ReadFault::Fails(ErrorKind::Interrupted),
     ReadFault::Fails(ErrorKind::UnexpectedEof),
@@ -74,7 +74,7 @@ fn a_reader_goes_wrong_at_each_call(rt: HostRuntime) {
     let (bytes, report) = committee_of_256(alloc).expect(&rt, "memory");
     for pace in PACES {
         let whole = run_at(&bytes, &report, pace);
-        for way in READ_FAULTS {
+        for &way in &READ_FAULTS {
             for at in 0..=whole.reads {
                 let wanted = with_read_fault(whole, at, way);
                 assert!(rt;
@@ -115,7 +115,7 @@ fn a_reader_breaks_at_each_call(rt: HostRuntime) {
     }
 }
 
-const WRITE_FAULTS: [WriteFault; 6] = [
+static WRITE_FAULTS: [WriteFault; 6] = [
     WriteFault::Fails(ErrorKind::BrokenPipe),
     WriteFault::Fails(ErrorKind::Interrupted),
     WriteFault::Breaks(ErrorKind::BrokenPipe),
@@ -151,7 +151,7 @@ fn a_writer_goes_wrong_at_each_call(rt: HostRuntime) {
     let (bytes, report) = committee_of_256(alloc).expect(&rt, "memory");
     for pace in PACES {
         let whole = run_at(&bytes, &report, pace);
-        for way in WRITE_FAULTS {
+        for &way in &WRITE_FAULTS {
             for at in 0..=whole.writes {
                 let wanted = with_write_fault(whole, at, way);
                 assert!(rt;

@@ -6,7 +6,7 @@ use crate::session_trial::{Session, is_right, two_session};
 use std::alloc::{AllocError, Global};
 
 /// How many bytes an input has.
-const LENGTHS: [usize; 9] = [
+static LENGTHS: [usize; 9] = [
     8195, 8196, 8197, 8198, 73_732, 73_733, 73_734, 139_269, 150_000,
 ];
 
@@ -72,7 +72,7 @@ fn each_byte_after_a_committee_is_left_over(rt: HostRuntime) {
                 "{n} {left}"
             );
         }
-        for length in LENGTHS {
+        for &length in &LENGTHS {
             let left = length.saturating_sub(committee.len());
             assert!(rt;
                 are_left_over(alloc, &committee, left) == Ok(true),
@@ -83,7 +83,7 @@ fn each_byte_after_a_committee_is_left_over(rt: HostRuntime) {
 }
 
 /// The first bytes of inputs, and what is said of them whatever follows.
-const EARLY_FAULTS: [(&[u8], &str); 5] = [
+static EARLY_FAULTS: [(&[u8], &str); 5] = [
     (b"\x00", "refused: length 0\n"),
     (b"\x81\x02", "refused: length 257\n"),
     (b"\xff\xff\xff\xff\x0f", "refused: length 4294967295\n"),
@@ -100,8 +100,8 @@ const EQUAL_MEMBERS: (&[u8], &str) = (
 #[test]
 fn the_first_fault_of_a_long_input_is_returned(rt: HostRuntime) {
     let alloc = rt.alloc();
-    for (start, said) in EARLY_FAULTS.into_iter().chain([EQUAL_MEMBERS]) {
-        for length in LENGTHS {
+    for &(start, said) in EARLY_FAULTS.iter().chain([&EQUAL_MEMBERS]) {
+        for &length in &LENGTHS {
             let bytes = input_of(alloc, start, length).expect(&rt, "memory");
             assert!(rt;
                 is_refused(alloc, &bytes, said) == Ok(true),
@@ -115,8 +115,8 @@ fn the_first_fault_of_a_long_input_is_returned(rt: HostRuntime) {
 #[test]
 fn early_faults_need_no_memory(rt: HostRuntime) {
     let alloc = rt.alloc();
-    for (start, said) in EARLY_FAULTS {
-        for length in LENGTHS {
+    for &(start, said) in &EARLY_FAULTS {
+        for &length in &LENGTHS {
             let bytes = input_of(alloc, start, length).expect(&rt, "memory");
             let refused = is_refused_at(alloc, &bytes, said, WHOLE, 0).expect(&rt, "memory");
             assert!(rt; refused, "{said} {length}");

@@ -179,7 +179,7 @@ fn whole_run() -> Run<'static> {
 
 /// How many bytes a reader gives before it fails, how many of them a call, and how often it is
 /// called.
-const FAILED_READS: [(usize, usize, u32); 6] = [
+static FAILED_READS: [(usize, usize, u32); 6] = [
     (0, 1, 1),
     (0, WHOLE, 1),
     (2, 1, 3),
@@ -192,7 +192,7 @@ const FAILED_READS: [(usize, usize, u32); 6] = [
 #[test]
 fn a_failed_read_is_no_end(rt: HostRuntime) {
     for kind in [ErrorKind::BrokenPipe, ErrorKind::Interrupted] {
-        for (given, step, reads) in FAILED_READS {
+        for &(given, step, reads) in &FAILED_READS {
             let input = Input {
                 step,
                 ..Input::failing(beginning(TWO, given), kind)
@@ -231,7 +231,7 @@ fn pieces_make_no_difference(rt: HostRuntime) {
 
 /// How many bytes a writer takes a call, the call that goes wrong and how, and how many bytes it
 /// has taken then.
-const FAILED_WRITES: [(usize, u32, WriteFault, usize); 8] = [
+static FAILED_WRITES: [(usize, u32, WriteFault, usize); 8] = [
     (WHOLE, 0, WriteFault::Fails(ErrorKind::BrokenPipe), 0),
     (WHOLE, 0, WriteFault::Breaks(ErrorKind::Interrupted), 0),
     (WHOLE, 0, WriteFault::TakesNothing, 0),
@@ -245,7 +245,7 @@ const FAILED_WRITES: [(usize, u32, WriteFault, usize); 8] = [
 /// Nothing is tried again.
 #[test]
 fn a_writer_fails_at_any_call(rt: HostRuntime) {
-    for (step, at, fault, taken) in FAILED_WRITES {
+    for &(step, at, fault, taken) in &FAILED_WRITES {
         let output = Output::failing(step, at, fault);
         let wanted = with_failed_write(whole_run(), output, at.saturating_add(1), taken);
         assert!(rt;

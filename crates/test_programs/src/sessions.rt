@@ -12,7 +12,7 @@ use std::test::Fail;
 use test_equipment::{Refusing, WriteFault};
 
 /// Words that ask for bounds, and the report on them.
-const BOUNDS: [(&[&str], &str); 5] = [
+static BOUNDS: [(&[&str], &str); 5] = [
     (&["bounds", "1"], ONE),
     (&["bounds", "6"], SIX),
     (&["bounds", "0000000006"], SIX),
@@ -23,7 +23,7 @@ const BOUNDS: [(&[&str], &str); 5] = [
 #[test]
 fn reports_are_written(rt: HostRuntime) {
     assert!(rt; is_right(rt.alloc(), &two_session()) == Ok(true));
-    for (words, report) in BOUNDS {
+    for &(words, report) in &BOUNDS {
         let wanted = Session {
             words,
             input: Input::failing(b"", ErrorKind::BrokenPipe),
@@ -73,7 +73,7 @@ fn other_bytes_are_refused(rt: HostRuntime) {
 }
 
 /// Words that ask for no command.
-const OTHER_WORDS: [&[&str]; 27] = [
+static OTHER_WORDS: [&[&str]; 27] = [
     &[],
     &["write"],
     &["READ"],
@@ -106,7 +106,7 @@ const OTHER_WORDS: [&[&str]; 27] = [
 /// The first allocation fails, if there is one.
 #[test]
 fn other_words_get_the_usage_line(rt: HostRuntime) {
-    for words in OTHER_WORDS {
+    for &words in &OTHER_WORDS {
         let wanted = Session {
             words,
             granted: 0,
@@ -130,7 +130,7 @@ fn words_ask_for_a_command(rt: HostRuntime) {
         parse_args(&read) == Some(Command::Read)
             && parse_args(&bounds) == NonZeroU32::new(6).map(Command::Bounds)
     );
-    for line in OTHER_WORDS {
+    for &line in &OTHER_WORDS {
         heap.restart(u64::MAX);
         let words = words_of(&heap, line).expect(&rt, "memory");
         heap.restart(0);

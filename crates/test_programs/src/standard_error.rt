@@ -34,7 +34,7 @@ type Row = (
     u8,
 );
 
-const LINES: [Row; 9] = [
+static LINES: [Row; 9] = [
     (
         WRITE,
         b"",
@@ -135,7 +135,7 @@ fn a_line_is_one_write_or_as_many_as_it_needs(rt: HostRuntime) {
 }
 
 /// The ways in which a call takes nothing. After the first three the next call would go well.
-const FAULTS: [WriteFault; 5] = [
+static FAULTS: [WriteFault; 5] = [
     WriteFault::Fails(ErrorKind::Interrupted),
     WriteFault::Fails(ErrorKind::BrokenPipe),
     WriteFault::TakesNothing,
@@ -146,7 +146,7 @@ const FAULTS: [WriteFault; 5] = [
 /// Each call for a line, one byte a call, goes wrong in turn, and at last one that is never made.
 #[test]
 fn no_write_of_a_line_is_tried_again(rt: HostRuntime) {
-    for fault in FAULTS {
+    for &fault in &FAULTS {
         for row in &LINES {
             let (_, _, _, line, _) = *row;
             for at in 0..=line.len() as u32 {
