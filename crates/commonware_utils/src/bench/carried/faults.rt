@@ -6,7 +6,7 @@ use crate::faults::Count;
 use crate::{Faults, N3f1, N5f1};
 
 /// n, then f and the quorum of `N3f1`, then f, the quorum and the smaller quorum of `N5f1`.
-const NUMBERS: [(u32, (u32, u32), (u32, u32, u32)); 23] = [
+static NUMBERS: [(u32, (u32, u32), (u32, u32, u32)); 23] = [
     (1, (0, 1), (0, 1, 1)),
     (2, (0, 2), (0, 2, 1)),
     (3, (0, 3), (0, 3, 1)),
@@ -55,22 +55,22 @@ fn quorums_of<N: Count + Copy>(n: N) -> Option<(u32, u32, u32)> {
 
 #[test]
 fn test_bft3f1_quorum_and_max_faults(rt: HostRuntime) {
-    for (n, (faults, quorum), _) in NUMBERS {
+    for (n, (faults, quorum), _) in &NUMBERS {
         assert!(rt;
-            numbers_of::<N3f1, u32>(n) == Some((faults, quorum))
-                && u64::from(n) == u64::from(faults) + u64::from(quorum)
+            numbers_of::<N3f1, u32>(*n) == Some((*faults, *quorum))
+                && u64::from(*n) == u64::from(*faults) + u64::from(*quorum)
         );
     }
 }
 
 #[test]
 fn test_bft5f1_quorums(rt: HostRuntime) {
-    for (n, _, (faults, larger, smaller)) in NUMBERS {
+    for (n, _, (faults, larger, smaller)) in &NUMBERS {
         assert!(rt;
-            numbers_of::<N5f1, u32>(n) == Some((faults, larger))
-                && quorums_of(n) == Some((faults, larger, smaller))
-                && u64::from(n) == u64::from(faults) + u64::from(larger)
-                && u64::from(smaller) == 2 * u64::from(faults) + 1
+            numbers_of::<N5f1, u32>(*n) == Some((*faults, *larger))
+                && quorums_of(*n) == Some((*faults, *larger, *smaller))
+                && u64::from(*n) == u64::from(*faults) + u64::from(*larger)
+                && u64::from(*smaller) == 2 * u64::from(*faults) + 1
         );
     }
 }

@@ -10,7 +10,7 @@ use std::alloc::Global;
 use std::process::Abort;
 
 /// Keys, and their places and values in {1: 10, 5: 50, 9: 90}.
-const PLACES: [(u8, Option<usize>, Option<&u8>); 4] = [
+static PLACES: [(u8, Option<usize>, Option<&u8>); 4] = [
     (1, Some(0), Some(&10)),
     (5, Some(1), Some(&50)),
     (9, Some(2), Some(&90)),
@@ -18,7 +18,7 @@ const PLACES: [(u8, Option<usize>, Option<&u8>); 4] = [
 ];
 
 /// Pairs, and the bytes of their map.
-const BYTES: [(&[(u8, u8)], &[u8]); 3] = [
+static BYTES: [(&[(u8, u8)], &[u8]); 3] = [
     (&[(2, 20), (1, 10)], b"\x02\x01\x02\x02\x0a\x14"),
     (
         &[(4, 40), (1, 10), (3, 30), (2, 20)],
@@ -27,8 +27,14 @@ const BYTES: [(&[(u8, u8)], &[u8]); 3] = [
     (&[], b"\x00\x00"),
 ];
 
+/// Pairs, and the text of their map.
+static TEXTS: [(&[(u8, u8)], &str); 2] = [(&[(2, 20), (1, 10)], "[(1, 10), (2, 20)]"), (&[], "[]")];
+
+/// The pairs of maps that differ from {1: 10, 2: 20}.
+static OTHERS: [[(u8, u8); 2]; 2] = [[(1, 10), (2, 21)], [(1, 10), (3, 20)]];
+
 /// Inputs that are no map of bytes.
-const NO_MAPS: [(&[u8], Error); 5] = [
+static NO_MAPS: [(&[u8], Error); 5] = [
     (b"\x02\x01\x02\x01\x0a", Error::InvalidLength(1)),
     (b"\x02\x01\x02\x02\x0a", Error::EndOfBuffer),
     (b"\x02\x02\x01", UNSORTED),
@@ -82,13 +88,15 @@ fn sum(set: &Set<u8, Global>) -> u32 {
     sum
 }
 
+/// Whether the map of 1 and 2 is seen as the set of its keys.
+fn is_its_keys(map: &Map<u8, u8, Global>) -> bool {
+    let keys: &Set<u8, Global> = map.as_ref();
+    sum(map) == 3 && keys.as_slice() == [1, 2].as_slice() && map.iter().rev().eq([2, 1].iter())
+}
+
 #[test]
 fn test_map_deref_to_set(rt: HostRuntime) {
-    let map = map_of(&rt, rt.alloc(), &[(2, 20), (1, 10)]);
-    let keys: &Set<u8, Global> = map.as_ref();
-    assert!(rt;
-        sum(&map) == 3 && keys.as_slice() == [1, 2].as_slice() && map.iter().rev().eq([2, 1].iter())
-    );
+    assert!(rt; is_its_keys(&map_of(&rt, rt.alloc(), &[(2, 20), (1, 10)])));
 }
 
 #[test]
@@ -141,10 +149,7 @@ fn test_values_mut(rt: HostRuntime) {
 #[test]
 fn maps_are_shown(rt: HostRuntime) {
     let alloc = rt.alloc();
-    for (pairs, text) in [
-        ([(2, 20), (1, 10)].as_slice(), "[(1, 10), (2, 20)]"),
-        (&[], "[]"),
-    ] {
+    for (pairs, text) in &TEXTS {
         assert!(rt; is_shown_as(alloc, &map_of(&rt, alloc, pairs), text));
     }
     assert!(rt; is_debugged_as(alloc, &map_of(&rt, alloc, &[(1, 10)]), "Map([(1, 10)])"));
@@ -154,23 +159,36 @@ fn maps_are_shown(rt: HostRuntime) {
 fn equal_maps_hash_alike(rt: HostRuntime) {
     let map = map_of(&rt, rt.alloc(), &[(2, 20), (1, 10)]);
     assert!(rt; are_equal(&map, &map.clone().expect(&rt, "memory"), true));
-    for other in [[(1, 10), (2, 21)], [(1, 10), (3, 20)]] {
-        assert!(rt; are_equal(&map, &map_of(&rt, rt.alloc(), &other), false));
+    for other in &OTHERS {
+        assert!(rt; are_equal(&map, &map_of(&rt, rt.alloc(), other), false));
     }
+}
+
+/// Whether each map is written as its bytes.
+fn are_written(rt: &impl Abort, alloc: Global) -> bool {
+    for (pairs, bytes) in &BYTES {
+        if !is_written_as(alloc, &map_of(rt, alloc, pairs), bytes) {
+            return false;
+        }
+    }
+    true
+}
+
+/// A list of the empty map and of {5: 6}.
+fn listed(rt: &impl Abort, alloc: Global) -> Vec<Map<u8, u8, Global>> {
+    let mut maps = Vec::new(alloc);
+    for pairs in [[].as_slice(), &[(5, 6)]] {
+        maps.push(map_of(rt, alloc, pairs)).expect(rt, "memory");
+    }
+    maps
 }
 
 #[test]
 fn maps_are_written_as_two_lists_and_in_lists(rt: HostRuntime) {
     let alloc = rt.alloc();
     map_fault_law::<u8, u8, _>(alloc, RangeCfg::from(..), &(), &());
-    for (pairs, bytes) in BYTES {
-        assert!(rt; is_written_as(alloc, &map_of(&rt, alloc, pairs), bytes));
-    }
-    let mut maps = Vec::new(alloc);
-    for pairs in [[].as_slice(), &[(5, 6)]] {
-        maps.push(map_of(&rt, alloc, pairs)).expect(&rt, "memory");
-    }
-    assert!(rt; is_written_as(alloc, &maps, b"\x02\x00\x00\x01\x05\x01\x06"));
+    assert!(rt; are_written(&rt, alloc));
+    assert!(rt; is_written_as(alloc, &listed(&rt, alloc), b"\x02\x00\x00\x01\x05\x01\x06"));
 }
 
 #[test]

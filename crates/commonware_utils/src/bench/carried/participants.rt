@@ -4,7 +4,7 @@ use crate::bench::{is_coded_as, is_debugged_as, is_shown_as};
 use crate::codec::MaxEncodeSize;
 
 /// Indices and their texts.
-const TEXTS: [(u32, &str); 4] = [
+static TEXTS: [(u32, &str); 4] = [
     (0, "0"),
     (42, "42"),
     (1000, "1000"),
@@ -12,7 +12,7 @@ const TEXTS: [(u32, &str); 4] = [
 ];
 
 /// Indices and their bytes.
-const BYTES: [(u32, &[u8]); 7] = [
+static BYTES: [(u32, &[u8]); 7] = [
     (0, b"\x00"),
     (1, b"\x01"),
     (127, b"\x7f"),
@@ -36,8 +36,8 @@ fn test_participant_constructors(rt: HostRuntime) {
 
 #[test]
 fn test_participant_display(rt: HostRuntime) {
-    for (index, text) in TEXTS {
-        assert!(rt; is_shown_as(rt.alloc(), &Participant::new(index), text));
+    for (index, text) in &TEXTS {
+        assert!(rt; is_shown_as(rt.alloc(), &Participant::new(*index), text));
     }
     assert!(rt; is_debugged_as(rt.alloc(), &Participant::new(5), "Participant(5)"));
 }
@@ -54,8 +54,8 @@ fn test_participant_ordering(rt: HostRuntime) {
 
 #[test]
 fn test_participant_encode_decode(rt: HostRuntime) {
-    for (index, bytes) in BYTES {
-        assert!(rt; is_coded_as(rt.alloc(), &Participant::new(index), &(), bytes));
+    for (index, bytes) in &BYTES {
+        assert!(rt; is_coded_as(rt.alloc(), &Participant::new(*index), &(), bytes));
     }
     assert!(rt; Participant::MAX_ENCODE_SIZE == 5);
 }

@@ -6,7 +6,7 @@ use crate::{
 use std::num::{NonZeroU8, NonZeroU16, NonZeroU32, NonZeroU64};
 
 /// Two lists of bytes, and the one after the other.
-const UNIONS: [(&[u8], &[u8], &[u8]); 4] = [
+static UNIONS: [(&[u8], &[u8], &[u8]); 4] = [
     (b"", b"", b""),
     (b"", b"\x01\x02\x03", b"\x01\x02\x03"),
     (b"\x01\x02\x03", b"", b"\x01\x02\x03"),
@@ -17,8 +17,15 @@ const UNIONS: [(&[u8], &[u8], &[u8]); 4] = [
     ),
 ];
 
+/// A namespace and a message, and what is made of both.
+static UNIQUE_UNIONS: [(&[u8], &[u8], &[u8]); 3] = [
+    (b"namespace", b"message", b"\x09namespacemessage"),
+    (b"a", b"bc", b"\x01abc"),
+    (b"ab", b"c", b"\x02abc"),
+];
+
 /// Two sizes, and the larger.
-const SIZES: [(usize, usize, usize); 6] = [
+static SIZES: [(usize, usize, usize); 6] = [
     (3, 7, 7),
     (7, 3, 7),
     (5, 5, 5),
@@ -29,27 +36,19 @@ const SIZES: [(usize, usize, usize); 6] = [
 
 #[test]
 fn test_union(rt: HostRuntime) {
-    for (a, b, whole) in UNIONS {
-        assert!(rt; union(rt.alloc(), a, b).expect(&rt, "memory").as_slice() == whole);
+    for (a, b, whole) in &UNIONS {
+        assert!(rt; union(rt.alloc(), a, b).expect(&rt, "memory").as_slice() == *whole);
     }
 }
 
 #[test]
 fn test_union_unique(rt: HostRuntime) {
-    for (namespace, msg, whole) in [
-        (
-            b"namespace".as_slice(),
-            b"message".as_slice(),
-            b"\x09namespacemessage".as_slice(),
-        ),
-        (b"a", b"bc", b"\x01abc"),
-        (b"ab", b"c", b"\x02abc"),
-    ] {
+    for (namespace, msg, whole) in &UNIQUE_UNIONS {
         assert!(rt;
             union_unique(rt.alloc(), namespace, msg)
                 .expect(&rt, "memory")
                 .as_slice()
-                == whole
+                == *whole
         );
     }
 }
@@ -70,8 +69,8 @@ fn test_union_unique_long_length(rt: HostRuntime) {
 
 #[test]
 fn test_max(rt: HostRuntime) {
-    for (a, b, larger) in SIZES {
-        assert!(rt; max(a, b) == larger);
+    for (a, b, larger) in &SIZES {
+        assert!(rt; max(*a, *b) == *larger);
     }
 }
 
@@ -80,31 +79,47 @@ fn wide<T, N: Widen<T>>(number: N) -> T {
     number.widen()
 }
 
+/// Whether the number is the same in each wider type.
+fn is_small(small: NonZeroU8, n: u8) -> bool {
+    wide::<u16, NonZeroU8>(small) == n as u16
+        && wide::<u32, NonZeroU8>(small) == n as u32
+        && wide::<u64, NonZeroU8>(small) == n as u64
+        && wide::<u128, NonZeroU8>(small) == n as u128
+        && wide::<usize, NonZeroU8>(small) == n as usize
+}
+
+/// Whether the number is the same in each wider type.
+fn is_word(word: NonZeroU16, n: u16) -> bool {
+    wide::<u32, NonZeroU16>(word) == n as u32
+        && wide::<u64, NonZeroU16>(word) == n as u64
+        && wide::<u128, NonZeroU16>(word) == n as u128
+        && wide::<usize, NonZeroU16>(word) == n as usize
+}
+
+/// Whether the number is the same in each wider type.
+fn is_long(long: NonZeroU32, n: u32) -> bool {
+    wide::<u64, NonZeroU32>(long) == n as u64
+        && wide::<u128, NonZeroU32>(long) == n as u128
+        && wide::<usize, u32>(n) == n as usize
+}
+
+/// Whether the number is the same in the wider type, and as a size.
+fn is_longest(longest: NonZeroU64, n: u64) -> bool {
+    wide::<u128, NonZeroU64>(longest) == n as u128 && wide::<u64, usize>(n as usize) == n
+}
+
 #[test]
 fn wider_numbers_are_the_same(rt: HostRuntime) {
-    for (n8, n16) in [(1, 1), (200, 513), (u8::MAX, 65535)] {
-        let small = NonZeroU8::new(n8).expect(&rt, "zero");
-        let of_small: (u16, u32, u64, u128, usize) = (
-            wide(small),
-            wide(small),
-            wide(small),
-            wide(small),
-            wide(small),
-        );
-        assert!(rt; of_small == (n8 as u16, n8 as u32, n8 as u64, n8 as u128, n8 as usize));
-        let word = NonZeroU16::new(n16).expect(&rt, "zero");
-        let of_word: (u32, u64, u128, usize) = (wide(word), wide(word), wide(word), wide(word));
-        assert!(rt; of_word == (n16 as u32, n16 as u64, n16 as u128, n16 as usize));
-    }
-    for (n32, n64) in [(1, 1), (u32::MAX, u64::MAX)] {
-        let long = NonZeroU32::new(n32).expect(&rt, "zero");
-        let of_long: (u64, u128) = (wide(long), wide(long));
-        assert!(rt; of_long == (n32 as u64, n32 as u128));
-        let longest = NonZeroU64::new(n64).expect(&rt, "zero");
+    for (n8, n16) in &[(1, 1), (200, 513), (u8::MAX, 65535)] {
         assert!(rt;
-            wide::<u128, NonZeroU64>(longest) == n64 as u128
-                && wide::<usize, u32>(n32) == n32 as usize
-                && wide::<u64, usize>(n64 as usize) == n64
+            is_small(NonZeroU8::new(*n8).expect(&rt, "zero"), *n8)
+                && is_word(NonZeroU16::new(*n16).expect(&rt, "zero"), *n16)
+        );
+    }
+    for (n32, n64) in &[(1, 1), (u32::MAX, u64::MAX)] {
+        assert!(rt;
+            is_long(NonZeroU32::new(*n32).expect(&rt, "zero"), *n32)
+                && is_longest(NonZeroU64::new(*n64).expect(&rt, "zero"), *n64)
         );
     }
 }

@@ -34,38 +34,63 @@ fn has(list: &NonEmptyVec<u8, Global>, items: &[u8]) -> bool {
         && ends == (Some(list.first()), Some(list.last()))
 }
 
+/// Items that are pushed, and what each of them puts out.
+static PUSHES: [(u8, Option<u8>); 4] = [(1, None), (2, None), (3, None), (4, Some(1))];
+
+/// Whether each push puts out what is beside its item.
+fn evicts(queue: &mut Bounded<u8, Global>, pushes: &[(u8, Option<u8>)]) -> bool {
+    for (item, out) in pushes {
+        if queue.push(*item) != Ok(*out) {
+            return false;
+        }
+    }
+    true
+}
+
+/// Whether the queue has this capacity and these items, the oldest first.
+fn queues(queue: &Bounded<u8, Global>, capacity: NonZeroUsize, items: &[u8]) -> bool {
+    queue.capacity() == capacity && queue.iter().eq(items.iter())
+}
+
+/// Whether a queue of this capacity evicts so, and has these items after the pushes.
+fn keeps_last(
+    alloc: Global,
+    capacity: NonZeroUsize,
+    pushes: &[(u8, Option<u8>)],
+    left: &[u8],
+) -> bool {
+    let mut queue = Bounded::new(alloc, capacity);
+    evicts(&mut queue, pushes) && queues(&queue, capacity, left)
+}
+
 #[test]
 fn test_bounded_push_evicts_oldest(rt: HostRuntime) {
-    let rows = [
-        (
-            NZUsize!(3),
-            [(1u8, None), (2, None), (3, None), (4, Some(1))].as_slice(),
-            [2, 3, 4].as_slice(),
-        ),
-        (NZUsize!(1), &[(5, None), (6, Some(5))], &[6]),
-    ];
-    for (capacity, pushes, left) in rows {
-        let mut queue = Bounded::new(rt.alloc(), capacity);
-        for (item, out) in pushes {
-            assert!(rt; queue.push(*item) == Ok(*out));
-        }
-        assert!(rt; queue.capacity() == capacity && queue.iter().eq(left.iter()));
-    }
+    assert!(rt;
+        keeps_last(rt.alloc(), NZUsize!(3), &PUSHES, &[2, 3, 4])
+            && keeps_last(rt.alloc(), NZUsize!(1), &[(5, None), (6, Some(5))], &[6])
+    );
+}
+
+/// Whether an empty queue of two takes 1, 2 and 3 where it has room, and gives 1.
+fn reuses_room(queue: &mut Bounded<u8, Global>) -> bool {
+    queue.pop_front() == None
+        && queue.push(1) == Ok(None)
+        && queue.push(2) == Ok(None)
+        && queue.pop_front() == Some(1)
+        && queue.push(3) == Ok(None)
+}
+
+/// Whether a queue of 2 and 3, which is full, takes 4.
+fn takes_four(queue: &mut Bounded<u8, Global>) -> bool {
+    queue.iter().eq([2, 3].iter())
+        && queue.push(4) == Ok(Some(2))
+        && queue.as_ref().iter().eq([3, 4].iter())
 }
 
 #[test]
 fn test_bounded_pop_front_reuses_capacity(rt: HostRuntime) {
     let mut queue = Bounded::new(rt.alloc(), NZUsize!(2));
-    assert!(rt;
-        queue.pop_front() == None
-            && queue.push(1u8) == Ok(None)
-            && queue.push(2) == Ok(None)
-            && queue.pop_front() == Some(1)
-            && queue.push(3) == Ok(None)
-            && queue.iter().eq([2, 3].iter())
-            && queue.push(4) == Ok(Some(2))
-            && queue.as_ref().iter().eq([3, 4].iter())
-    );
+    assert!(rt; reuses_room(&mut queue) && takes_four(&mut queue));
 }
 
 #[test]
@@ -206,16 +231,19 @@ fn test_extend(rt: HostRuntime) {
     assert!(rt; v.extend([2, 3, 4]).is_ok() && has(&v, &[1, 2, 3, 4]));
 }
 
+/// Whether the list has these items, once it has so many, with 0 for what it lacks.
+fn is_resized(v: &mut NonEmptyVec<u8, Global>, len: NonZeroUsize, items: &[u8]) -> bool {
+    v.resize(len, 0).is_ok() && has(v, items)
+}
+
 #[test]
 fn test_resize(rt: HostRuntime) {
     let mut v = non_empty_vec!(rt.alloc() => 1, 2).expect(&rt, "memory");
-    for (len, items) in [
-        (NZUsize!(5), [1, 2, 0, 0, 0].as_slice()),
-        (NZUsize!(2), &[1, 2]),
-        (NZUsize!(1), &[1]),
-    ] {
-        assert!(rt; v.resize(len, 0).is_ok() && has(&v, items));
-    }
+    assert!(rt;
+        is_resized(&mut v, NZUsize!(5), &[1, 2, 0, 0, 0])
+            && is_resized(&mut v, NZUsize!(2), &[1, 2])
+            && is_resized(&mut v, NZUsize!(1), &[1])
+    );
 }
 
 #[test]
@@ -373,33 +401,51 @@ fn test_iterators(rt: HostRuntime) {
     assert!(rt; has(&v, &[12, 14, 16]) && v.into_iter().eq([12, 14, 16]));
 }
 
+/// Whether the list of 1, 2 and 3 has its bytes, and what follows them is left.
+fn is_coded(
+    alloc: Global,
+    list: &NonEmptyVec<u8, Global>,
+    cfg: &(RangeCfg<NonZeroUsize>, ()),
+) -> bool {
+    is_written_as(alloc, list, b"\x03\x01\x02\x03")
+        && is_read_as(alloc, b"\x03\x01\x02\x03\xff", cfg, list, 4)
+}
+
 #[test]
 fn test_codec_roundtrip(rt: HostRuntime) {
     let alloc = rt.alloc();
     let cfg = (RangeCfg::from(NZUsize!(1)..=NZUsize!(10)), ());
     non_empty_fault_law::<u8, _>(alloc, cfg.0, &());
     let list = one_two_three(&rt, alloc);
-    assert!(rt;
-        is_written_as(alloc, &list, b"\x03\x01\x02\x03")
-            && is_read_as(alloc, b"\x03\x01\x02\x03\xff", &cfg, &list, 4)
-            && list.is_writable()
-    );
+    assert!(rt; is_coded(alloc, &list, &cfg) && list.is_writable());
     let (again, left) = round_trip(alloc, &list, b"\xff\xff", &cfg).expect(&rt, "a value");
     assert!(rt; again == list && left == 2);
+}
+
+/// Whether the empty list is written as its length.
+fn is_empty_written(alloc: Global) -> bool {
+    let empty: Vec<u8> = Vec::new(alloc);
+    is_written_as(alloc, &empty, b"\x00")
+}
+
+/// Whether the bytes of the empty list are refused with this fault under the range.
+fn is_empty_refused(alloc: Global, range: RangeCfg<NonZeroUsize>, fault: CodecError) -> bool {
+    refuses::<NonEmptyVec<u8, _>, _>(alloc, &(range, ()), &[(b"\x00", fault)])
 }
 
 #[test]
 fn test_codec_rejects_empty(rt: HostRuntime) {
     let (alloc, ten) = (rt.alloc(), NZUsize!(10));
-    let empty: Vec<u8> = Vec::new(alloc);
-    let bytes = b"\x00".as_slice();
-    assert!(rt; is_written_as(alloc, &empty, bytes));
-    for range in [RangeCfg::from(..), RangeCfg::from(..ten)] {
-        assert!(rt; refuses::<NonEmptyVec<u8, _>, _>(alloc, &(range, ()), &[(bytes, EMPTY)]));
-    }
-    let from_one = (RangeCfg::from(NZUsize!(1)..ten), ());
-    let rows = [(bytes, CodecError::InvalidLength(0))];
-    assert!(rt; refuses::<NonEmptyVec<u8, _>, _>(alloc, &from_one, &rows));
+    assert!(rt;
+        is_empty_written(alloc)
+            && is_empty_refused(alloc, RangeCfg::from(..), EMPTY)
+            && is_empty_refused(alloc, RangeCfg::from(..ten), EMPTY)
+            && is_empty_refused(
+                alloc,
+                RangeCfg::from(NZUsize!(1)..ten),
+                CodecError::InvalidLength(0),
+            )
+    );
 }
 
 #[test]

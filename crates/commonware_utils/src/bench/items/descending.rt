@@ -109,6 +109,12 @@ impl Canonical for Descending {
     ghost canonical = { canonical_on (λ d. d.0) byte IsByte ◌==◌ byte_canonical };
 }
 
+/// Inputs that are no set of falling bytes.
+static NO_SETS: [(&[u8], Error); 2] = [
+    (b"\x03\x01\x02\x03", UNSORTED),
+    (b"\x02\x02\x02", UNSORTED),
+];
+
 /// The set of these bytes.
 fn set_of(rt: &impl Abort, alloc: Global, bytes: &[u8]) -> Set<Descending, Global> {
     let mut items = Vec::new(alloc);
@@ -156,29 +162,48 @@ fn only_falling_bytes_are_read(rt: HostRuntime) {
     let any = (RangeCfg::from(..), ());
     let set = set_of(&rt, alloc, &[1, 2, 3]);
     let bytes = b"\x03\x03\x02\x01";
-    let rows = [
-        (b"\x03\x01\x02\x03".as_slice(), UNSORTED),
-        (b"\x02\x02\x02", UNSORTED),
-    ];
     assert!(rt;
         is_coded_as(alloc, &set, &any, bytes)
-            && refuses::<Set<Descending, _>, _>(alloc, &any, &rows)
+            && refuses::<Set<Descending, _>, _>(alloc, &any, &NO_SETS)
     );
+}
+
+/// Whether the map of 1 and 2 has the value of 2 first, and comes back.
+fn is_map(alloc: Global, map: &Map<Descending, u8, Global>) -> bool {
+    map.values() == [20, 10].as_slice() && comes_back(alloc, map, &(RangeCfg::from(..), (), ()))
+}
+
+/// Whether 2 is the key of 20, and the bimap comes back.
+fn is_bimap(alloc: Global, bimap: &BiMap<Descending, u8, Global>) -> bool {
+    bimap.get_key(&20) == Some(&Descending(2))
+        && comes_back(alloc, bimap, &(RangeCfg::from(..), (), ()))
 }
 
 #[test]
 fn maps_with_falling_keys_come_back(rt: HostRuntime) {
     let alloc = rt.alloc();
-    let any = (RangeCfg::from(..), (), ());
     let pairs = [(Descending(1), 10u8), (Descending(2), 20)];
-    let map = Map::try_from_iter(alloc, pairs).expect(&rt, "memory");
-    let bimap = BiMap::try_from_iter(alloc, pairs).expect(&rt, "memory");
     assert!(rt;
-        map.values() == [20, 10].as_slice()
-            && comes_back(alloc, &map, &any)
-            && bimap.get_key(&20) == Some(&Descending(2))
-            && comes_back(alloc, &bimap, &any)
+        is_map(
+            alloc,
+            &Map::try_from_iter(alloc, pairs).expect(&rt, "memory")
+        )
     );
+    assert!(rt;
+        is_bimap(
+            alloc,
+            &BiMap::try_from_iter(alloc, pairs).expect(&rt, "memory")
+        )
+    );
+}
+
+/// The set of the sets of these bytes.
+fn nest_of(rt: &impl Abort, alloc: Global, rows: &[&[u8]]) -> Set<Set<Descending, Global>, Global> {
+    let mut sets = Vec::new(alloc);
+    for bytes in rows {
+        sets.push(set_of(rt, alloc, bytes)).expect(rt, "memory");
+    }
+    Set::from_iter_dedup(alloc, sets).expect(rt, "memory")
 }
 
 /// The sets are ordered by their items: the one with the greater byte comes first, and the empty
@@ -187,11 +212,7 @@ fn maps_with_falling_keys_come_back(rt: HostRuntime) {
 fn sets_of_falling_sets_are_written_and_read(rt: HostRuntime) {
     let alloc = rt.alloc();
     let any = RangeCfg::from(..);
-    let mut sets = Vec::new(alloc);
-    for bytes in [[1].as_slice(), &[1, 2], &[], &[2]] {
-        sets.push(set_of(&rt, alloc, bytes)).expect(&rt, "memory");
-    }
-    let nest = Set::from_iter_dedup(alloc, sets).expect(&rt, "memory");
+    let nest = nest_of(&rt, alloc, &[&[1], &[1, 2], &[], &[2]]);
     let bytes = b"\x04\x00\x01\x02\x02\x02\x01\x01\x01";
     assert!(rt; is_coded_as(alloc, &nest, &(any, (any, ())), bytes));
 }

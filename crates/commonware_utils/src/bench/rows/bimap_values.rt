@@ -22,36 +22,51 @@ impl Hash for Alike {
     fn hash<H: Hasher>(&self, _state: &mut H) {}
 }
 
+/// Whether the bimap of the pairs has this many, and this one among them.
+fn has_pair<V: Copy + Eq + Hash>(
+    rt: &impl Abort,
+    pairs: Vec<(u32, V), Global>,
+    len: usize,
+    pair: (u32, V),
+) -> bool {
+    let bimap = BiMap::try_from_iter(*pairs.allocator(), pairs).expect(rt, "memory");
+    bimap.len() == len && bimap.get_key(&pair.1) == Some(&pair.0)
+}
+
+/// Whether the values are told apart: the pairs make a bimap of this many, with this one, and none
+/// once the value of the other comes again.
+fn are_told_apart<V: Copy + Eq + Hash>(
+    rt: &impl Abort,
+    mut pairs: Vec<(u32, V), Global>,
+    len: usize,
+    pair: (u32, V),
+    repeat: (u32, V),
+) -> bool {
+    if !has_pair(rt, pairs.clone().expect(rt, "memory"), len, pair) {
+        return false;
+    }
+    pairs.push(repeat).expect(rt, "memory");
+    let repeated = BiMap::try_from_iter(*pairs.allocator(), pairs);
+    repeated.err() == Some(Error::DuplicateValue)
+}
+
 #[test]
 fn a_thousand_values_are_told_apart(rt: HostRuntime) {
-    let alloc = rt.alloc();
-    let mut pairs: Vec<(u32, u32), _> = Vec::new(alloc);
+    let mut pairs: Vec<(u32, u32), _> = Vec::new(rt.alloc());
     for key in 0..1000u32 {
         pairs.push((key, 999 - key)).expect(&rt, "memory");
     }
-    let bimap = BiMap::try_from_iter(alloc, pairs.clone().expect(&rt, "memory")).expect(
-        &rt, "memory",
-    );
-    assert!(rt; bimap.len() == 1000 && bimap.get_key(&0) == Some(&999));
-    pairs.push((1000, 0)).expect(&rt, "memory");
-    let repeated = BiMap::try_from_iter(alloc, pairs);
-    assert!(rt; repeated.err() == Some(Error::DuplicateValue));
+    assert!(rt; are_told_apart(&rt, pairs, 1000, (999, 0), (1000, 0)));
 }
 
 #[test]
 fn values_of_one_hash_are_told_apart(rt: HostRuntime) {
-    let alloc = rt.alloc();
-    let mut pairs: Vec<(u32, Alike), _> = Vec::new(alloc);
+    let mut pairs: Vec<(u32, Alike), _> = Vec::new(rt.alloc());
     for number in 0..100u32 {
         pairs.push((number, Alike { number })).expect(&rt, "memory");
     }
-    let bimap = BiMap::try_from_iter(alloc, pairs.clone().expect(&rt, "memory")).expect(
-        &rt, "memory",
-    );
-    assert!(rt; bimap.len() == 100 && bimap.get_key(&Alike { number: 99 }) == Some(&99));
-    pairs.push((100, Alike { number: 0 })).expect(&rt, "memory");
-    let repeated = BiMap::try_from_iter(alloc, pairs);
-    assert!(rt; repeated.err() == Some(Error::DuplicateValue));
+    let last = (99, Alike { number: 99 });
+    assert!(rt; are_told_apart(&rt, pairs, 100, last, (100, Alike { number: 0 })));
 }
 
 /// Whether the set of these items on this allocator has them.

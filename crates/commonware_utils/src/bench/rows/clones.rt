@@ -2,10 +2,13 @@
 ghost use Rattle.std.specs.Prelude.{◌≡◌, true, IfOk};
 
 use crate::bench::is_debugged_as;
+use crate::bench::rows::sets::{set_of, with_empty};
 use crate::codec::UInt;
 use crate::ordered::{BiMap, Map, Set};
+use crate::vec::NonEmptyVec;
 use crate::{EqClone, Participant, TryFromIterator, non_empty_vec};
 use std::alloc::{AllocError, Allocator, Global};
+use std::process::Abort;
 
 /// Whether a clone equals its source, which the law says of every type that has it.
 fn clones_equal<T: EqClone>(value: &T) -> Result<bool, AllocError>
@@ -18,6 +21,11 @@ fn clones_equal<T: EqClone>(value: &T) -> Result<bool, AllocError>
 /// Whether there is memory for a clone of the value, which equals it.
 fn is_cloned<T: EqClone>(value: &T) -> bool {
     clones_equal(value) == Ok(true)
+}
+
+/// The same of a value that is given, and dropped.
+fn is_taken_and_cloned<T: EqClone + Drop>(value: T) -> bool {
+    is_cloned(&value)
 }
 
 /// Whether numbers of each type have equal clones.
@@ -44,29 +52,51 @@ fn numbers_and_texts_equal_their_clones(rt: HostRuntime) {
     assert!(rt; numbers_are_cloned() && is_cloned(&'c') && is_cloned(&"text") && is_cloned(&text));
 }
 
+/// {1: 'a', 2: 'b'}
+fn letters(rt: &impl Abort, alloc: Global) -> BiMap<u8, char, Global> {
+    BiMap::try_from_iter(alloc, [(2u8, 'b'), (1, 'a')]).expect(rt, "memory")
+}
+
 #[test]
 fn collections_equal_their_clones(rt: HostRuntime) {
     let alloc = rt.alloc();
-    assert!(rt; is_cloned(&vec![in alloc; 3u8, 1, 2].expect(&rt, "memory")));
-    let two = Set::from_iter_dedup(alloc, [2u8, 1]).expect(&rt, "memory");
-    let nest = Set::from_iter_dedup(alloc, [two, Set::empty(alloc)]).expect(&rt, "memory");
-    assert!(rt; is_cloned(&nest));
-    let pairs = BiMap::try_from_iter(alloc, [(2u8, 'b'), (1, 'a')]).expect(&rt, "memory");
-    assert!(rt; is_cloned(&pairs));
+    assert!(rt;
+        is_taken_and_cloned(vec![in alloc; 3u8, 1, 2].expect(&rt, "memory"))
+            && is_taken_and_cloned(with_empty(&rt, alloc, set_of(&rt, alloc, &[2, 1])))
+            && is_taken_and_cloned(letters(&rt, alloc))
+    );
+}
+
+/// A list that is never empty.
+type List = NonEmptyVec<u8, Global>;
+
+/// [1, 2] and [1]
+fn lists(rt: &impl Abort, alloc: Global) -> [List; 2] {
+    [
+        non_empty_vec!(alloc => 1u8, 2).expect(rt, "memory"),
+        non_empty_vec!(alloc => 1).expect(rt, "memory"),
+    ]
+}
+
+/// Whether the set has both lists, the short one first.
+fn has_both(set: &Set<List, Global>, long: &List, short: &List) -> bool {
+    set.len() == 2 && set.get(0) == Some(short) && set.get(1) == Some(long)
+}
+
+/// Whether a set has clones of both lists, and it and the long one are cloned.
+fn are_cloned_as_items(rt: &impl Abort, alloc: Global, lists: &[List; 2]) -> bool {
+    let [long, short] = lists;
+    let set = Set::try_from_slice(alloc, lists).expect(rt, "memory");
+    has_both(&set, long, short) && is_cloned(long) && is_cloned(&set)
 }
 
 #[test]
 fn lists_that_are_never_empty_are_cloned_as_items(rt: HostRuntime) {
     let alloc = rt.alloc();
-    let lists = [
-        non_empty_vec!(alloc => 1u8, 2).expect(&rt, "memory"),
-        non_empty_vec!(alloc => 1).expect(&rt, "memory"),
-    ];
-    let [long, short] = &lists;
-    let set = Set::try_from_slice(alloc, &lists).expect(&rt, "memory");
-    assert!(rt; set.len() == 2 && set.get(0) == Some(short) && set.get(1) == Some(long));
+    let lists = lists(&rt, alloc);
     assert!(rt;
-        is_cloned(long) && is_cloned(&set) && is_debugged_as(alloc, long, "NonEmptyVec([1, 2])")
+        are_cloned_as_items(&rt, alloc, &lists)
+            && is_debugged_as(alloc, &lists[0], "NonEmptyVec([1, 2])")
     );
 }
 

@@ -7,7 +7,7 @@ use crate::ordered::Set;
 use std::alloc::Global;
 
 /// The bytes, and the items and the bytes left, or the error.
-const TEXTS: [(&[u8], Result<(&[u8], &[u8]), Error>); 5] = [
+static TEXTS: [(&[u8], Result<(&[u8], &[u8]), Error>); 5] = [
     (b"\x02\x05\x09\xff\xff", Ok((&[5, 9], b"\xff\xff"))),
     (b"\x00", Ok((&[], b""))),
     (b"\x04\x01\x03\x02\x04", Err(UNSORTED)),
@@ -15,23 +15,29 @@ const TEXTS: [(&[u8], Result<(&[u8], &[u8]), Error>); 5] = [
     (b"\x0b", Err(Error::InvalidLength(11))),
 ];
 
+/// Whether the answer has the items and the bytes left that are wanted, or the error.
+fn is_answer(
+    answer: &Result<(Set<u8, Global>, &[u8]), Error>,
+    wanted: &Result<(&[u8], &[u8]), Error>,
+) -> bool {
+    match (answer, wanted) {
+        (Ok((set, rest)), Ok((items, left))) => set.as_slice() == *items && *rest == *left,
+        (Err(error), Err(fault)) => *error == *fault,
+        _ => false,
+    }
+}
+
 #[test]
 fn a_set_is_decoded_and_the_rest_is_left(rt: HostRuntime) {
     let limits = (RangeCfg::from(0..=10), ());
-    for (text, wanted) in TEXTS {
-        let answer: Result<(Set<u8, Global>, &[u8]), Error> = decode(rt.alloc(), text, &limits);
-        match (answer, wanted) {
-            (Ok((set, rest)), Ok((items, left))) => {
-                assert!(rt; set.as_slice() == items && rest == left, "{text:?}")
-            }
-            (Err(error), Err(fault)) => assert!(rt; error == fault, "{text:?}"),
-            _ => assert!(rt; false, "{text:?}"),
-        }
+    for (text, wanted) in &TEXTS {
+        let answer = is_answer(&decode(rt.alloc(), text, &limits), wanted);
+        assert!(rt; answer, "{text:?}");
     }
 }
 
 /// A number of participants, and the faults and the quorum of each model.
-const NUMBERS: [(u32, (u32, u32), (u32, u32)); 4] = [
+static NUMBERS: [(u32, (u32, u32), (u32, u32)); 4] = [
     (1, (0, 1), (0, 1)),
     (6, (1, 5), (1, 5)),
     (21, (6, 15), (4, 17)),
@@ -44,7 +50,8 @@ const NUMBERS: [(u32, (u32, u32), (u32, u32)); 4] = [
 
 #[test]
 fn both_models_return_their_numbers(rt: HostRuntime) {
-    for (n, thirds, fifths) in NUMBERS {
+    for row in &NUMBERS {
+        let (n, thirds, fifths) = *row;
         let (n3f1, n5f1) = fault_numbers(n);
         assert!(rt; (n3f1.max_faults, n3f1.quorum) == thirds, "{n}");
         assert!(rt;

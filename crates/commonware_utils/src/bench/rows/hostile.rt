@@ -9,44 +9,44 @@ use crate::vec::NonEmptyVec;
 
 /// An input that is no list of lists. Over 100 GB would be reserved here, were room made for the
 /// stated length after the first good item.
-const NO_LISTS: [(&[u8], Error); 1] = [(b"\xff\xff\xff\xff\x0f\x00", Error::EndOfBuffer)];
+static NO_LISTS: [(&[u8], Error); 1] = [(b"\xff\xff\xff\xff\x0f\x00", Error::EndOfBuffer)];
 
 /// Inputs that are no list of lists of lists: an innermost list is truncated, or its length is an
 /// overlong varint.
-const NO_DEEP_LISTS: [(&[u8], Error); 2] = [
+static NO_DEEP_LISTS: [(&[u8], Error); 2] = [
     (b"\x01\x01\x02\x07", Error::EndOfBuffer),
     (b"\x01\x01\x82\x00", Error::InvalidVarint),
 ];
 
 /// Inputs that are no set of participants: the indices 128 and 127, and one that is overlong.
-const NO_SETS_OF_PARTICIPANTS: [(&[u8], Error); 2] = [
+static NO_SETS_OF_PARTICIPANTS: [(&[u8], Error); 2] = [
     (b"\x02\x80\x01\x7f", UNSORTED),
     (b"\x02\x01\x81\x00", Error::InvalidVarint),
 ];
 
 /// An input that is no set of words: the second is truncated.
-const NO_SETS_OF_WORDS: [(&[u8], Error); 1] = [(
+static NO_SETS_OF_WORDS: [(&[u8], Error); 1] = [(
     b"\x02\x00\x00\x00\x05\x00\x00\x00",
     Error::EndOfBuffer,
 )];
 
 /// Inputs that are no set of sets: an inner set that isn't sorted, an outer one, and an inner one
 /// before a truncation.
-const NO_SETS_OF_SETS: [(&[u8], Error); 3] = [
+static NO_SETS_OF_SETS: [(&[u8], Error); 3] = [
     (b"\x01\x02\x02\x01", UNSORTED),
     (b"\x02\x01\x05\x00", UNSORTED),
     (b"\x02\x02\x07\x07\x80", UNSORTED),
 ];
 
 /// An input that is no set of sets of at most one item.
-const NO_SETS_OF_SHORT_SETS: [(&[u8], Error); 1] = [(b"\x02\x00\x02", Error::InvalidLength(2))];
+static NO_SETS_OF_SHORT_SETS: [(&[u8], Error); 1] = [(b"\x02\x00\x02", Error::InvalidLength(2))];
 
 /// An input that is no map to sets: the set beside the one key repeats its item.
-const NO_MAPS_TO_SETS: [(&[u8], Error); 1] = [(b"\x01\x05\x01\x02\x03\x03", UNSORTED)];
+static NO_MAPS_TO_SETS: [(&[u8], Error); 1] = [(b"\x01\x05\x01\x02\x03\x03", UNSORTED)];
 
 /// Inputs that are no list of non-empty lists: an inner list is empty, alone or before a
 /// truncation, or is truncated.
-const NO_FULL_LISTS: [(&[u8], Error); 3] = [
+static NO_FULL_LISTS: [(&[u8], Error); 3] = [
     (b"\x02\x01\x07\x00", EMPTY),
     (b"\x02\x00\x80", EMPTY),
     (b"\x02\x01\x07\x80", Error::EndOfBuffer),

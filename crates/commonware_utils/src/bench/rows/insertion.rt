@@ -3,6 +3,7 @@ use crate::TryFromIterator;
 use crate::bench::items::labelled::{Labelled, item};
 use crate::ordered::{Error, Map, Set};
 use std::alloc::{AllocError, Global};
+use std::process::Abort;
 
 /// Numbers, which are labelled by the letters in turn, and what stays of them, in order.
 type Row = (&'static [u8], &'static [(u8, char)]);
@@ -10,7 +11,7 @@ type Row = (&'static [u8], &'static [(u8, char)]);
 const LETTERS: &str = "abcdefghi";
 
 /// None, one, and numbers that increase, decrease, or are equal to the one before.
-const STRAIGHT: [Row; 7] = [
+static STRAIGHT: [Row; 7] = [
     (&[], &[]),
     (&[7], &[(7, 'a')]),
     (&[1, 3, 5, 9], &[(1, 'a'), (3, 'b'), (5, 'c'), (9, 'd')]),
@@ -28,7 +29,7 @@ const STRAIGHT: [Row; 7] = [
 
 /// Numbers that increase, a lesser one that is new, and others: all new, or equal to one before,
 /// early or late.
-const BROKEN: [Row; 9] = [
+static BROKEN: [Row; 9] = [
     (
         &[2, 4, 6, 3, 7, 9],
         &[(2, 'a'), (3, 'd'), (4, 'b'), (6, 'c'), (7, 'e'), (9, 'f')],
@@ -69,7 +70,7 @@ const BROKEN: [Row; 9] = [
 
 /// Numbers that increase and a lesser one that came before, and two rows that increase, one after
 /// the other.
-const AGAIN: [Row; 5] = [
+static AGAIN: [Row; 5] = [
     (&[2, 1, 2], &[(1, 'b'), (2, 'a')]),
     (&[2, 4, 6, 2, 8], &[(2, 'a'), (4, 'b'), (6, 'c'), (8, 'e')]),
     (&[2, 4, 6, 4, 5], &[(2, 'a'), (4, 'b'), (5, 'e'), (6, 'c')]),
@@ -118,37 +119,51 @@ fn labelled(alloc: Global, pairs: &[(u8, char)]) -> Result<Vec<Labelled>, AllocE
 }
 
 /// Whether of equal items the first one stays, or, where none may be equal, they are refused.
-fn makes_set(alloc: Global, items: &[Labelled], kept: &[(u8, char)]) -> Result<bool, AllocError> {
-    let set = Set::from_iter_dedup(alloc, items.iter().copied())?;
-    let answered = match Set::try_from_iter(alloc, items.iter().copied()) {
+fn makes_set(rt: &impl Abort, alloc: Global, items: &[Labelled], kept: &[(u8, char)]) -> bool {
+    let set = Set::from_iter_dedup(alloc, items.iter().copied());
+    if !is_set(&set.expect(rt, "memory"), kept) {
+        return false;
+    }
+    match Set::try_from_iter(alloc, items.iter().copied()) {
         Ok(whole) => items.len() == kept.len() && is_set(&whole, kept),
         Err(error) => error == Error::DuplicateKey && items.len() > kept.len(),
-    };
-    Ok(answered && is_set(&set, kept))
+    }
 }
 
 /// The same of pairs by their keys.
-fn makes_map(alloc: Global, pairs: &[(u8, char)], kept: &[(u8, char)]) -> Result<bool, AllocError> {
-    let map = Map::from_iter_dedup(alloc, pairs.iter().copied())?;
-    let answered = match Map::try_from_iter(alloc, pairs.iter().copied()) {
+fn makes_map(rt: &impl Abort, alloc: Global, pairs: &[(u8, char)], kept: &[(u8, char)]) -> bool {
+    let map = Map::from_iter_dedup(alloc, pairs.iter().copied());
+    if !is_map(&map.expect(rt, "memory"), kept) {
+        return false;
+    }
+    match Map::try_from_iter(alloc, pairs.iter().copied()) {
         Ok(whole) => pairs.len() == kept.len() && is_map(&whole, kept),
         Err(error) => error == Error::DuplicateKey && pairs.len() > kept.len(),
-    };
-    Ok(answered && is_map(&map, kept))
+    }
+}
+
+/// Whether a set and a map are made of the pairs as is said.
+fn makes_both(rt: &impl Abort, alloc: Global, pairs: &[(u8, char)], kept: &[(u8, char)]) -> bool {
+    let items = labelled(alloc, pairs).expect(rt, "memory");
+    makes_set(rt, alloc, &items, kept) && makes_map(rt, alloc, pairs, kept)
 }
 
 /// Whether a set and a map are made of the row as it says.
-fn is_built(alloc: Global, row: &Row) -> Result<bool, AllocError> {
+fn is_built(rt: &impl Abort, alloc: Global, row: &Row) -> bool {
     let (numbers, kept) = *row;
-    let pairs: Vec<(u8, char)> = numbers.iter().copied().zip(LETTERS.chars()).collect(alloc)?;
-    let items = labelled(alloc, &pairs)?;
-    Ok(makes_set(alloc, &items, kept)? && makes_map(alloc, &pairs, kept)?)
+    let pairs: Vec<(u8, char)> = numbers
+        .iter()
+        .copied()
+        .zip(LETTERS.chars())
+        .collect(alloc)
+        .expect(rt, "memory");
+    makes_both(rt, alloc, &pairs, kept)
 }
 
 #[test]
 fn rows_are_built_or_refused(rt: HostRuntime) {
     for (at, row) in STRAIGHT.iter().chain(&BROKEN).chain(&AGAIN).enumerate() {
-        assert!(rt; is_built(rt.alloc(), row) == Ok(true), "{at}");
+        assert!(rt; is_built(&rt, rt.alloc(), row), "{at}");
     }
 }
 
@@ -223,12 +238,8 @@ fn labels_of_digits(alloc: Global, end: u8) -> Result<Vec<(u8, char)>, AllocErro
 #[test]
 fn the_first_label_of_a_number_stays(rt: HostRuntime) {
     let pairs = labels_of_digits(rt.alloc(), 100).expect(&rt, "memory");
-    let items = labelled(rt.alloc(), &pairs).expect(&rt, "memory");
     let kept = labels_of_digits(rt.alloc(), 10).expect(&rt, "memory");
-    assert!(rt;
-        makes_set(rt.alloc(), &items, &kept) == Ok(true)
-            && makes_map(rt.alloc(), &pairs, &kept) == Ok(true)
-    );
+    assert!(rt; makes_both(&rt, rt.alloc(), &pairs, &kept));
 }
 
 /// The first numbers with each of the ten last digits are those below ten.

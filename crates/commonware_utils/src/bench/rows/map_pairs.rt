@@ -55,17 +55,19 @@ pub(in crate::bench) fn gives(
     true
 }
 
+/// Steps over {1: 10, 2: 20}: whether from the back, the pair that comes, and how many are left.
+static GIVEN: [(bool, Option<(u8, u8)>, usize); 5] = [
+    (true, Some((2, 20)), 1),
+    (false, Some((1, 10)), 0),
+    (false, None, 0),
+    (true, None, 0),
+    (false, None, 0),
+];
+
 #[test]
 fn pairs_are_given_from_both_ends(rt: HostRuntime) {
     let two = Map::try_from_array(rt.alloc(), [(1u8, 10u8), (2, 20)]).expect(&rt, "memory");
-    let steps = [
-        (true, Some((2, 20)), 1),
-        (false, Some((1, 10)), 0),
-        (false, None, 0),
-        (true, None, 0),
-        (false, None, 0),
-    ];
-    assert!(rt; gives(two.into_iter(), 2, &steps));
+    assert!(rt; gives(two.into_iter(), 2, &GIVEN));
     let three = tens(&rt, rt.alloc());
     assert!(rt; gives(three.into_iter(), 3, &[(false, Some((1, 10)), 2)]));
 }
@@ -118,21 +120,24 @@ fn adds_keys(map: &mut Map<u8, u8, Global>) -> bool {
         && pairs.next_back().is_none()
 }
 
+/// Steps over {1: 10, 2: 20, 3: 30}: whether from the back, the pair that comes, and how many are
+/// left.
+static BORROWED: [(bool, Option<(&u8, &u8)>, usize); 7] = [
+    (false, Some((&1, &10)), 2),
+    (true, Some((&3, &30)), 1),
+    (true, Some((&2, &20)), 0),
+    (false, None, 0),
+    (true, None, 0),
+    (false, None, 0),
+    (true, None, 0),
+];
+
 /// The lines on maps; those on bimaps are with the bimaps.
 #[test]
 fn test_pair_iterators(rt: HostRuntime) {
     let mut map = tens(&rt, rt.alloc());
-    let steps = [
-        (false, Some((&1, &10)), 2),
-        (true, Some((&3, &30)), 1),
-        (true, Some((&2, &20)), 0),
-        (false, None, 0),
-        (true, None, 0),
-        (false, None, 0),
-        (true, None, 0),
-    ];
     assert!(rt;
-        borrows(map.iter_pairs(), 3, &steps)
+        borrows(map.iter_pairs(), 3, &BORROWED)
             && adds_keys(&mut map)
             && map.values() == [11, 22, 33].as_slice()
     );

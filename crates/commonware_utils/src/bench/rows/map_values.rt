@@ -12,27 +12,35 @@ fn are_values<E: Drop>(answer: Result<Map<u8, u8, Global>, MapError<E>>, values:
     }
 }
 
-#[test]
-fn a_counter_runs_along_the_keys(rt: HostRuntime) {
-    let map = tens(&rt, rt.alloc());
+/// Whether a counter that borrows the values of {1: 10, 2: 20, 3: 30} adds them up along the keys.
+fn counts_along(rt: &impl Abort, map: &Map<u8, u8, Global>) -> bool {
     let mut counter = 0u8;
     let sums = map
         .map_values(|_, value| {
             counter = counter.wrapping_add(*value);
             counter
         })
-        .expect(&rt, "memory");
-    assert!(rt;
-        sums.values() == [10, 30, 60].as_slice() && sums.keys() == map.keys() && counter == 60
-    );
+        .expect(rt, "memory");
+    sums.values() == [10, 30, 60].as_slice() && sums.keys() == map.keys() && counter == 60
+}
+
+/// The same of a counter that takes the values.
+fn takes_along(rt: &impl Abort, map: Map<u8, u8, Global>) -> bool {
     let mut taken = 0u8;
     let sums = map
         .map_values_into(|_, value| {
             taken = taken.wrapping_add(value);
             taken
         })
-        .expect(&rt, "memory");
-    assert!(rt; sums.values() == [10, 30, 60].as_slice() && taken == 60);
+        .expect(rt, "memory");
+    sums.values() == [10, 30, 60].as_slice() && taken == 60
+}
+
+#[test]
+fn a_counter_runs_along_the_keys(rt: HostRuntime) {
+    let map = tens(&rt, rt.alloc());
+    assert!(rt; counts_along(&rt, &map));
+    assert!(rt; takes_along(&rt, map));
 }
 
 #[test]
@@ -69,15 +77,22 @@ fn nothing_is_called_after_the_first_error(rt: HostRuntime) {
     assert!(rt; failed.err() == Some(MapError::Closure(5)) && calls == 1);
 }
 
+/// {1: "one", 4: "four"}
+fn texts(rt: &impl Abort, alloc: Global) -> Map<u8, &'static str, Global> {
+    let keys = Set::from_iter_dedup(alloc, [4u8, 1]).expect(rt, "memory");
+    let values = vec![in alloc; "one", "four"].expect(rt, "memory");
+    Map::from_parts(keys, values).expect(rt, "uneven")
+}
+
+/// Whether the texts of {1: "one", 4: "four"} have their lengths beside the same keys.
+fn has_lengths(rt: &impl Abort, map: &Map<u8, &'static str, Global>) -> bool {
+    let lengths = map.map_values(|_, text| text.len()).expect(rt, "memory");
+    lengths.keys() == map.keys() && lengths.values() == [3, 4].as_slice()
+}
+
 #[test]
 fn texts_are_mapped_to_their_lengths(rt: HostRuntime) {
-    let alloc = rt.alloc();
-    let keys = Set::from_iter_dedup(alloc, [4u8, 1]).expect(&rt, "memory");
-    let map = Map::from_parts(keys, vec![in alloc; "one", "four"].expect(&rt, "memory")).expect(
-        &rt, "uneven",
-    );
-    let lengths = map.map_values(|_, text| text.len()).expect(&rt, "memory");
-    assert!(rt; lengths.keys() == map.keys() && lengths.values() == [3, 4].as_slice());
+    assert!(rt; has_lengths(&rt, &texts(&rt, rt.alloc())));
 }
 
 /// A value that can't be cloned, compared or hashed.
@@ -88,22 +103,39 @@ struct Value(u8);
 #[derive(PartialEq, Eq, PartialOrd, Ord, Drop)]
 struct Key(u8);
 
+/// {1: 10, 2: 20, 3: 30}, with values that can't be cloned.
+fn valued(rt: &impl Abort, alloc: Global) -> Map<u8, Value, Global> {
+    let keys = Set::from_iter_dedup(alloc, [3u8, 1, 2]).expect(rt, "memory");
+    let values = vec![in alloc; Value(10), Value(20), Value(30)].expect(rt, "memory");
+    Map::from_parts(keys, values).expect(rt, "uneven")
+}
+
+/// What is borrowed of {1: 10, 2: 20, 3: 30}.
+static BORROWED: [(&u8, &u8); 3] = [(&1, &10), (&2, &20), (&3, &30)];
+
+/// Whether values that borrow are beside these keys.
+fn are_borrowed(mapped: Map<u8, (&u8, &u8), Global>, keys: &Set<u8, Global>) -> bool {
+    mapped.keys() == keys && mapped.values() == BORROWED.as_slice()
+}
+
+/// Whether values that borrow are beside the keys that they were beside.
+fn borrows_values(rt: &impl Abort, map: &Map<u8, Value, Global>) -> bool {
+    let mapped = map.map_values(|key, value| (key, &value.0));
+    are_borrowed(mapped.expect(rt, "memory"), map.keys())
+}
+
+/// The same where the closure may fail.
+fn tries_to_borrow_values(rt: &impl Abort, map: &Map<u8, Value, Global>) -> bool {
+    let tried: Result<_, MapError<()>> = map.try_map_values(|key, value| Ok((key, &value.0)));
+    are_borrowed(tried.expect(rt, "memory"), map.keys())
+}
+
 #[test]
 fn test_map_values_borrowed(rt: HostRuntime) {
-    let alloc = rt.alloc();
-    let keys = Set::from_iter_dedup(alloc, [3u8, 1, 2]).expect(&rt, "memory");
-    let values = vec![in alloc; Value(10), Value(20), Value(30)].expect(&rt, "memory");
-    let map = Map::from_parts(keys, values).expect(&rt, "uneven");
-    let expected = [(&1, &10), (&2, &20), (&3, &30)];
-    let mapped = map
-        .map_values(|key, value| (key, &value.0))
-        .expect(&rt, "memory");
-    assert!(rt; mapped.keys() == map.keys() && mapped.values() == expected.as_slice());
-    let tried: Result<_, MapError<()>> = map.try_map_values(|key, value| Ok((key, &value.0)));
-    let tried = tried.expect(&rt, "memory");
+    let map = valued(&rt, rt.alloc());
     assert!(rt;
-        tried.keys() == map.keys()
-            && tried.values() == expected.as_slice()
+        borrows_values(&rt, &map)
+            && tries_to_borrow_values(&rt, &map)
             && matches!(map.get_value(&2), Some(Value(20)))
     );
 }
@@ -121,24 +153,29 @@ fn are_sums(map: &Map<Key, u8, Global>) -> bool {
         && map.values() == [11, 22, 33].as_slice()
 }
 
+/// Whether each key of {1: 10, 2: 20, 3: 30} is visited once, in order, and added to its value, by
+/// a closure that could fail or one that can't.
+fn reuses_keys(rt: &impl Abort, map: Map<Key, Value, Global>, fallible: bool) -> bool {
+    let mut visited = 0u32;
+    let mut transform = |key: &Key, value: Value| {
+        visited = visited.wrapping_mul(10).wrapping_add(u32::from(key.0));
+        key.0.wrapping_add(value.0)
+    };
+    let mapped = if fallible {
+        let tried: Result<_, MapError<()>> = map.try_map_values_into(|key, value| Ok(transform(
+            key, value,
+        )));
+        tried.ok()
+    } else {
+        map.map_values_into(transform).ok()
+    };
+    visited == 123 && are_sums(&mapped.expect(rt, "memory"))
+}
+
 #[test]
 fn test_map_values_into_reuses_keys(rt: HostRuntime) {
     for fallible in [false, true] {
-        let map = owned(&rt, rt.alloc());
-        let mut visited = 0u32;
-        let mut transform = |key: &Key, value: Value| {
-            visited = visited.wrapping_mul(10).wrapping_add(u32::from(key.0));
-            key.0.wrapping_add(value.0)
-        };
-        let mapped = if fallible {
-            let tried: Result<_, MapError<()>> = map.try_map_values_into(|key, value| Ok(transform(
-                key, value,
-            )));
-            tried.ok()
-        } else {
-            map.map_values_into(transform).ok()
-        };
-        assert!(rt; visited == 123 && are_sums(&mapped.expect(&rt, "memory")));
+        assert!(rt; reuses_keys(&rt, owned(&rt, rt.alloc()), fallible));
     }
 }
 

@@ -6,7 +6,7 @@ use std::alloc::Global;
 use std::fmt::Display;
 
 /// Errors of the codec and what they say.
-const OF_TEXTS: [(codec::Error, &str); 5] = [
+static OF_TEXTS: [(codec::Error, &str); 5] = [
     (codec::Error::EndOfBuffer, "end of input"),
     (codec::Error::InvalidVarint, "invalid varint"),
     (codec::Error::InvalidLength(257), "length 257"),
@@ -15,20 +15,20 @@ const OF_TEXTS: [(codec::Error, &str); 5] = [
 ];
 
 /// Errors of sets, maps and bimaps.
-const OF_SETS: [(ordered::Error, &str); 3] = [
+static OF_SETS: [(ordered::Error, &str); 3] = [
     (ordered::Error::DuplicateKey, "duplicate key"),
     (ordered::Error::DuplicateValue, "duplicate value"),
     (ordered::Error::Memory, "out of memory"),
 ];
 
 /// Errors of maps of new values.
-const OF_VALUES: [(MapError<u8>, &str); 2] = [
+static OF_VALUES: [(MapError<u8>, &str); 2] = [
     (MapError::Memory, "out of memory"),
     (MapError::Closure(7), "the closure failed"),
 ];
 
 /// Errors of non-empty lists.
-const OF_LISTS: [(vec::Error, &str); 2] = [
+static OF_LISTS: [(vec::Error, &str); 2] = [
     (
         vec::Error::Empty,
         "cannot create NonEmptyVec from empty collection",

@@ -16,7 +16,7 @@ pub(in crate::bench) const EMPTY: CodecError = CodecError::Invalid(
 );
 
 /// Items of two lists, and the order of the lists.
-const ORDERS: [(&[u8], &[u8], Ordering); 4] = [
+static ORDERS: [(&[u8], &[u8], Ordering); 4] = [
     (&[1], &[1, 1], Ordering::Less),
     (&[1, 1], &[2], Ordering::Less),
     (&[2], &[1, 1], Ordering::Greater),
@@ -69,23 +69,32 @@ fn queues_are_cloned_and_shown(rt: HostRuntime) {
 #[derive(Clone, Drop)]
 struct Token(u8);
 
+/// Whether the numbers of the tokens are these.
+fn have_numbers(rt: &impl Abort, tokens: &NonEmptyVec<Token, Global>, expected: &[u8]) -> bool {
+    let numbers = tokens.map(|token| token.0).expect(rt, "memory");
+    numbers.as_slice() == expected
+}
+
+/// Whether a clone of the tokens gives its last one, 7, and three are left.
+fn are_cloned(rt: &impl Abort, tokens: &NonEmptyVec<Token, Global>) -> bool {
+    let mut clone = tokens.clone().expect(rt, "memory");
+    matches!(clone.pop(), Some(Token(7))) && clone.len().get() == 3
+}
+
 #[test]
 fn items_need_no_more_than_clones(rt: HostRuntime) {
-    let alloc = rt.alloc();
-    let mut tokens = NonEmptyVec::try_from_array(alloc, [Token(1), Token(2)]).expect(&rt, "memory");
+    let tokens = NonEmptyVec::try_from_array(rt.alloc(), [Token(1), Token(2)]);
+    let mut tokens = tokens.expect(&rt, "memory");
     tokens.resize(NZUsize!(4), Token(7)).expect(&rt, "memory");
-    let numbers = tokens.map(|token| token.0).expect(&rt, "memory");
-    assert!(rt; numbers.as_slice() == [1, 2, 7, 7].as_slice());
-    let mut clone = tokens.clone().expect(&rt, "memory");
-    assert!(rt; matches!(clone.pop(), Some(Token(7))) && clone.len().get() == 3);
+    assert!(rt; have_numbers(&rt, &tokens, &[1, 2, 7, 7]) && are_cloned(&rt, &tokens));
 }
 
 #[test]
 fn lists_are_ordered_item_by_item(rt: HostRuntime) {
-    for (items, others, order) in ORDERS {
+    for (items, others, order) in &ORDERS {
         let list = list_of(&rt, rt.alloc(), items);
         let other = list_of(&rt, rt.alloc(), others);
-        assert!(rt; are_ordered(&list, &other, order));
+        assert!(rt; are_ordered(&list, &other, *order));
     }
 }
 

@@ -3,7 +3,7 @@ use crate::bench::{is_coded_as, is_read_as, is_written_as, refuses};
 use crate::codec::{EncodeSize, Error, MaxEncodeSize, RangeCfg, UInt, varint_law};
 
 /// Numbers and the bytes that encode them.
-const VARINTS: [(u32, &[u8]); 16] = [
+static VARINTS: [(u32, &[u8]); 16] = [
     (0, b"\x00"),
     (1, b"\x01"),
     (9, b"\x09"),
@@ -23,7 +23,7 @@ const VARINTS: [(u32, &[u8]); 16] = [
 ];
 
 /// Inputs that encode no number.
-const NO_VARINTS: [(&[u8], Error); 8] = [
+static NO_VARINTS: [(&[u8], Error); 8] = [
     (b"", Error::EndOfBuffer),
     (b"\x80", Error::EndOfBuffer),
     (b"\x80\x80\x80\x80", Error::EndOfBuffer),
@@ -38,8 +38,8 @@ const NO_VARINTS: [(&[u8], Error); 8] = [
 fn varints_are_written_and_read_and_overlong_ones_refused(rt: HostRuntime) {
     let alloc = rt.alloc();
     varint_law();
-    for (number, bytes) in VARINTS {
-        assert!(rt; is_coded_as(alloc, &UInt(number), &(), bytes));
+    for (number, bytes) in &VARINTS {
+        assert!(rt; is_coded_as(alloc, &UInt(*number), &(), bytes));
     }
     assert!(rt;
         is_read_as(alloc, b"\x00\x07", &(), &UInt(0), 1)

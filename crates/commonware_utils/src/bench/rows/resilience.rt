@@ -51,7 +51,7 @@ impl Resilience for N4f1 {
 type Rows = [(u32, u32, u32, u32); 4];
 
 /// 2 * 2147483647 + 1 = 4294967295.
-const AT_2: Rows = [
+static AT_2: Rows = [
     (1, 0, 1, 1),
     (2, 0, 2, 1),
     (3, 1, 2, 3),
@@ -59,7 +59,7 @@ const AT_2: Rows = [
 ];
 
 /// 3 * 1431655764 + 1 = 4294967293.
-const AT_3: Rows = [
+static AT_3: Rows = [
     (1, 0, 1, 1),
     (3, 0, 3, 1),
     (4, 1, 3, 3),
@@ -67,7 +67,7 @@ const AT_3: Rows = [
 ];
 
 /// 4 * 1073741823 + 1 = 4294967293.
-const AT_4: Rows = [
+static AT_4: Rows = [
     (1, 0, 1, 1),
     (4, 0, 4, 1),
     (5, 1, 4, 3),
@@ -75,7 +75,7 @@ const AT_4: Rows = [
 ];
 
 /// 5 * 858993458 + 1 = 4294967291.
-const AT_5: Rows = [
+static AT_5: Rows = [
     (1, 0, 1, 1),
     (5, 0, 5, 1),
     (6, 1, 5, 3),
@@ -83,8 +83,9 @@ const AT_5: Rows = [
 ];
 
 /// Whether a model has the numbers of each row, and so has its k alone.
-fn has_the_numbers_of<M: Resilience>(k: u32, rows: Rows) -> bool {
-    for (n, max_faults, quorum, smaller) in rows {
+fn has_the_numbers_of<M: Resilience>(k: u32, rows: &Rows) -> bool {
+    for row in rows {
+        let (n, max_faults, quorum, smaller) = *row;
         if n == 0 || k < 2 || tolerated_faults(k, n) != max_faults {
             return false;
         }
@@ -98,10 +99,10 @@ fn has_the_numbers_of<M: Resilience>(k: u32, rows: Rows) -> bool {
 
 #[test]
 fn models_have_the_numbers_of_their_resilience(rt: HostRuntime) {
-    assert!(rt; has_the_numbers_of::<N2f1>(2, AT_2), "2");
-    assert!(rt; has_the_numbers_of::<N3f1>(3, AT_3), "3");
-    assert!(rt; has_the_numbers_of::<N4f1>(4, AT_4), "4");
-    assert!(rt; has_the_numbers_of::<N5f1>(5, AT_5), "5");
+    assert!(rt; has_the_numbers_of::<N2f1>(2, &AT_2), "2");
+    assert!(rt; has_the_numbers_of::<N3f1>(3, &AT_3), "3");
+    assert!(rt; has_the_numbers_of::<N4f1>(4, &AT_4), "4");
+    assert!(rt; has_the_numbers_of::<N5f1>(5, &AT_5), "5");
 }
 
 #[test]

@@ -4,10 +4,11 @@ ghost use Rattle.commonware_ordered.specs.Whole.{IsWholeSet};
 use crate::ordered::{Error, Set};
 use crate::{TryCollect, TryFromIterator};
 use std::alloc::{Allocator, Global};
+use std::process::Abort;
 
 /// A list with a repeat, a repeat before more items, equal neighbours alone, one item, and a list
 /// without a repeat.
-const LISTS: [(&[u8], Option<&[u8]>); 6] = [
+static LISTS: [(&[u8], Option<&[u8]>); 6] = [
     (&[3, 1, 2, 2], None),
     (&[7, 7, 5, 1, 9, 3], None),
     (&[4, 4], None),
@@ -25,17 +26,20 @@ fn answers(answer: Result<Set<u8, Global>, Error>, items: Option<&[u8]>) -> bool
     }
 }
 
+/// Whether each builder that borrows the list, or takes its items one by one, answers so.
+fn builders_answer(alloc: Global, list: &[u8], items: Option<&[u8]>) -> bool {
+    answers(Set::try_from_iter(alloc, list.iter().copied()), items)
+        && answers(Set::try_from_slice(alloc, list), items)
+        && answers(TryCollect::try_collect(list.iter().copied(), alloc), items)
+}
+
 #[test]
 fn repeats_are_refused_by_each_builder(rt: HostRuntime) {
     let alloc = rt.alloc();
-    for (list, items) in LISTS {
+    for (list, items) in &LISTS {
         let whole = Vec::from_slice(alloc, list).expect(&rt, "memory");
-        assert!(rt;
-            answers(Set::try_from_vec(whole), items)
-                && answers(Set::try_from_iter(alloc, list.iter().copied()), items)
-                && answers(Set::try_from_slice(alloc, list), items)
-                && answers(TryCollect::try_collect(list.iter().copied(), alloc), items)
-        );
+        assert!(rt; answers(Set::try_from_vec(whole), *items));
+        assert!(rt; builders_answer(alloc, list, *items));
     }
 }
 
@@ -54,22 +58,31 @@ fn arrays_are_cloned_into_sets(rt: HostRuntime) {
     );
 }
 
+/// Sets of bytes.
+type Sets = Vec<Set<u8, Global>, Global>;
+
+/// Adds the set of these items at the end.
+fn push_set(rt: &impl Abort, sets: &mut Sets, items: &[u8]) {
+    let set = Set::try_from_slice(*sets.allocator(), items).expect(rt, "memory");
+    sets.push(set).expect(rt, "memory");
+}
+
+/// Whether the set of clones of these sets is {{1}, {1, 2}}.
+fn make_nest(rt: &impl Abort, alloc: Global, sets: &[Set<u8, Global>]) -> bool {
+    let nest = Set::try_from_slice(alloc, sets).expect(rt, "memory");
+    nest.len() == 2
+        && nest[0].as_slice() == [1].as_slice()
+        && nest[1].as_slice() == [1, 2].as_slice()
+}
+
 #[test]
 fn sets_of_sets_are_built(rt: HostRuntime) {
     let alloc = rt.alloc();
     let mut sets = Vec::new(alloc);
-    for items in [[2u8, 1].as_slice(), &[1]] {
-        sets.push(Set::try_from_slice(alloc, items).expect(&rt, "memory"))
-            .expect(&rt, "memory");
-    }
-    let nest = Set::try_from_slice(alloc, sets.as_slice()).expect(&rt, "memory");
-    assert!(rt;
-        nest.len() == 2
-            && nest[0].as_slice() == [1].as_slice()
-            && nest[1].as_slice() == [1, 2].as_slice()
-    );
-    sets.push(Set::try_from_slice(alloc, &[1, 2]).expect(&rt, "memory"))
-        .expect(&rt, "memory");
+    push_set(&rt, &mut sets, &[2, 1]);
+    push_set(&rt, &mut sets, &[1]);
+    assert!(rt; make_nest(&rt, alloc, sets.as_slice()));
+    push_set(&rt, &mut sets, &[1, 2]);
     assert!(rt; Set::try_from_iter(alloc, sets).err() == Some(Error::DuplicateKey));
 }
 

@@ -3,7 +3,7 @@ use crate::Participant;
 use crate::bench::{
     are_ordered, comes_back, is_coded_as, is_read_as, is_written_as, read, refuses,
 };
-use crate::codec::{Error, RangeCfg, Write, round_trip};
+use crate::codec::{Canonical, Error, RangeCfg, Read, Write, round_trip};
 use crate::ordered::{Set, set_fault_law};
 use std::alloc::{AllocError, Allocator, Global};
 use std::cmp::Ordering;
@@ -15,7 +15,7 @@ pub(in crate::bench) const UNSORTED: Error = Error::Invalid(
 );
 
 /// Inputs that are no set of bytes, under any range.
-const NO_SETS: [(&[u8], Error); 5] = [
+static NO_SETS: [(&[u8], Error); 5] = [
     (b"\x83\x00\x01\x02\x03", Error::InvalidVarint),
     (b"\xff\xff\xff\xff\x10", Error::InvalidVarint),
     (b"\xff\xff\xff\xff", Error::EndOfBuffer),
@@ -24,13 +24,13 @@ const NO_SETS: [(&[u8], Error); 5] = [
 ];
 
 /// Inputs that are no set of at most ten bytes.
-const NO_SHORT_SETS: [(&[u8], Error); 2] = [
+static NO_SHORT_SETS: [(&[u8], Error); 2] = [
     (b"\x03\x02\x01", Error::EndOfBuffer),
     (b"\x0b", Error::InvalidLength(11)),
 ];
 
 /// Items of two sets, and the order of the sets.
-const ORDERS: [(&[u8], &[u8], Ordering); 5] = [
+static ORDERS: [(&[u8], &[u8], Ordering); 5] = [
     (&[1, 2], &[1, 2, 3], Ordering::Less),
     (&[2], &[1, 9], Ordering::Greater),
     (&[1, 2], &[2], Ordering::Less),
@@ -39,7 +39,7 @@ const ORDERS: [(&[u8], &[u8], Ordering); 5] = [
 ];
 
 /// The set of these items.
-fn set_of(rt: &impl Abort, alloc: Global, items: &[u8]) -> Set<u8, Global> {
+pub(super) fn set_of(rt: &impl Abort, alloc: Global, items: &[u8]) -> Set<u8, Global> {
     Set::from_iter_dedup(alloc, items.iter().copied()).expect(rt, "memory")
 }
 
@@ -52,12 +52,22 @@ fn nest_of(rt: &impl Abort, alloc: Global, lists: &[&[u8]]) -> Set<Set<u8, Globa
     Set::from_iter_dedup(alloc, sets).expect(rt, "memory")
 }
 
+/// The set of this set and the empty one.
+pub(super) fn with_empty<T: Ord + Drop>(
+    rt: &impl Abort,
+    alloc: Global,
+    set: Set<T, Global>,
+) -> Set<Set<T, Global>, Global> {
+    Set::from_iter_dedup(alloc, [set, Set::empty(alloc)]).expect(rt, "memory")
+}
+
 /// Whether the set of the items is written as these bytes.
-fn is_set_written_as<T: Ord + Write<A> + Drop, A: Allocator + Copy>(
+fn is_set_written_as<T: Ord + Copy + Write<A>, A: Allocator + Copy>(
     alloc: A,
-    items: Vec<T, A>,
+    items: &[T],
     bytes: &[u8],
 ) -> Result<bool, AllocError> {
+    let items = Vec::from_slice(alloc, items)?;
     let set = Set::from_iter_dedup(alloc, items)?;
     Ok(is_written_as(alloc, &set, bytes))
 }
@@ -77,16 +87,13 @@ fn the_empty_set_holds_nothing(rt: HostRuntime) {
 fn sets_are_written_as_their_lists(rt: HostRuntime) {
     let alloc = rt.alloc();
     set_fault_law::<u8, _>(alloc, RangeCfg::from(..), &());
-    let bytes = vec![in alloc; 3u8, 1, 2, 1].expect(&rt, "memory");
-    assert!(rt; is_set_written_as(alloc, bytes, b"\x03\x01\x02\x03").expect(&rt, "memory"));
-    let words = vec![in alloc; 256u32, 1].expect(&rt, "memory");
+    let words = b"\x02\x00\x00\x00\x01\x00\x00\x01\x00";
+    let indices = [Participant::new(300), Participant::new(1)];
     assert!(rt;
-        is_set_written_as(alloc, words, b"\x02\x00\x00\x00\x01\x00\x00\x01\x00").expect(
-            &rt, "memory"
-        )
+        is_set_written_as(alloc, &[3u8, 1, 2, 1], b"\x03\x01\x02\x03") == Ok(true)
+            && is_set_written_as(alloc, &[256u32, 1], words) == Ok(true)
+            && is_set_written_as(alloc, &indices, b"\x02\x01\xac\x02") == Ok(true)
     );
-    let indices = vec![in alloc; Participant::new(300), Participant::new(1)].expect(&rt, "memory");
-    assert!(rt; is_set_written_as(alloc, indices, b"\x02\x01\xac\x02").expect(&rt, "memory"));
 }
 
 #[test]
@@ -115,25 +122,44 @@ fn sets_are_read_and_what_follows_is_left(rt: HostRuntime) {
     assert!(rt; is_coded_as(alloc, &nest, &(any, (any, ())), bytes));
 }
 
+/// Whether an equal value came back, with one byte left.
+fn is_back<T: PartialEq + Drop>(answer: Result<(T, usize), Error>, value: &T) -> bool {
+    match answer {
+        Ok((again, left)) => again == *value && left == 1,
+        Err(_) => false,
+    }
+}
+
+/// Whether the first six bytes are a set of two items, which comes back with one byte after it.
+fn two_come_back<T: Ord + Read<A> + Write<A> + Canonical + Drop, A: Allocator + Copy>(
+    alloc: A,
+    bytes: &[u8],
+    cfg: &(RangeCfg<usize>, T::Cfg),
+) -> bool {
+    let (result, taken) = read::<Set<T, A>, A>(alloc, bytes, cfg);
+    match result {
+        Ok(set) => {
+            taken == 6 && set.len() == 2 && is_back(round_trip(alloc, &set, b"\xff", cfg), &set)
+        }
+        Err(_) => false,
+    }
+}
+
 #[test]
 fn sets_nest_three_deep(rt: HostRuntime) {
-    let alloc = rt.alloc();
     let any = RangeCfg::from(..);
     let bytes = b"\x02\x00\x02\x00\x01\x07\xff";
-    let cfg = (any, (any, (any, ())));
-    let (nest, taken) = read::<Set<Set<Set<u8, _>, _>, _>, _>(alloc, bytes, &cfg);
-    let nest = nest.expect(&rt, "a value");
-    assert!(rt; nest.len() == 2 && taken == 6);
-    let (again, left) = round_trip(alloc, &nest, b"\xff", &cfg).expect(&rt, "a value");
-    assert!(rt; again == nest && left == 1);
+    assert!(rt;
+        two_come_back::<Set<Set<u8, _>, _>, _>(rt.alloc(), bytes, &(any, (any, (any, ()))))
+    );
 }
 
 #[test]
 fn sets_are_ordered_as_their_lists(rt: HostRuntime) {
-    for (items, others, order) in ORDERS {
+    for (items, others, order) in &ORDERS {
         let set = set_of(&rt, rt.alloc(), items);
         let other = set_of(&rt, rt.alloc(), others);
-        assert!(rt; are_ordered(&set, &other, order));
+        assert!(rt; are_ordered(&set, &other, *order));
     }
 }
 
