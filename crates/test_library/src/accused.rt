@@ -3,7 +3,8 @@ use crate::signers::{are, certificate};
 use committee_certificates::{Certificate, ConflictError};
 use commonware_utils::ordered::Set;
 use commonware_utils::{N3f1, N5f1, Participant};
-use std::alloc::{AllocError, Global};
+use std::alloc::Global;
+use std::process::Abort;
 use uses_certificates::{accused, conflict_under};
 
 /// The signers of two certificates for different values, of a committee of this many members; those
@@ -16,7 +17,7 @@ struct Row {
     fifths: Result<&'static [u32], ConflictError>,
 }
 
-const ROWS: [Row; 3] = [
+static ROWS: [Row; 3] = [
     Row {
         members: 4,
         first: &[0, 1, 2],
@@ -45,19 +46,17 @@ fn answers(
     answer: Result<Set<Participant, Global>, ConflictError>,
     wanted: Result<&[u32], ConflictError>,
 ) -> bool {
-    match (answer, wanted) {
-        (Ok(both), Ok(indices)) => are(&both, indices),
-        (Err(error), Err(wanted)) => error == wanted,
-        _ => false,
+    match answer {
+        Ok(both) => matches!(wanted, Ok(indices) if are(&both, indices)),
+        Err(error) => wanted.err() == Some(error),
     }
 }
 
 /// Whether the wanted number of participants is counted, or the wanted error is returned.
 fn counts(answer: Result<usize, ConflictError>, wanted: Result<&[u32], ConflictError>) -> bool {
-    match (answer, wanted) {
-        (Ok(count), Ok(indices)) => count == indices.len(),
-        (Err(error), Err(wanted)) => error == wanted,
-        _ => false,
+    match answer {
+        Ok(count) => matches!(wanted, Ok(indices) if count == indices.len()),
+        Err(error) => wanted.err() == Some(error),
     }
 }
 
@@ -87,16 +86,16 @@ fn are_named(
 }
 
 /// Whether the row's signers of both are named and counted.
-fn is_answered(alloc: Global, row: &Row) -> Result<bool, AllocError> {
-    let members = Set::from_iter_dedup(alloc, 0..row.members)?;
-    let first = certificate(alloc, 0xaa, row.first)?;
-    let second = certificate(alloc, 0xbb, row.second)?;
-    Ok(are_named(alloc, &members, &first, &second, row) == Some(true))
+fn is_answered(rt: &impl Abort, alloc: Global, row: &Row) -> bool {
+    let members = Set::from_iter_dedup(alloc, 0..row.members).expect(rt, "memory");
+    let first = certificate(alloc, 0xaa, row.first).expect(rt, "memory");
+    let second = certificate(alloc, 0xbb, row.second).expect(rt, "memory");
+    are_named(alloc, &members, &first, &second, row) == Some(true)
 }
 
 #[test]
 fn signers_of_both_are_named_and_counted(rt: HostRuntime) {
     for (at, row) in ROWS.iter().enumerate() {
-        assert!(rt; is_answered(rt.alloc(), row).expect(&rt, "memory"), "{at}");
+        assert!(rt; is_answered(&rt, rt.alloc(), row), "{at}");
     }
 }

@@ -1,4 +1,6 @@
-//! The builders that sets and maps have alike.
+//! The builders that sets and maps have alike, and what an error of one of them is.
+use commonware_utils::ordered::Error;
+use test_equipment::walk::{Outcome, full, refused};
 
 /// A way to make a set of items, or a map of pairs.
 #[derive(Clone, Copy)]
@@ -13,7 +15,7 @@ pub(super) enum Builder {
 }
 
 /// Each of them.
-pub(super) const BUILDERS: [Builder; 7] = [
+pub(super) static BUILDERS: [Builder; 7] = [
     Builder::Dedup,
     Builder::Iterator,
     Builder::Collect,
@@ -22,3 +24,12 @@ pub(super) const BUILDERS: [Builder; 7] = [
     Builder::Array,
     Builder::ArrayRef,
 ];
+
+/// The outcome of an error where this one is wanted, if any: an allocation failure is a refusal.
+pub(super) fn outcome_of_error(error: Error, wanted: Option<&Error>) -> Outcome {
+    if error == Error::Memory {
+        refused(true)
+    } else {
+        full(wanted == Some(&error))
+    }
+}

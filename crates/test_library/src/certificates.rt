@@ -5,6 +5,7 @@ use commonware_utils::Participant;
 use commonware_utils::codec::{EncodeSize, Error, RangeCfg, Read, Source, Write};
 use commonware_utils::ordered::Set;
 use std::alloc::{AllocError, Global};
+use std::process::Abort;
 
 /// An input that begins with a certificate: its value, its signers, and how many bytes follow.
 struct Accepted {
@@ -14,7 +15,7 @@ struct Accepted {
     left: usize,
 }
 
-const ACCEPTED: [Accepted; 4] = [
+static ACCEPTED: [Accepted; 4] = [
     Accepted {
         bytes: b"\x01\xaa\x03\x00\x01\x02\xff",
         value: b"\xaa",
@@ -42,7 +43,7 @@ const ACCEPTED: [Accepted; 4] = [
 ];
 
 /// Inputs and their first faults.
-const REFUSED: [(&[u8], Error); 11] = [
+static REFUSED: [(&[u8], Error); 11] = [
     (b"", Error::EndOfBuffer),
     (b"\x21", Error::InvalidLength(33)),
     (b"\x80\x00", Error::InvalidVarint),
@@ -72,26 +73,47 @@ fn read(alloc: Global, src: &mut Source<'_>) -> Result<Certificate<Global>, Erro
 /// Whether the certificate is read, and has this value and these signers.
 fn is_accepted(alloc: Global, row: &Accepted) -> bool {
     let mut src = Source::new(row.bytes);
-    let Ok(certificate) = read(alloc, &mut src) else {
-        return false;
-    };
-    certificate.value.as_slice() == row.value
-        && are(&certificate.signers, row.signers)
-        && src.remaining() == row.left
+    match read(alloc, &mut src) {
+        Ok(certificate) => has_parts(&certificate, row) && src.remaining() == row.left,
+        Err(_) => false,
+    }
+}
+
+/// Whether the certificate has the row's value and signers.
+fn has_parts(certificate: &Certificate<Global>, row: &Accepted) -> bool {
+    certificate.value.as_slice() == row.value && are(&certificate.signers, row.signers)
 }
 
 /// Whether the certificate is written as its bytes, and its clone equals it.
-fn is_written(alloc: Global, row: &Accepted) -> Option<bool> {
-    let certificate = read(alloc, &mut Source::new(row.bytes)).ok()?;
+fn comes_back(alloc: Global, row: &Accepted) -> bool {
+    match read(alloc, &mut Source::new(row.bytes)) {
+        Ok(certificate) => is_written(alloc, &certificate, row) && is_cloned(&certificate),
+        Err(_) => false,
+    }
+}
+
+/// Whether the certificate is written as the row's bytes, and tells how many these are.
+fn is_written(alloc: Global, certificate: &Certificate<Global>, row: &Accepted) -> bool {
     if !certificate.is_writable() {
-        return Some(false);
+        return false;
     }
     let mut sink: Vec<u8, Global> = Vec::new(alloc);
-    certificate.write(&mut sink).ok()?;
-    let written = row.bytes.starts_with(sink.as_slice());
-    let whole = row.bytes.len().saturating_sub(sink.len()) == row.left;
-    let sized = certificate.encode_size() == sink.len();
-    Some(written && whole && sized && certificate.clone().ok()? == certificate)
+    let written = certificate.write(&mut sink).is_ok();
+    written && is_whole(&sink, row) && certificate.encode_size() == sink.len()
+}
+
+/// Whether these are the row's bytes, but those that follow the certificate.
+fn is_whole(written: &[u8], row: &Accepted) -> bool {
+    let left = row.bytes.len().saturating_sub(written.len());
+    row.bytes.starts_with(written) && left == row.left
+}
+
+/// Whether the certificate's clone equals it.
+fn is_cloned(certificate: &Certificate<Global>) -> bool {
+    match certificate.clone() {
+        Ok(copy) => copy == *certificate,
+        Err(_) => false,
+    }
 }
 
 /// Whether the input is refused for this, and the source stays.
@@ -107,11 +129,7 @@ fn is_refused(alloc: Global, bytes: &[u8], wanted: &Error) -> bool {
 fn certificates_are_read_and_written(rt: HostRuntime) {
     for row in &ACCEPTED {
         assert!(rt; is_accepted(rt.alloc(), row), "{:?}", row.bytes);
-        assert!(rt;
-            is_written(rt.alloc(), row).expect(&rt, "memory"),
-            "{:?}",
-            row.bytes
-        );
+        assert!(rt; comes_back(rt.alloc(), row), "{:?}", row.bytes);
     }
 }
 
@@ -136,14 +154,14 @@ fn prefixes_are_refused(rt: HostRuntime) {
 }
 
 /// Whether a certificate has its `Debug` text.
-fn is_shown(alloc: Global) -> Result<bool, AllocError> {
-    let certificate = Certificate {
-        value: Vec::from_slice(alloc, &[0xaau8, 0])?,
-        signers: Set::from_iter_dedup(alloc, [7u32, 0].map(Participant::new))?,
-    };
-    let shown = format!(in alloc; "{certificate:?}")?;
+fn is_shown(rt: &impl Abort, alloc: Global) -> bool {
+    let value = Vec::from_slice(alloc, &[0xaau8, 0]).expect(rt, "memory");
+    let signers = [Participant::new(7), Participant::new(0)];
+    let signers = Set::from_iter_dedup(alloc, signers).expect(rt, "memory");
+    let certificate = Certificate { value, signers };
+    let shown = format!(in alloc; "{certificate:?}").expect(rt, "memory");
     let wanted = "Certificate { value: [170, 0], signers: Set([Participant(0), Participant(7)]) }";
-    Ok(shown.as_str() == wanted)
+    shown.as_str() == wanted
 }
 
 /// Whether the error is shown by these words.
@@ -151,17 +169,20 @@ fn says(alloc: Global, error: ConflictError, words: &str) -> Result<bool, AllocE
     Ok(format!(in alloc; "{error}")?.as_str() == words)
 }
 
+/// Errors, and their words.
+static WORDS: [(ConflictError, &str); 3] = [
+    (
+        ConflictError::Outside,
+        "a signer is no member of the committee",
+    ),
+    (ConflictError::TooFew, "fewer signers than a quorum"),
+    (ConflictError::Memory, "out of memory"),
+];
+
 #[test]
 fn certificates_and_errors_are_shown(rt: HostRuntime) {
-    assert!(rt; is_shown(rt.alloc()) == Ok(true));
-    for (error, words) in [
-        (
-            ConflictError::Outside,
-            "a signer is no member of the committee",
-        ),
-        (ConflictError::TooFew, "fewer signers than a quorum"),
-        (ConflictError::Memory, "out of memory"),
-    ] {
-        assert!(rt; says(rt.alloc(), error, words) == Ok(true), "{words}");
+    assert!(rt; is_shown(&rt, rt.alloc()));
+    for (error, words) in &WORDS {
+        assert!(rt; says(rt.alloc(), *error, words) == Ok(true), "{words}");
     }
 }

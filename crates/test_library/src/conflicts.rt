@@ -4,7 +4,7 @@ use committee_certificates::{Certificate, ConflictError, conflict, conflict_amon
 use commonware_utils::Participant;
 use commonware_utils::faults::{Faults, N3f1, N5f1};
 use commonware_utils::ordered::Set;
-use std::alloc::Allocator;
+use std::alloc::{AllocError, Allocator};
 use test_equipment::walk::{Heap, Outcome, Refusable, full, refused, requests};
 
 /// A fault model, or the number of faults that one tolerates.
@@ -29,7 +29,7 @@ struct Row {
     answer: Result<&'static [u32], ConflictError>,
 }
 
-const ROWS: [Row; 12] = [
+static ROWS: [Row; 12] = [
     Row {
         members: 4,
         model: Model::N3f1,
@@ -136,15 +136,48 @@ fn outcome_of(
     both: Option<Result<Set<Participant, Heap<'_>>, ConflictError>>,
     wanted: Result<&[u32], ConflictError>,
 ) -> Outcome {
-    match (both, wanted) {
-        (Some(Ok(both)), Ok(wanted)) => full(are(&both, wanted)),
-        (Some(Err(ConflictError::Memory)), Ok(_)) => refused(true),
-        (Some(Err(error)), Err(wanted)) => full(error == wanted),
+    match both {
+        Some(Ok(both)) => full(matches!(wanted, Ok(wanted) if are(&both, wanted))),
+        Some(Err(error)) => outcome_of_error(error, wanted),
+        None => Outcome::Wrong,
+    }
+}
+
+/// The outcome of an error where the wanted result is this.
+fn outcome_of_error(error: ConflictError, wanted: Result<&[u32], ConflictError>) -> Outcome {
+    match (error, wanted) {
+        (ConflictError::Memory, Ok(_)) => refused(true),
+        (error, Err(wanted)) => full(error == wanted),
         _ => Outcome::Wrong,
     }
 }
 
+/// Two certificates.
+type Both<'a> = (Certificate<Heap<'a>>, Certificate<Heap<'a>>);
+
 impl Row {
+    /// The row's certificates.
+    fn certificates<'a>(&self, heap: Heap<'a>) -> Result<Both<'a>, AllocError> {
+        let first = certificate(heap, 0xaa, self.first)?;
+        Ok((first, certificate(heap, 0xbb, self.second)?))
+    }
+
+    /// The outcome in this committee.
+    fn outcome_among<'a>(
+        &self,
+        heap: Heap<'a>,
+        granted: u64,
+        committee: &Set<u32, Heap<'a>>,
+    ) -> Outcome {
+        match self.certificates(heap) {
+            Ok((first, second)) => {
+                heap.restart(granted);
+                outcome_of(self.conflict(heap, committee, &first, &second), self.answer)
+            }
+            Err(_) => Outcome::Wrong,
+        }
+    }
+
     /// The members that signed both certificates, under the row's model.
     fn conflict<'a>(
         &self,
@@ -168,20 +201,10 @@ impl Row {
 
 impl Refusable for Row {
     fn outcome(&self, heap: Heap<'_>, granted: u64) -> Outcome {
-        let (Ok(first), Ok(second)) = (
-            certificate(heap, 0xaa, self.first),
-            certificate(heap, 0xbb, self.second),
-        ) else {
-            return Outcome::Wrong;
-        };
-        let Ok(committee) = Set::from_iter_dedup(heap, 0..self.members) else {
-            return Outcome::Wrong;
-        };
-        heap.restart(granted);
-        outcome_of(
-            self.conflict(heap, &committee, &first, &second),
-            self.answer,
-        )
+        match Set::from_iter_dedup(heap, 0..self.members) {
+            Ok(committee) => self.outcome_among(heap, granted, &committee),
+            Err(_) => Outcome::Wrong,
+        }
     }
 }
 

@@ -2,6 +2,7 @@
 use commonware_utils::TryFromIterator;
 use commonware_utils::ordered::{BiMap, Error, Map, Set};
 use std::alloc::Global;
+use std::process::Abort;
 use test_equipment::Refusing;
 use test_equipment::walk::Heap;
 
@@ -14,15 +15,18 @@ fn is_heap(allocator: Heap<'_>, heap: Heap<'_>) -> bool {
 }
 
 /// Whether a set, a map and a bimap return the heap that they were made on, and no other one.
-fn are_held(heap: Heap<'_>, other: Heap<'_>) -> Result<bool, Error> {
-    let set = Set::try_from_iter(heap, [3u8, 1, 2])?;
-    let map = Map::try_from_iter(heap, [(3u8, 30u8), (1, 10)])?;
-    let bimap = BiMap::try_from_iter(heap, [(3u8, 30u8), (1, 10)])?;
-    let mut held = true;
-    for allocator in [*set.allocator(), *map.allocator(), *bimap.allocator()] {
-        held = held && is_heap(allocator, heap) && !is_heap(allocator, other);
-    }
-    Ok(held)
+fn are_held(rt: &impl Abort, heap: Heap<'_>, other: Heap<'_>) -> bool {
+    let set = Set::try_from_iter(heap, [3u8, 1, 2]).expect(rt, "a set");
+    let of_set = is_first(*set.allocator(), heap, other);
+    let map = Map::try_from_iter(heap, [(3u8, 30u8), (1, 10)]).expect(rt, "a map");
+    let of_map = is_first(*map.allocator(), heap, other);
+    let bimap = BiMap::try_from_iter(heap, [(3u8, 30u8), (1, 10)]).expect(rt, "a bimap");
+    of_set && of_map && is_first(*bimap.allocator(), heap, other)
+}
+
+/// Whether the allocator is the heap, and not the other one.
+fn is_first(allocator: Heap<'_>, heap: Heap<'_>, other: Heap<'_>) -> bool {
+    is_heap(allocator, heap) && !is_heap(allocator, other)
 }
 
 /// Whether a map of keys on one heap and values on another returns that of the keys, and so do its
@@ -41,7 +45,7 @@ fn is_that_of_the_keys(keys: Heap<'_>, values: Heap<'_>) -> Result<bool, Error> 
 fn collections_return_the_heap_that_they_hold(rt: HostRuntime) {
     let first = Refusing::<Global>::all_after(rt.alloc(), u64::MAX);
     let second = Refusing::<Global>::all_after(rt.alloc(), u64::MAX);
-    assert!(rt; are_held(&first, &second) == Ok(true));
-    assert!(rt; are_held(&second, &first) == Ok(true));
+    assert!(rt; are_held(&rt, &first, &second));
+    assert!(rt; are_held(&rt, &second, &first));
     assert!(rt; is_that_of_the_keys(&first, &second) == Ok(true));
 }

@@ -1,12 +1,13 @@
 //! Bytes, words of four bytes and members of a committee, of which many are written and read at
 //! once: more of them than any list has room for at first, with each allocation failing in turn,
 //! and inputs that end before the last of them.
-use crate::readings::outcome;
+use crate::readings::{are_after_three, outcome, read_refused, read_whole};
 use crate::refused_codec::{ACTS, Act, Trial};
 use committee_core::Member;
 use commonware_utils::codec::{EncodeSize, Error, RangeCfg, Read, Source, Write};
 use commonware_utils::ordered::Set;
 use std::alloc::{AllocError, Global};
+use std::process::Abort;
 use test_equipment::Refusing;
 use test_equipment::walk::{Heap, Outcome, Refusable, full, makes_requests, refused, requests};
 
@@ -14,7 +15,7 @@ use test_equipment::walk::{Heap, Outcome, Refusable, full, makes_requests, refus
 const MANY: u32 = 5000;
 
 /// The bytes of the length 5,000, which is 39 · 128 + 8.
-const LENGTH: [u8; 2] = [0x88, 0x27];
+static LENGTH: [u8; 2] = [0x88, 0x27];
 
 /// Items, the bytes of all of them, and the bytes of the list of them.
 #[derive(Drop)]
@@ -48,36 +49,37 @@ fn lowest(number: u32) -> [u8; 2] {
 }
 
 /// Many bytes.
-fn bytes(alloc: Global) -> Result<Row<u8>, AllocError> {
-    let mut row = Row::new(alloc)?;
+fn bytes(rt: &impl Abort, alloc: Global) -> Row<u8> {
+    let mut row = Row::new(alloc).expect(rt, "memory");
     for number in 0..MANY {
         let [_, byte] = lowest(number);
-        row.push(byte, &[byte])?;
+        row.push(byte, &[byte]).expect(rt, "memory");
     }
-    Ok(row)
+    row
 }
 
 /// Many words, each greater than the one before.
-fn words(alloc: Global) -> Result<Row<u32>, AllocError> {
-    let mut row = Row::new(alloc)?;
+fn words(rt: &impl Abort, alloc: Global) -> Row<u32> {
+    let mut row = Row::new(alloc).expect(rt, "memory");
     for number in 0..MANY {
         let [higher, lower] = lowest(number);
-        row.push(0x0506_0000 + number, &[5, 6, higher, lower])?;
+        let word = 0x0506_0000 + number;
+        row.push(word, &[5, 6, higher, lower]).expect(rt, "memory");
     }
-    Ok(row)
+    row
 }
 
 /// Many members, each greater than the one before by its last two bytes.
-fn members(alloc: Global) -> Result<Row<Member>, AllocError> {
-    let mut row = Row::new(alloc)?;
+fn members(rt: &impl Abort, alloc: Global) -> Row<Member> {
+    let mut row = Row::new(alloc).expect(rt, "memory");
     for number in 0..MANY {
         let mut bytes = [0x11u8; 32];
         let [higher, lower] = lowest(number);
         bytes[30] = higher;
         bytes[31] = lower;
-        row.push(Member::new(bytes), &bytes)?;
+        row.push(Member::new(bytes), &bytes).expect(rt, "memory");
     }
-    Ok(row)
+    row
 }
 
 /// Many items of each type.
@@ -89,12 +91,12 @@ struct Rows {
 }
 
 /// Many items of each type.
-fn many_of_each(alloc: Global) -> Result<Rows, AllocError> {
-    Ok(Rows {
-        bytes: bytes(alloc)?,
-        words: words(alloc)?,
-        members: members(alloc)?,
-    })
+fn many_of_each(rt: &impl Abort, alloc: Global) -> Rows {
+    Rows {
+        bytes: bytes(rt, alloc),
+        words: words(rt, alloc),
+        members: members(rt, alloc),
+    }
 }
 
 /// A type of items.
@@ -105,7 +107,7 @@ enum Kind {
     Member,
 }
 
-const KINDS: [Kind; 3] = [Kind::Byte, Kind::Word, Kind::Member];
+static KINDS: [Kind; 3] = [Kind::Byte, Kind::Word, Kind::Member];
 
 /// The items of a type written at once, or read.
 #[derive(Drop)]
@@ -149,8 +151,8 @@ fn written_after<'a, T: Write<Heap<'a>>>(
     }
     heap.restart(granted);
     match T::write_at_once(row.items.as_slice(), sink) {
-        Some(Ok(())) => full(sink.strip_prefix(b"\xaa\xbb\xcc") == Some(row.bytes.as_slice())),
-        Some(Err(_)) => refused(sink.as_slice() == b"\xaa\xbb\xcc".as_slice()),
+        Some(Ok(())) => full(are_after_three(sink, &row.bytes)),
+        Some(Err(_)) => refused(are_after_three(sink, b"")),
         None => Outcome::Wrong,
     }
 }
@@ -165,10 +167,8 @@ fn read<'a, T: Read<Heap<'a>> + Eq + Drop>(
     let mut src = Source::new(&row.bytes);
     heap.restart(granted);
     match T::read_at_once(heap, &mut src, row.items.len(), cfg) {
-        Some(Ok(items)) => {
-            full(items.as_slice() == row.items.as_slice() && src.remaining() == 0)
-        }
-        Some(Err(error)) => refused(error == Error::Memory && src.position() == 0),
+        Some(Ok(items)) => read_whole(items.as_slice() == row.items.as_slice(), &src),
+        Some(Err(error)) => read_refused(error, &src),
         None => Outcome::Wrong,
     }
 }
@@ -176,12 +176,12 @@ fn read<'a, T: Read<Heap<'a>> + Eq + Drop>(
 /// Many items are written, and read, with one request.
 #[test]
 fn many_take_one_request(rt: HostRuntime) {
-    let rows = many_of_each(rt.alloc()).expect(&rt, "memory");
-    for kind in KINDS {
+    let rows = many_of_each(&rt, rt.alloc());
+    for kind in &KINDS {
         for is_write in [true, false] {
             let call = AtOnce {
                 rows: &rows,
-                kind,
+                kind: *kind,
                 is_write,
             };
             assert!(rt; requests(rt.alloc(), &call) == Some(1));
@@ -199,7 +199,7 @@ enum Form {
     MemberSet,
 }
 
-const FORMS: [Form; 5] = [
+static FORMS: [Form; 5] = [
     Form::Bytes,
     Form::Words,
     Form::Members,
@@ -217,10 +217,16 @@ struct Listed<'a> {
 
 impl<'r> Refusable for Listed<'r> {
     fn outcome(&self, heap: Heap<'_>, granted: u64) -> Outcome {
+        self.form
+            .tried(self.rows, &Trial::new(self.act, heap, granted))
+    }
+}
+
+impl Form {
+    /// What the trial returns on the form's list of many.
+    fn tried(self, rows: &Rows, trial: &Trial<'_>) -> Outcome {
         let limits = (RangeCfg::from(..), ());
-        let rows = self.rows;
-        let trial = Trial::new(self.act, heap, granted);
-        match self.form {
+        match self {
             Form::Bytes => trial.on::<Vec<u8, _>>(&rows.bytes.list, &limits),
             Form::Words => trial.on::<Vec<u32, _>>(&rows.words.list, &limits),
             Form::Members => trial.on::<Vec<Member, _>>(&rows.members.list, &limits),
@@ -233,13 +239,13 @@ impl<'r> Refusable for Listed<'r> {
 /// Lists and sets of many are written, read and cloned with each allocation failing in turn.
 #[test]
 fn lists_of_many_require_little(rt: HostRuntime) {
-    let rows = many_of_each(rt.alloc()).expect(&rt, "memory");
-    for form in FORMS {
-        for act in ACTS {
+    let rows = many_of_each(&rt, rt.alloc());
+    for form in &FORMS {
+        for act in &ACTS {
             let call = Listed {
                 rows: &rows,
-                form,
-                act,
+                form: *form,
+                act: *act,
             };
             assert!(rt; makes_requests(rt.alloc(), &call, 1));
         }
@@ -283,9 +289,9 @@ fn is_cut_everywhere(alloc: Global, form: Form, list: &[u8]) -> bool {
 /// An input that ends too soon is refused without an allocation, wherever it ends.
 #[test]
 fn a_truncated_input_requires_no_memory(rt: HostRuntime) {
-    let rows = many_of_each(rt.alloc()).expect(&rt, "memory");
-    for form in FORMS {
-        assert!(rt; is_cut_everywhere(rt.alloc(), form, form.list(&rows)));
+    let rows = many_of_each(&rt, rt.alloc());
+    for form in &FORMS {
+        assert!(rt; is_cut_everywhere(rt.alloc(), *form, form.list(&rows)));
     }
 }
 

@@ -19,7 +19,7 @@ enum Form {
     NonEmpty,
 }
 
-const TEXTS: [(Form, &[u8], Option<Error>); 23] = [
+static TEXTS: [(Form, &[u8], Option<Error>); 23] = [
     (Form::Set, b"\xff\xff\xff\xff\x0f", Some(Error::EndOfBuffer)),
     (
         Form::Set,

@@ -1,6 +1,7 @@
-//! What is said of an input that is decoded.
+//! What is said of an input that is decoded, and of bytes that are written.
 use commonware_utils::codec::{Error, Read, Source};
 use std::alloc::Allocator;
+use test_equipment::walk::{Outcome, full, refused};
 
 /// What is said of a reading: the error, if there is one, and how many bytes were read.
 pub(super) fn outcome<T: Read<A> + Drop, A: Allocator>(
@@ -11,4 +12,19 @@ pub(super) fn outcome<T: Read<A> + Drop, A: Allocator>(
     let mut src = Source::new(bytes);
     let read: Result<T, Error> = T::read_cfg(alloc, &mut src, cfg);
     (read.err(), src.position())
+}
+
+/// The outcome of a reading that gave what is right or not: the source has to be read to its end.
+pub(super) fn read_whole(right: bool, src: &Source<'_>) -> Outcome {
+    full(right && src.remaining() == 0)
+}
+
+/// The outcome of a reading that failed: there has to be no memory, and the source has to stay.
+pub(super) fn read_refused(error: Error, src: &Source<'_>) -> Outcome {
+    refused(error == Error::Memory && src.position() == 0)
+}
+
+/// Whether a sink holds `aa`, `bb`, `cc` and then these bytes.
+pub(super) fn are_after_three(sink: &[u8], bytes: &[u8]) -> bool {
+    sink.strip_prefix(b"\xaa\xbb\xcc") == Some(bytes)
 }

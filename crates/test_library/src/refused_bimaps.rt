@@ -1,5 +1,6 @@
 //! The builders of bimaps and their pairs with each allocation failing in turn, and the calls that
 //! allocate nothing.
+use crate::builders::outcome_of_error;
 use commonware_utils::ordered::{BiMap, Error, Map};
 use commonware_utils::{TryCollect, TryFromIterator};
 use std::alloc::Global;
@@ -18,7 +19,7 @@ enum Builder {
     ArrayRef,
 }
 
-const BUILDERS: [Builder; 7] = [
+static BUILDERS: [Builder; 7] = [
     Builder::Iterator,
     Builder::Collect,
     Builder::List,
@@ -29,7 +30,7 @@ const BUILDERS: [Builder; 7] = [
 ];
 
 /// Pairs, and the values by the order of the keys, or the repeat.
-const PAIRS: [([(u8, u8); 4], Result<&[u8], Error>); 3] = [
+static PAIRS: [([(u8, u8); 4], Result<&[u8], Error>); 3] = [
     ([(5, 1), (1, 3), (3, 4), (9, 2)], Ok(&[3, 4, 1, 2])),
     ([(5, 1), (1, 3), (3, 4), (9, 1)], Err(Error::DuplicateValue)),
     ([(5, 1), (1, 3), (5, 4), (9, 1)], Err(Error::DuplicateKey)),
@@ -44,29 +45,38 @@ fn build<'a>(
     match builder {
         Builder::Iterator => BiMap::try_from_iter(heap, *pairs),
         Builder::Collect => TryCollect::try_collect(pairs.iter().copied(), heap),
-        Builder::List => BiMap::try_from_vec(Vec::from_slice(heap, pairs)?),
-        Builder::Map => BiMap::try_from_map(Map::try_from_slice(heap, pairs)?),
+        Builder::List => of_list(heap, pairs),
+        Builder::Map => of_map(heap, pairs),
         Builder::Slice => BiMap::try_from_slice(heap, pairs),
         Builder::Array => BiMap::try_from_array(heap, *pairs),
         Builder::ArrayRef => BiMap::try_from_array_ref(heap, pairs),
     }
 }
 
-/// A builder at some pairs, and what it has to return.
-#[derive(Drop)]
-struct Building {
-    builder: Builder,
-    pairs: [(u8, u8); 4],
-    answer: Result<&'static [u8], Error>,
+/// The bimap of a list of the pairs.
+fn of_list<'a>(heap: Heap<'a>, pairs: &[(u8, u8)]) -> Result<Numbers<'a>, Error> {
+    BiMap::try_from_vec(Vec::from_slice(heap, pairs)?)
 }
 
-impl Refusable for Building {
+/// The bimap of a map of the pairs.
+fn of_map<'a>(heap: Heap<'a>, pairs: &[(u8, u8)]) -> Result<Numbers<'a>, Error> {
+    BiMap::try_from_map(Map::try_from_slice(heap, pairs)?)
+}
+
+/// A builder at some pairs, and what it has to return.
+#[derive(Drop)]
+struct Building<'a> {
+    builder: Builder,
+    pairs: &'a [(u8, u8); 4],
+    answer: &'a Result<&'a [u8], Error>,
+}
+
+impl<'b> Refusable for Building<'b> {
     fn outcome(&self, heap: Heap<'_>, granted: u64) -> Outcome {
         heap.restart(granted);
-        match build(self.builder, heap, &self.pairs) {
-            Ok(bimap) => full(matches!(&self.answer, Ok(values) if bimap.values() == *values)),
-            Err(Error::Memory) => refused(true),
-            Err(error) => full(matches!(&self.answer, Err(wanted) if error == *wanted)),
+        match build(self.builder, heap, self.pairs) {
+            Ok(bimap) => full(matches!(self.answer, Ok(values) if bimap.values() == *values)),
+            Err(error) => outcome_of_error(error, self.answer.as_ref().err()),
         }
     }
 }
@@ -103,16 +113,21 @@ impl Refusable for FromMap {
             return Outcome::Wrong;
         };
         heap.restart(granted);
-        match BiMap::try_from_map(map) {
-            Ok(bimap) => full(bimap.values() == [10, 20, 30].as_slice()),
-            Err(error) => refused(error == Error::Memory),
-        }
+        outcome_of_map(map)
+    }
+}
+
+/// The outcome of the map {1: 10, 2: 20, 3: 30} made a bimap.
+fn outcome_of_map(map: Map<u8, u8, Heap<'_>>) -> Outcome {
+    match BiMap::try_from_map(map) {
+        Ok(bimap) => full(bimap.values() == [10, 20, 30].as_slice()),
+        Err(error) => refused(error == Error::Memory),
     }
 }
 
 /// Whether the builder returns what it has to for all the pairs.
 fn is_right(alloc: Global, builder: Builder) -> bool {
-    for (pairs, answer) in PAIRS {
+    for (pairs, answer) in &PAIRS {
         let call = Building {
             builder,
             pairs,
@@ -158,6 +173,11 @@ fn is_looked_up(bimap: &Numbers<'_>) -> bool {
         && bimap.iter_pairs().next_back() == Some((&3, &10))
 }
 
+/// Whether one {1: 30, 2: 20, 3: 10} is looked up and equals another.
+fn are_looked_up<'a>(bimap: &Numbers<'a>, other: &Numbers<'a>) -> bool {
+    is_looked_up(bimap) && *bimap == *other
+}
+
 /// Whether the keys of one {1: 30, 2: 20, 3: 10} and the first pair of another are consumed.
 fn are_given_up(bimap: Numbers<'_>, other: Numbers<'_>) -> bool {
     let first = other.into_iter().next();
@@ -170,9 +190,8 @@ fn bimaps_are_looked_up_and_given_up_without_memory(rt: HostRuntime) {
     let bimap = three(&heap).expect(&rt, "memory");
     let other = three(&heap).expect(&rt, "memory");
     heap.restart(0);
-    let looked_up = is_looked_up(&bimap) && bimap == other;
-    let given_up = are_given_up(bimap, other);
-    assert!(rt; looked_up && given_up && !heap.has_refused());
+    assert!(rt; are_looked_up(&bimap, &other));
+    assert!(rt; are_given_up(bimap, other) && !heap.has_refused());
 }
 
 /// Whether a bimap of no pairs is empty, and the same as one of a map of none.

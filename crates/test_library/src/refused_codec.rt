@@ -2,6 +2,7 @@
 //! failing in turn: what was borrowed is as it was.
 ghost use Rattle.std.specs.Prelude.{IfOk};
 
+use crate::readings::{are_after_three, read_refused, read_whole};
 use committee_certificates::Certificate;
 use commonware_utils::Participant;
 use commonware_utils::codec::{
@@ -51,7 +52,7 @@ enum Form {
 
 /// Each form, and at least how many allocations it takes to write it, to read it, to clone it, and
 /// to write it and read it again. Where that is 0, it takes none.
-const FORMS: [(Form, [u64; 4]); 13] = [
+static FORMS: [(Form, [u64; 4]); 13] = [
     (Form::Byte, [1, 0, 0, 1]),
     (Form::Word, [1, 0, 0, 1]),
     (Form::Varint, [1, 0, 0, 1]),
@@ -67,7 +68,7 @@ const FORMS: [(Form, [u64; 4]); 13] = [
     (Form::Certificate, [1, 2, 2, 3]),
 ];
 
-pub(super) const ACTS: [Act; 4] = [Act::Write, Act::Read, Act::Clone, Act::RoundTrip];
+pub(super) static ACTS: [Act; 4] = [Act::Write, Act::Read, Act::Clone, Act::RoundTrip];
 
 /// The bytes of {{}, {1, 2}, {7}}.
 const SETS: &[u8; 7] = b"\x03\x00\x02\x01\x02\x01\x07";
@@ -84,10 +85,16 @@ struct Call {
 
 impl Refusable for Call {
     fn outcome(&self, heap: Heap<'_>, granted: u64) -> Outcome {
+        self.form.tried(&Trial::new(self.act, heap, granted))
+    }
+}
+
+impl Form {
+    /// What the trial returns on the form's value.
+    fn tried(self, trial: &Trial<'_>) -> Outcome {
         let any = RangeCfg::from(..);
         let some: RangeCfg<NonZeroUsize> = RangeCfg::from(..);
-        let trial = Trial::new(self.act, heap, granted);
-        match self.form {
+        match self {
             Form::Byte => trial.on::<u8>(b"\x07", &()),
             Form::Word => trial.on::<u32>(b"\x00\x00\x01\x2c", &()),
             Form::Varint => trial.on::<UInt>(b"\xac\x02", &()),
@@ -144,9 +151,10 @@ impl<'a> Trial<'a> {
         bytes: &[u8],
         cfg: &T::Cfg,
     ) -> Outcome {
-        let same: Result<T, Error> = read(self.heap, bytes, cfg);
-        let value: Result<T, Error> = read(self.heap, bytes, cfg);
-        let (Ok(same), Ok(value)) = (same, value) else {
+        let Ok(same): Result<T, Error> = read(self.heap, bytes, cfg) else {
+            return Outcome::Wrong;
+        };
+        let Ok(value): Result<T, Error> = read(self.heap, bytes, cfg) else {
             return Outcome::Wrong;
         };
         let outcome = match self.act {
@@ -182,11 +190,8 @@ impl<'a> Trial<'a> {
         }
         self.heap.restart(self.granted);
         match value.write(sink) {
-            Ok(()) => {
-                let written = sink.strip_prefix(b"\xaa\xbb\xcc") == Some(bytes);
-                full(written && value.encode_size() == bytes.len())
-            }
-            Err(_) => refused(sink.as_slice() == b"\xaa\xbb\xcc".as_slice()),
+            Ok(()) => full(are_after_three(sink, bytes) && value.encode_size() == bytes.len()),
+            Err(_) => refused(are_after_three(sink, b"")),
         }
     }
 
@@ -200,8 +205,8 @@ impl<'a> Trial<'a> {
         let mut src = Source::new(bytes);
         self.heap.restart(self.granted);
         match T::read_cfg(self.heap, &mut src, cfg) {
-            Ok(again) => full(again == *value && src.remaining() == 0),
-            Err(error) => refused(error == Error::Memory && src.position() == 0),
+            Ok(again) => read_whole(again == *value, &src),
+            Err(error) => read_refused(error, &src),
         }
     }
 
@@ -241,8 +246,8 @@ impl Refusable for ListRead {
         heap.restart(granted);
         let read: Result<Vec<Vec<u8, _>, _>, Error> = read_list(heap, &mut src, any, &(any, ()));
         match read {
-            Ok(items) => full(items.len() == 3 && src.remaining() == 0),
-            Err(error) => refused(error == Error::Memory && src.position() == 0),
+            Ok(items) => read_whole(items.len() == 3, &src),
+            Err(error) => read_refused(error, &src),
         }
     }
 }
@@ -257,8 +262,8 @@ impl<'b> Refusable for LongRead<'b> {
         heap.restart(granted);
         let read: Result<Vec<u8, _>, Error> = read_list(heap, &mut src, RangeCfg::exact(1024), &());
         match read {
-            Ok(items) => full(items.len() == 1024 && src.remaining() == 0),
-            Err(error) => refused(error == Error::Memory && src.position() == 0),
+            Ok(items) => read_whole(items.len() == 1024, &src),
+            Err(error) => read_refused(error, &src),
         }
     }
 }
@@ -280,9 +285,9 @@ fn a_list_takes_one_request(rt: HostRuntime) {
 }
 
 /// Whether each act on a value of the form makes at least this many allocations.
-fn acts_ask_for(alloc: Global, form: Form, least: [u64; 4]) -> bool {
-    for (act, least) in ACTS.into_iter().zip(least) {
-        if !makes_requests(alloc, &Call { form, act }, least) {
+fn acts_ask_for(alloc: Global, form: Form, least: &[u64; 4]) -> bool {
+    for (act, least) in ACTS.iter().zip(least) {
+        if !makes_requests(alloc, &Call { form, act: *act }, *least) {
             return false;
         }
     }
@@ -292,7 +297,7 @@ fn acts_ask_for(alloc: Global, form: Form, least: [u64; 4]) -> bool {
 #[test]
 fn each_request_is_refused_in_turn(rt: HostRuntime) {
     for (at, (form, least)) in FORMS.iter().enumerate() {
-        assert!(rt; acts_ask_for(rt.alloc(), *form, *least), "{at}");
+        assert!(rt; acts_ask_for(rt.alloc(), *form, least), "{at}");
     }
     assert!(rt; makes_requests(rt.alloc(), &ListRead, 3));
 }

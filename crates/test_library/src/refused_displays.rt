@@ -16,7 +16,7 @@ enum Collection {
 #[derive(Clone, Copy)]
 struct Shown(Collection, bool, &'static str);
 
-const SHOWN: [Shown; 6] = [
+static SHOWN: [Shown; 6] = [
     Shown(Collection::Set, false, "[1, 200, 300]"),
     Shown(Collection::Set, true, "Set([1, 200, 300])"),
     Shown(Collection::Map, false, "[(1, 40), (200, 5), (300, 5)]"),
@@ -48,22 +48,31 @@ impl Shown {
         let Shown(collection, debug, _) = *self;
         match collection {
             Collection::Set => {
-                let set = Set::from_iter_dedup(heap, [300u16, 1, 200])?;
-                heap.restart(granted);
-                Ok(text_of(heap, &set, debug))
+                let set = Set::from_iter_dedup(heap, [300u16, 1, 200]).map_err(Error::from);
+                text_of_made(heap, granted, set, debug)
             }
             Collection::Map => {
-                let map = Map::try_from_iter(heap, [(300u16, 5u16), (1, 40), (200, 5)])?;
-                heap.restart(granted);
-                Ok(text_of(heap, &map, debug))
+                let map = Map::try_from_iter(heap, [(300u16, 5u16), (1, 40), (200, 5)]);
+                text_of_made(heap, granted, map, debug)
             }
             Collection::BiMap => {
-                let bimap = BiMap::try_from_iter(heap, [(300u16, 60u16), (1, 40), (200, 5)])?;
-                heap.restart(granted);
-                Ok(text_of(heap, &bimap, debug))
+                let bimap = BiMap::try_from_iter(heap, [(300u16, 60u16), (1, 40), (200, 5)]);
+                text_of_made(heap, granted, bimap, debug)
             }
         }
     }
+}
+
+/// The text of a collection that was made, if it was.
+fn text_of_made<'a, T: Display + Debug + Drop>(
+    heap: Heap<'a>,
+    granted: u64,
+    made: Result<T, Error>,
+    debug: bool,
+) -> Result<Option<String<Heap<'a>>>, Error> {
+    let value = made?;
+    heap.restart(granted);
+    Ok(text_of(heap, &value, debug))
 }
 
 impl Refusable for Shown {

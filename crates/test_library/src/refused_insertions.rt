@@ -2,7 +2,7 @@
 //! turn, and lists that are sets already.
 use crate::builders::{BUILDERS, Builder};
 use crate::{refused_maps, refused_sets};
-use commonware_utils::ordered::{Error, Set};
+use commonware_utils::ordered::{Error, Map, Set};
 use test_equipment::Refusing;
 use test_equipment::walk::{Heap, Outcome, Refusable, full, makes_requests, refused};
 
@@ -17,7 +17,7 @@ enum Order {
     Mixed,
 }
 
-const ORDERS: [Order; 4] = [Order::Rising, Order::Falling, Order::Broken, Order::Mixed];
+static ORDERS: [Order; 4] = [Order::Rising, Order::Falling, Order::Broken, Order::Mixed];
 
 impl Order {
     /// The number at a position.
@@ -57,6 +57,11 @@ impl Order {
         }
         positions.len() == 40
     }
+
+    /// Whether the map has the numbers below 40, each with its position.
+    fn is_map(self, map: &Map<u32, u8, Heap<'_>>) -> bool {
+        are_all(map.keys().as_slice()) && self.rises_at(map.values())
+    }
 }
 
 /// Whether these are the numbers below 40, in order.
@@ -88,7 +93,7 @@ impl Refusable for MapOf {
         let pairs = self.1.pairs();
         heap.restart(granted);
         match refused_maps::build(self.0, heap, &pairs) {
-            Ok(map) => full(are_all(map.keys().as_slice()) && self.1.rises_at(map.values())),
+            Ok(map) => full(self.1.is_map(&map)),
             Err(error) => refused(error == Error::Memory),
         }
     }
@@ -96,9 +101,9 @@ impl Refusable for MapOf {
 
 #[test]
 fn each_request_of_a_set_is_refused_in_turn(rt: HostRuntime) {
-    for (place, order) in ORDERS.into_iter().enumerate() {
-        for (at, builder) in BUILDERS.into_iter().enumerate() {
-            let call = SetOf(builder, order);
+    for (place, order) in ORDERS.iter().enumerate() {
+        for (at, builder) in BUILDERS.iter().enumerate() {
+            let call = SetOf(*builder, *order);
             assert!(rt; makes_requests(rt.alloc(), &call, 1), "{place} {at}");
         }
     }
@@ -106,9 +111,9 @@ fn each_request_of_a_set_is_refused_in_turn(rt: HostRuntime) {
 
 #[test]
 fn each_request_of_a_map_is_refused_in_turn(rt: HostRuntime) {
-    for (place, order) in ORDERS.into_iter().enumerate() {
-        for (at, builder) in BUILDERS.into_iter().enumerate() {
-            let call = MapOf(builder, order);
+    for (place, order) in ORDERS.iter().enumerate() {
+        for (at, builder) in BUILDERS.iter().enumerate() {
+            let call = MapOf(*builder, *order);
             assert!(rt; makes_requests(rt.alloc(), &call, 1), "{place} {at}");
         }
     }

@@ -1,8 +1,8 @@
 //! Collections whose items take memory of their own, with each allocation failing in turn, so that
 //! the refusal falls on an item too: what was borrowed is as it was.
-use commonware_utils::NZUsize;
-use commonware_utils::ordered::{BiMap, Map, MapError, Set};
+use commonware_utils::ordered::{BiMap, Error, Map, MapError, Set};
 use commonware_utils::vec::{Bounded, NonEmptyVec};
+use commonware_utils::{NZUsize, vec};
 use std::alloc::AllocError;
 use test_equipment::walk::{Heap, Outcome, Refusable, full, makes_requests, refused};
 
@@ -10,11 +10,13 @@ type Item<'a> = Vec<u8, Heap<'a>>;
 
 type Pair<'a> = (Item<'a>, Item<'a>);
 
+type List<'a> = NonEmptyVec<Item<'a>, Heap<'a>>;
+
 /// The texts of three items, in no order.
-const TEXTS: [&[u8]; 3] = [b"cc", b"a", b"bbb"];
+static TEXTS: [&[u8]; 3] = [b"cc", b"a", b"bbb"];
 
 /// The same in order.
-const IN_ORDER: [&[u8]; 3] = [b"a", b"bbb", b"cc"];
+static IN_ORDER: [&[u8]; 3] = [b"a", b"bbb", b"cc"];
 
 /// An item of this text.
 fn item<'a>(heap: Heap<'a>, text: &[u8]) -> Result<Item<'a>, AllocError> {
@@ -33,10 +35,15 @@ fn items_of<'a>(heap: Heap<'a>, texts: &[&[u8]; 3]) -> Result<[Item<'a>; 3], All
 /// The items of these texts, each with a clone of itself.
 fn pairs_of<'a>(heap: Heap<'a>, texts: &[&[u8]; 3]) -> Result<[Pair<'a>; 3], AllocError> {
     Ok([
-        (item(heap, texts[0])?, item(heap, texts[0])?),
-        (item(heap, texts[1])?, item(heap, texts[1])?),
-        (item(heap, texts[2])?, item(heap, texts[2])?),
+        pair(heap, texts[0])?,
+        pair(heap, texts[1])?,
+        pair(heap, texts[2])?,
     ])
+}
+
+/// An item of this text, with a clone of itself.
+fn pair<'a>(heap: Heap<'a>, text: &[u8]) -> Result<Pair<'a>, AllocError> {
+    Ok((item(heap, text)?, item(heap, text)?))
 }
 
 /// Whether the items have these texts.
@@ -65,7 +72,7 @@ fn is_in_order(set: &Set<Item<'_>, Heap<'_>>) -> bool {
 }
 
 /// A call that clones the items of a slice or an array.
-#[derive(Clone, Copy, Debug)]
+#[derive(Clone, Copy)]
 enum Build {
     SetOfSlice,
     SetOfArray,
@@ -77,16 +84,26 @@ enum Build {
 /// allocation failure.
 fn built<'a>(call: Build, heap: Heap<'a>, items: &[Item<'a>; 3]) -> Option<bool> {
     match call {
-        Build::SetOfSlice => Some(is_in_order(&Set::try_from_slice(heap, items).ok()?)),
-        Build::SetOfArray => Some(is_in_order(&Set::try_from_array_ref(heap, items).ok()?)),
-        Build::ListOfSlice => {
-            let list = NonEmptyVec::try_from_slice(heap, items).ok()?;
-            Some(are(list.as_slice(), &TEXTS))
-        }
-        Build::ListOfArray => {
-            let list = NonEmptyVec::try_from_array_ref(heap, items).ok()?;
-            Some(are(list.as_slice(), &TEXTS))
-        }
+        Build::SetOfSlice => set_is_right(Set::try_from_slice(heap, items)),
+        Build::SetOfArray => set_is_right(Set::try_from_array_ref(heap, items)),
+        Build::ListOfSlice => list_is_right(NonEmptyVec::try_from_slice(heap, items)),
+        Build::ListOfArray => list_is_right(NonEmptyVec::try_from_array_ref(heap, items)),
+    }
+}
+
+/// Whether the set is in order, if it is there.
+fn set_is_right(set: Result<Set<Item<'_>, Heap<'_>>, Error>) -> Option<bool> {
+    match set {
+        Ok(set) => Some(is_in_order(&set)),
+        Err(_) => None,
+    }
+}
+
+/// Whether the list has the texts as they were given, if it is there.
+fn list_is_right(list: Result<List<'_>, vec::Error>) -> Option<bool> {
+    match list {
+        Ok(list) => Some(are(list.as_slice(), &TEXTS)),
+        Err(_) => None,
     }
 }
 
@@ -106,7 +123,7 @@ impl Refusable for Build {
 }
 
 /// A call that clones the pairs of a slice or an array.
-#[derive(Clone, Copy, Debug)]
+#[derive(Clone, Copy)]
 enum BuildPairs {
     MapOfSlice,
     MapOfArray,
@@ -131,15 +148,28 @@ fn bimap_is_in_order(bimap: &ItemsBothWays<'_>) -> bool {
 /// What the call returns for the pairs, as whether it is right. `None` if it was refused by an
 /// allocation failure.
 fn built_of_pairs<'a>(call: BuildPairs, heap: Heap<'a>, pairs: &[Pair<'a>; 3]) -> Option<bool> {
-    let right = match call {
-        BuildPairs::MapOfSlice => map_is_in_order(&Map::try_from_slice(heap, pairs).ok()?),
-        BuildPairs::MapOfArray => map_is_in_order(&Map::try_from_array_ref(heap, pairs).ok()?),
-        BuildPairs::BiMapOfSlice => bimap_is_in_order(&BiMap::try_from_slice(heap, pairs).ok()?),
-        BuildPairs::BiMapOfArray => {
-            bimap_is_in_order(&BiMap::try_from_array_ref(heap, pairs).ok()?)
-        }
-    };
-    Some(right)
+    match call {
+        BuildPairs::MapOfSlice => map_is_right(Map::try_from_slice(heap, pairs)),
+        BuildPairs::MapOfArray => map_is_right(Map::try_from_array_ref(heap, pairs)),
+        BuildPairs::BiMapOfSlice => bimap_is_right(BiMap::try_from_slice(heap, pairs)),
+        BuildPairs::BiMapOfArray => bimap_is_right(BiMap::try_from_array_ref(heap, pairs)),
+    }
+}
+
+/// Whether the map is in order, if it is there.
+fn map_is_right(map: Result<Items<'_>, Error>) -> Option<bool> {
+    match map {
+        Ok(map) => Some(map_is_in_order(&map)),
+        Err(_) => None,
+    }
+}
+
+/// The same of a bimap.
+fn bimap_is_right(bimap: Result<ItemsBothWays<'_>, Error>) -> Option<bool> {
+    match bimap {
+        Ok(bimap) => Some(bimap_is_in_order(&bimap)),
+        Err(_) => None,
+    }
 }
 
 impl Refusable for BuildPairs {
@@ -162,18 +192,30 @@ struct Resize;
 
 impl Refusable for Resize {
     fn outcome(&self, heap: Heap<'_>, granted: u64) -> Outcome {
-        let (Ok(items), Ok(more)) = (items_of(heap, &TEXTS), item(heap, b"dd")) else {
+        let Some(mut list) = list(heap) else {
             return Outcome::Wrong;
         };
-        let Ok(mut list) = NonEmptyVec::try_from_array(heap, items) else {
+        let Ok(more) = item(heap, b"dd") else {
             return Outcome::Wrong;
         };
         heap.restart(granted);
-        let grown: [&[u8]; 5] = [b"cc", b"a", b"bbb", b"dd", b"dd"];
-        match list.resize(NZUsize!(5), more) {
-            Ok(()) => full(are(list.as_slice(), &grown)),
-            Err(_) => refused(are(list.as_slice(), &TEXTS)),
-        }
+        resized(&mut list, more)
+    }
+}
+
+/// A list of the three items.
+fn list(heap: Heap<'_>) -> Option<List<'_>> {
+    NonEmptyVec::try_from_array(heap, items_of(heap, &TEXTS).ok()?).ok()
+}
+
+/// The texts of the list of five.
+static RESIZED: [&[u8]; 5] = [b"cc", b"a", b"bbb", b"dd", b"dd"];
+
+/// The outcome of the list of three items made one of five.
+fn resized<'a>(list: &mut List<'a>, more: Item<'a>) -> Outcome {
+    match list.resize(NZUsize!(5), more) {
+        Ok(()) => full(are(list.as_slice(), &RESIZED)),
+        Err(_) => refused(are(list.as_slice(), &TEXTS)),
     }
 }
 
@@ -182,27 +224,46 @@ struct QueueClone;
 
 impl Refusable for QueueClone {
     fn outcome(&self, heap: Heap<'_>, granted: u64) -> Outcome {
-        let (Ok(items), Ok(others)) = (items_of(heap, &TEXTS), items_of(heap, &TEXTS)) else {
+        let Some(queue) = queue(heap) else {
             return Outcome::Wrong;
         };
-        let mut queue = Bounded::new(heap, NZUsize!(3));
-        for item in items {
-            if queue.push(item) != Ok(None) {
-                return Outcome::Wrong;
-            }
-        }
+        let Ok(items) = items_of(heap, &TEXTS) else {
+            return Outcome::Wrong;
+        };
         heap.restart(granted);
-        let clone: Result<_, _> = queue.clone();
-        let unchanged = queue.iter().eq(others.iter());
-        match clone {
-            Ok(clone) => full(unchanged && clone == queue),
-            Err(_) => refused(unchanged),
+        let outcome = queue_cloned(&queue);
+        if queue.iter().eq(items.iter()) {
+            outcome
+        } else {
+            Outcome::Wrong
         }
     }
 }
 
+type Queue<'a> = Bounded<Item<'a>, Heap<'a>>;
+
+/// A queue of the three items.
+fn queue(heap: Heap<'_>) -> Option<Queue<'_>> {
+    let mut queue = Bounded::new(heap, NZUsize!(3));
+    for text in &TEXTS {
+        if queue.push(item(heap, text).ok()?) != Ok(None) {
+            return None;
+        }
+    }
+    Some(queue)
+}
+
+/// The outcome of a clone of the queue.
+fn queue_cloned(queue: &Queue<'_>) -> Outcome {
+    let clone: Result<_, _> = queue.clone();
+    match clone {
+        Ok(clone) => full(clone == *queue),
+        Err(_) => refused(true),
+    }
+}
+
 /// The values of a map, by clones of its keys.
-#[derive(Clone, Copy, Debug)]
+#[derive(Clone, Copy)]
 enum MapValues {
     Mapped,
     Tried,
@@ -210,54 +271,87 @@ enum MapValues {
 
 impl Refusable for MapValues {
     fn outcome(&self, heap: Heap<'_>, granted: u64) -> Outcome {
-        let Ok(pairs) = pairs_of(heap, &TEXTS) else {
+        let Some(map) = map(heap) else {
             return Outcome::Wrong;
-        };
-        let Ok(map) = Map::try_from_array(heap, pairs) else {
-            return Outcome::Wrong;
-        };
-        let mut calls = 0u32;
-        let mut length = |value: &Item<'_>| {
-            calls = calls.saturating_add(1);
-            value.len()
         };
         heap.restart(granted);
-        let lengths: Result<Map<Item<'_>, usize, Heap<'_>>, MapError<()>> = match self {
-            MapValues::Mapped => map
-                .map_values(|_, value| length(value))
-                .map_err(MapError::from),
-            MapValues::Tried => map.try_map_values(|_, value| Ok(length(value))),
-        };
-        let unchanged = map_is_in_order(&map);
-        match lengths {
-            Ok(lengths) => full(unchanged && lengths.values() == [1, 3, 2].as_slice()),
-            Err(_) => refused(unchanged && calls == if granted == 0 { 0 } else { 3 }),
+        let (lengths, calls) = self.lengths(&map);
+        let outcome = outcome_of(lengths, calls == if granted == 0 { 0 } else { 3 });
+        if map_is_in_order(&map) {
+            outcome
+        } else {
+            Outcome::Wrong
         }
     }
 }
+
+/// The length of an item, which is counted.
+fn length(item: &Item<'_>, calls: &mut u32) -> usize {
+    *calls = calls.saturating_add(1);
+    item.len()
+}
+
+/// The map of the three items with themselves.
+fn map(heap: Heap<'_>) -> Option<Items<'_>> {
+    Map::try_from_array(heap, pairs_of(heap, &TEXTS).ok()?).ok()
+}
+
+/// The lengths of items by the items.
+type Lengths<'a> = Map<Item<'a>, usize, Heap<'a>>;
+
+impl MapValues {
+    /// The lengths of the map's values, and how often the closure was called.
+    fn lengths<'a>(&self, map: &Items<'a>) -> (Result<Lengths<'a>, MapError<()>>, u32) {
+        let mut calls = 0u32;
+        let lengths = match self {
+            MapValues::Mapped => map
+                .map_values(|_, value| length(value, &mut calls))
+                .map_err(MapError::from),
+            MapValues::Tried => map.try_map_values(|_, value| Ok(length(value, &mut calls))),
+        };
+        (lengths, calls)
+    }
+}
+
+/// The outcome of lengths that are there, or of a refusal that came in time or not.
+fn outcome_of(lengths: Result<Lengths<'_>, MapError<()>>, in_time: bool) -> Outcome {
+    match lengths {
+        Ok(lengths) => full(lengths.values() == [1, 3, 2].as_slice()),
+        Err(_) => refused(in_time),
+    }
+}
+
+/// Each call that clones items.
+static BUILDS: [Build; 4] = [
+    Build::SetOfSlice,
+    Build::SetOfArray,
+    Build::ListOfSlice,
+    Build::ListOfArray,
+];
+
+/// Each call that clones pairs.
+static BUILDS_OF_PAIRS: [BuildPairs; 4] = [
+    BuildPairs::MapOfSlice,
+    BuildPairs::MapOfArray,
+    BuildPairs::BiMapOfSlice,
+    BuildPairs::BiMapOfArray,
+];
+
+/// Each call that maps values.
+static MAPPINGS: [MapValues; 2] = [MapValues::Mapped, MapValues::Tried];
 
 /// At least one request for each clone, and one for the room of each list of them.
 #[test]
 fn each_request_is_refused_in_turn(rt: HostRuntime) {
     let alloc = rt.alloc();
-    for call in [
-        Build::SetOfSlice,
-        Build::SetOfArray,
-        Build::ListOfSlice,
-        Build::ListOfArray,
-    ] {
-        assert!(rt; makes_requests(alloc, &call, 4), "{call:?}");
+    for (at, call) in BUILDS.iter().enumerate() {
+        assert!(rt; makes_requests(alloc, call, 4), "items: {at}");
     }
-    for call in [
-        BuildPairs::MapOfSlice,
-        BuildPairs::MapOfArray,
-        BuildPairs::BiMapOfSlice,
-        BuildPairs::BiMapOfArray,
-    ] {
-        assert!(rt; makes_requests(alloc, &call, 8), "{call:?}");
+    for (at, call) in BUILDS_OF_PAIRS.iter().enumerate() {
+        assert!(rt; makes_requests(alloc, call, 8), "pairs: {at}");
     }
-    for call in [MapValues::Mapped, MapValues::Tried] {
-        assert!(rt; makes_requests(alloc, &call, 5), "{call:?}");
+    for (at, call) in MAPPINGS.iter().enumerate() {
+        assert!(rt; makes_requests(alloc, call, 5), "values: {at}");
     }
     assert!(rt; makes_requests(alloc, &Resize, 2) && makes_requests(alloc, &QueueClone, 4));
 }

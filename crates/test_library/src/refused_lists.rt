@@ -31,7 +31,7 @@ struct Growth {
     grown: &'static [u8],
 }
 
-const GROWTHS: [Growth; 5] = [
+static GROWTHS: [Growth; 5] = [
     Growth {
         call: Grow::Push,
         grown: &[1, 2, 3, 9],
@@ -60,35 +60,46 @@ fn refusal_of(call: Grow, list: &mut List<'_>) -> Option<bool> {
     match call {
         Grow::Push => Some(list.push(9).err()? == 9),
         Grow::Insert => Some(list.insert(0, 9).err()? == 9),
-        Grow::Extend => {
-            list.extend((4u8..=15).filter(|item| *item > 0)).err()?;
-            Some(true)
-        }
-        Grow::Resize => {
-            list.resize(NZUsize!(5), 9).err()?;
-            Some(true)
-        }
+        Grow::Extend => is_not_extended(list).then_some(true),
+        Grow::Resize => list.resize(NZUsize!(5), 9).is_err().then_some(true),
         Grow::ResizeWith => {
-            let mut calls = 0u32;
-            list.resize_with(NZUsize!(5), || {
-                calls = calls.saturating_add(1);
-                9
-            })
-            .err()?;
-            Some(calls == 0)
+            let (refused, calls) = resizing(list);
+            refused.then_some(calls == 0)
+        }
+    }
+}
+
+/// Whether the list refuses the numbers from 4 to 15, of an iterator that may give none of them.
+fn is_not_extended(list: &mut List<'_>) -> bool {
+    list.extend((4u8..=15).filter(|item| *item > 0)).is_err()
+}
+
+/// Whether the list refuses to be one of five by calls of a closure, and how many of these it made.
+fn resizing(list: &mut List<'_>) -> (bool, u32) {
+    let mut calls = 0u32;
+    let resized = list.resize_with(NZUsize!(5), || {
+        calls = calls.saturating_add(1);
+        9
+    });
+    (resized.is_err(), calls)
+}
+
+impl Growth {
+    /// The outcome of the call on this list, which is 1, 2, 3.
+    fn grow(&self, heap: Heap<'_>, granted: u64, list: &mut List<'_>) -> Outcome {
+        heap.restart(granted);
+        match refusal_of(self.call, list) {
+            None => full(list.as_slice() == self.grown),
+            Some(right) => if_unchanged(list, refused(right)),
         }
     }
 }
 
 impl Refusable for Growth {
     fn outcome(&self, heap: Heap<'_>, granted: u64) -> Outcome {
-        let Ok(mut list) = three(heap) else {
-            return Outcome::Wrong;
-        };
-        heap.restart(granted);
-        match refusal_of(self.call, &mut list) {
-            None => full(list.as_slice() == self.grown),
-            Some(right) => refused(right && list.as_slice() == [1, 2, 3].as_slice()),
+        match three(heap) {
+            Ok(mut list) => self.grow(heap, granted, &mut list),
+            Err(_) => Outcome::Wrong,
         }
     }
 
@@ -113,7 +124,7 @@ enum Make {
 }
 
 /// Each of them, and the list that it makes.
-const MAKES: [(Make, &[u8]); 10] = [
+static MAKES: [(Make, &[u8]); 10] = [
     (Make::One, &[7]),
     (Make::Iterator, &[1, 2, 3]),
     (Make::Collect, &[1, 2, 3]),
@@ -166,14 +177,21 @@ fn if_unchanged(list: &List<'_>, outcome: Outcome) -> Outcome {
 #[derive(Drop)]
 struct Making(Make, &'static [u8]);
 
+impl Making {
+    /// The outcome of the call on this list, which is 1, 2, 3 and has to stay.
+    fn make<'a>(&self, heap: Heap<'a>, granted: u64, list: &List<'a>) -> Outcome {
+        heap.restart(granted);
+        let outcome = outcome_of(made_by(self.0, heap, list.as_slice()), self.1, 0);
+        if_unchanged(list, outcome)
+    }
+}
+
 impl Refusable for Making {
     fn outcome(&self, heap: Heap<'_>, granted: u64) -> Outcome {
-        let Ok(list) = three(heap) else {
-            return Outcome::Wrong;
-        };
-        heap.restart(granted);
-        let made = made_by(self.0, heap, list.as_slice());
-        if_unchanged(&list, outcome_of(made, self.1, 0))
+        match three(heap) {
+            Ok(list) => self.make(heap, granted, &list),
+            Err(_) => Outcome::Wrong,
+        }
     }
 }
 
@@ -185,7 +203,7 @@ enum Remake {
     MapInto,
 }
 
-const REMAKES: [Remake; 3] = [Remake::Clone, Remake::Map, Remake::MapInto];
+static REMAKES: [Remake; 3] = [Remake::Clone, Remake::Map, Remake::MapInto];
 
 /// A clone of the list.
 fn cloned<'a>(list: &List<'a>) -> Result<List<'a>, Error> {
@@ -198,25 +216,27 @@ fn counted(item: u8, calls: &mut u32) -> u8 {
     item
 }
 
-/// What the call returns for the list, borrowed and owned, and how often a closure was called.
-fn remade_by<'a>(call: Remake, list: &List<'a>, owned: List<'a>) -> (Result<List<'a>, Error>, u32) {
+/// The outcome of the call on 1, 2, 3, borrowed and owned, with no closure called before a failure.
+fn remade_by<'a>(call: Remake, list: &List<'a>, owned: List<'a>) -> Outcome {
     let mut calls = 0u32;
     let made = match call {
         Remake::Clone => cloned(list),
         Remake::Map => list.map(|item| counted(*item, &mut calls)),
         Remake::MapInto => owned.map_into(|item| counted(item, &mut calls)),
     };
-    (made, calls)
+    outcome_of(made, &[1, 2, 3], calls)
 }
 
 impl Refusable for Remake {
     fn outcome(&self, heap: Heap<'_>, granted: u64) -> Outcome {
-        let (Ok(list), Ok(owned)) = (three(heap), three(heap)) else {
+        let Ok(list) = three(heap) else {
+            return Outcome::Wrong;
+        };
+        let Ok(owned) = three(heap) else {
             return Outcome::Wrong;
         };
         heap.restart(granted);
-        let (made, calls) = remade_by(*self, &list, owned);
-        if_unchanged(&list, outcome_of(made, &[1, 2, 3], calls))
+        if_unchanged(&list, remade_by(*self, &list, owned))
     }
 }
 
@@ -228,9 +248,9 @@ fn each_request_is_refused_in_turn(rt: HostRuntime) {
             "a longer list: {at}"
         );
     }
-    for (at, (call, items)) in MAKES.into_iter().enumerate() {
+    for (at, (call, items)) in MAKES.iter().enumerate() {
         assert!(rt;
-            makes_requests(rt.alloc(), &Making(call, items), 1),
+            makes_requests(rt.alloc(), &Making(*call, items), 1),
             "a list: {at}"
         );
     }

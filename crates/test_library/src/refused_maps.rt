@@ -1,6 +1,6 @@
 //! The builders of maps and their pairs with each allocation failing in turn, and the calls that
 //! allocate nothing.
-use crate::builders::{BUILDERS, Builder};
+use crate::builders::{BUILDERS, Builder, outcome_of_error};
 use commonware_utils::codec::EncodeSize;
 use commonware_utils::ordered::{Error, Map, Set};
 use commonware_utils::{TryCollect, TryFromIterator};
@@ -8,11 +8,13 @@ use std::alloc::AllocError;
 use test_equipment::Refusing;
 use test_equipment::walk::{Heap, Outcome, Refusable, full, makes_requests, refused};
 
+type Numbers<'a> = Map<u32, u8, Heap<'a>>;
+
 /// Pairs of different keys.
-const PAIRS: [(u32, u8); 4] = [(5, 50), (1, 10), (9, 90), (3, 30)];
+static PAIRS: [(u32, u8); 4] = [(5, 50), (1, 10), (9, 90), (3, 30)];
 
 /// Pairs of which two have the key 5.
-const REPEAT: [(u32, u8); 4] = [(5, 50), (1, 10), (5, 90), (3, 30)];
+static REPEAT: [(u32, u8); 4] = [(5, 50), (1, 10), (5, 90), (3, 30)];
 
 /// What the builder returns for the pairs.
 pub(super) fn build<'a, const N: usize>(
@@ -21,14 +23,19 @@ pub(super) fn build<'a, const N: usize>(
     pairs: &[(u32, u8); N],
 ) -> Result<Map<u32, u8, Heap<'a>>, Error> {
     match builder {
-        Builder::Dedup => Ok(Map::from_iter_dedup(heap, pairs.iter().copied())?),
+        Builder::Dedup => Map::from_iter_dedup(heap, pairs.iter().copied()).map_err(Error::from),
         Builder::Iterator => Map::try_from_iter(heap, pairs.iter().copied()),
         Builder::Collect => TryCollect::try_collect(pairs.iter().copied(), heap),
-        Builder::List => Map::try_from_vec(Vec::from_slice(heap, pairs)?),
+        Builder::List => of_list(heap, pairs),
         Builder::Slice => Map::try_from_slice(heap, pairs),
         Builder::Array => Map::try_from_array(heap, *pairs),
         Builder::ArrayRef => Map::try_from_array_ref(heap, pairs),
     }
+}
+
+/// The map of a list of the pairs.
+fn of_list<'a>(heap: Heap<'a>, pairs: &[(u32, u8)]) -> Result<Numbers<'a>, Error> {
+    Map::try_from_vec(Vec::from_slice(heap, pairs)?)
 }
 
 /// The keys and the values of a map, or the repeat.
@@ -38,22 +45,26 @@ type Answer = Result<(&'static [u32], &'static [u8]), Error>;
 #[derive(Drop)]
 struct Building {
     builder: Builder,
-    pairs: [(u32, u8); 4],
+    pairs: &'static [(u32, u8); 4],
     answer: Answer,
+}
+
+impl Building {
+    /// Whether the map has the keys and values that it has to have.
+    fn is_answered(&self, map: &Numbers<'_>) -> bool {
+        match &self.answer {
+            Ok((keys, values)) => map.keys().as_slice() == *keys && map.values() == *values,
+            Err(_) => false,
+        }
+    }
 }
 
 impl Refusable for Building {
     fn outcome(&self, heap: Heap<'_>, granted: u64) -> Outcome {
         heap.restart(granted);
-        match build(self.builder, heap, &self.pairs) {
-            Ok(map) => match &self.answer {
-                Ok((keys, values)) => {
-                    full(map.keys().as_slice() == *keys && map.values() == *values)
-                }
-                Err(_) => Outcome::Wrong,
-            },
-            Err(Error::Memory) => refused(true),
-            Err(error) => full(matches!(&self.answer, Err(wanted) if error == *wanted)),
+        match build(self.builder, heap, self.pairs) {
+            Ok(map) => full(self.is_answered(&map)),
+            Err(error) => outcome_of_error(error, self.answer.as_ref().err()),
         }
     }
 
@@ -88,24 +99,22 @@ fn answer_of_repeat(builder: Builder) -> Answer {
 
 #[test]
 fn each_request_is_refused_in_turn(rt: HostRuntime) {
-    for (at, builder) in BUILDERS.into_iter().enumerate() {
+    for (at, builder) in BUILDERS.iter().enumerate() {
         let four = Building {
-            builder,
-            pairs: PAIRS,
+            builder: *builder,
+            pairs: &PAIRS,
             answer: Ok((&[1, 3, 5, 9], &[10, 30, 50, 90])),
         };
+        assert!(rt; makes_requests(rt.alloc(), &four, 3), "{at}");
         let repeat = Building {
-            builder,
-            pairs: REPEAT,
-            answer: answer_of_repeat(builder),
+            builder: *builder,
+            pairs: &REPEAT,
+            answer: answer_of_repeat(*builder),
         };
-        let right = makes_requests(rt.alloc(), &four, 3) && makes_requests(rt.alloc(), &repeat, 1);
-        assert!(rt; right, "{at}");
+        assert!(rt; makes_requests(rt.alloc(), &repeat, 1), "{at}");
     }
     assert!(rt; makes_requests(rt.alloc(), &IntoPairs, 1));
 }
-
-type Numbers<'a> = Map<u32, u8, Heap<'a>>;
 
 /// Whether the map of the pairs is looked up.
 fn is_looked_up(map: &Numbers<'_>) -> bool {

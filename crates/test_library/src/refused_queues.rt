@@ -12,26 +12,31 @@ struct Pushes;
 impl Refusable for Pushes {
     fn outcome(&self, heap: Heap<'_>, granted: u64) -> Outcome {
         let mut queue = Bounded::new(heap, NZUsize!(5));
-        let mut came_back = false;
         heap.restart(granted);
-        for item in 1u8..=5 {
-            let before = queue.len();
-            let mut answer = queue.push(item);
-            if answer == Err(item) && queue.len() == before {
-                came_back = true;
-                heap.relent();
-                answer = queue.push(item);
-            }
-            if answer != Ok(None) {
-                return Outcome::Wrong;
-            }
+        pushed(heap, &mut queue)
+    }
+}
+
+/// The outcome of the five pushes into an empty queue.
+fn pushed<'a>(heap: Heap<'a>, queue: &mut Bounded<u8, Heap<'a>>) -> Outcome {
+    let mut came_back = false;
+    for item in 1u8..=5 {
+        let before = queue.len();
+        let mut answer = queue.push(item);
+        if answer == Err(item) && queue.len() == before {
+            came_back = true;
+            heap.relent();
+            answer = queue.push(item);
         }
-        let right = queue.iter().eq([1, 2, 3, 4, 5].iter());
-        if came_back {
-            refused(right)
-        } else {
-            full(right)
+        if answer != Ok(None) {
+            return Outcome::Wrong;
         }
+    }
+    let right = queue.iter().eq([1, 2, 3, 4, 5].iter());
+    if came_back {
+        refused(right)
+    } else {
+        full(right)
     }
 }
 

@@ -1,15 +1,15 @@
 //! The builders of sets with each allocation failing in turn, and the calls on sets that allocate
 //! nothing.
-use crate::builders::{BUILDERS, Builder};
+use crate::builders::{BUILDERS, Builder, outcome_of_error};
 use commonware_utils::codec::EncodeSize;
 use commonware_utils::ordered::{Error, Quorum, Set};
 use commonware_utils::{N3f1, N5f1, Participant, TryCollect, TryFromIterator};
 use std::alloc::Global;
 use test_equipment::Refusing;
-use test_equipment::walk::{Heap, Outcome, Refusable, full, makes_requests, refused};
+use test_equipment::walk::{Heap, Outcome, Refusable, full, makes_requests};
 
 /// Items, and the set of them if all differ.
-const ITEMS: [([u32; 5], &[u32], bool); 3] = [
+static ITEMS: [([u32; 5], &[u32], bool); 3] = [
     ([5, 1, 3, 11, 9], &[1, 3, 5, 9, 11], true),
     ([5, 1, 5, 9, 3], &[1, 3, 5, 9], false),
     ([5, 1, 3, 1, 9], &[1, 3, 5, 9], false),
@@ -22,31 +22,35 @@ pub(super) fn build<'a, const N: usize>(
     items: &[u32; N],
 ) -> Result<Set<u32, Heap<'a>>, Error> {
     match builder {
-        Builder::Dedup => Ok(Set::from_iter_dedup(heap, items.iter().copied())?),
+        Builder::Dedup => Set::from_iter_dedup(heap, items.iter().copied()).map_err(Error::from),
         Builder::Iterator => Set::try_from_iter(heap, items.iter().copied()),
         Builder::Collect => TryCollect::try_collect(items.iter().copied(), heap),
-        Builder::List => Set::try_from_vec(Vec::from_slice(heap, items)?),
+        Builder::List => of_list(heap, items),
         Builder::Slice => Set::try_from_slice(heap, items),
         Builder::Array => Set::try_from_array(heap, *items),
         Builder::ArrayRef => Set::try_from_array_ref(heap, items),
     }
 }
 
-/// A builder at some items, and what it has to return.
-#[derive(Drop)]
-struct Building {
-    builder: Builder,
-    items: [u32; 5],
-    answer: Result<&'static [u32], Error>,
+/// The set of a list of the items.
+fn of_list<'a>(heap: Heap<'a>, items: &[u32]) -> Result<Set<u32, Heap<'a>>, Error> {
+    Set::try_from_vec(Vec::from_slice(heap, items)?)
 }
 
-impl Refusable for Building {
+/// A builder at some items, and what it has to return.
+#[derive(Drop)]
+struct Building<'a> {
+    builder: Builder,
+    items: &'a [u32; 5],
+    answer: Result<&'a [u32], Error>,
+}
+
+impl<'b> Refusable for Building<'b> {
     fn outcome(&self, heap: Heap<'_>, granted: u64) -> Outcome {
         heap.restart(granted);
-        match build(self.builder, heap, &self.items) {
+        match build(self.builder, heap, self.items) {
             Ok(set) => full(matches!(&self.answer, Ok(items) if set.as_slice() == *items)),
-            Err(Error::Memory) => refused(true),
-            Err(error) => full(matches!(&self.answer, Err(wanted) if error == *wanted)),
+            Err(error) => outcome_of_error(error, self.answer.as_ref().err()),
         }
     }
 
@@ -59,11 +63,11 @@ impl Refusable for Building {
 fn is_right(alloc: Global, builder: Builder) -> bool {
     let keeps_first = matches!(builder, Builder::Dedup);
     let least = if keeps_first { 2 } else { 1 };
-    for (items, set, differ) in ITEMS {
+    for (items, set, differ) in &ITEMS {
         let call = Building {
             builder,
             items,
-            answer: if differ || keeps_first {
+            answer: if *differ || keeps_first {
                 Ok(set)
             } else {
                 Err(Error::DuplicateKey)
@@ -85,12 +89,12 @@ fn each_request_is_refused_in_turn(rt: HostRuntime) {
 
 /// Whether {1, 3, 5} is read by its places.
 fn is_read(set: &Set<u32, Heap<'_>>) -> bool {
-    set.len() == 3
-        && set[0] == 1
-        && set.slice(1..3) == [3, 5].as_slice()
-        && set.get(1) == Some(&3)
-        && set.position(&5) == Some(2)
-        && set.iter().next_back() == Some(&5)
+    set.len() == 3 && set[0] == 1 && set.slice(1..3) == [3, 5].as_slice()
+}
+
+/// Whether {1, 3, 5} is looked up.
+fn is_looked_up(set: &Set<u32, Heap<'_>>) -> bool {
+    set.get(1) == Some(&3) && set.position(&5) == Some(2) && set.iter().next_back() == Some(&5)
 }
 
 /// Whether {1, 3, 5} is a committee of three.
@@ -106,6 +110,11 @@ fn is_before<'a>(set: &Set<u32, Heap<'a>>, other: &Set<u32, Heap<'a>>) -> bool {
     *set < *other && *set != *other && set.is_writable()
 }
 
+/// Whether {1, 3, 5} is read and comes before {1, 5}.
+fn are_right<'a>(set: &Set<u32, Heap<'a>>, other: &Set<u32, Heap<'a>>) -> bool {
+    is_read(set) && is_looked_up(set) && is_committee(set) && is_before(set, other)
+}
+
 /// Whether the items of {1, 3, 5} and the last of {1, 5} are consumed.
 fn are_given_up(set: Set<u32, Heap<'_>>, other: Set<u32, Heap<'_>>) -> bool {
     let last = other.into_iter().next_back();
@@ -119,9 +128,8 @@ fn sets_are_read_compared_and_given_up_without_memory(rt: HostRuntime) {
     let set = Set::from_iter_dedup(&heap, [5u32, 1, 3]).expect(&rt, "memory");
     let other = Set::from_iter_dedup(&heap, [5u32, 1]).expect(&rt, "memory");
     heap.restart(0);
-    let read = is_read(&set) && is_committee(&set) && is_before(&set, &other);
-    let given_up = are_given_up(set, other);
-    assert!(rt; read && given_up && !heap.has_refused());
+    assert!(rt; are_right(&set, &other));
+    assert!(rt; are_given_up(set, other) && !heap.has_refused());
 }
 
 #[test]

@@ -9,7 +9,7 @@ struct Union {
     whole: &'static [u8],
 }
 
-const UNIONS: [Union; 2] = [
+static UNIONS: [Union; 2] = [
     Union {
         counted: false,
         whole: b"\x01\x02\x03\x04\x05\x06",
@@ -38,7 +38,7 @@ impl Refusable for Union {
 
 #[test]
 fn a_refused_union_gives_nothing(rt: HostRuntime) {
-    for union in UNIONS {
-        assert!(rt; makes_requests(rt.alloc(), &union, 1), "{}", union.counted);
+    for union in &UNIONS {
+        assert!(rt; makes_requests(rt.alloc(), union, 1), "{}", union.counted);
     }
 }

@@ -3,27 +3,30 @@
 use commonware_utils::ordered::{Map, MapError, Set};
 use test_equipment::walk::{Heap, Outcome, Refusable, full, refused, requests};
 
-/// A call that maps the values of a map.
+/// How the values of a map are mapped.
+#[derive(Clone, Copy)]
+enum Way {
+    Mapped,
+    Tried,
+    /// As the one before, with a closure that fails.
+    Failed,
+}
+
+/// A call that maps the values of a map, which is borrowed or consumed.
 #[derive(Clone, Copy)]
 enum Call {
-    Lent,
-    LentTried,
-    /// As the one before, with a closure that fails.
-    LentFailed,
-    Owned,
-    OwnedTried,
-    /// As the one before, with a closure that fails.
-    OwnedFailed,
+    Lent(Way),
+    Owned(Way),
 }
 
 /// Each call, and how many requests it makes: room for the values and the clone of the keys.
-const CALLS: [(Call, u64); 6] = [
-    (Call::Lent, 2),
-    (Call::LentTried, 2),
-    (Call::LentFailed, 1),
-    (Call::Owned, 1),
-    (Call::OwnedTried, 1),
-    (Call::OwnedFailed, 1),
+static CALLS: [(Call, u64); 6] = [
+    (Call::Lent(Way::Mapped), 2),
+    (Call::Lent(Way::Tried), 2),
+    (Call::Lent(Way::Failed), 1),
+    (Call::Owned(Way::Mapped), 1),
+    (Call::Owned(Way::Tried), 1),
+    (Call::Owned(Way::Failed), 1),
 ];
 
 type Tens<'a> = Map<u8, u8, Heap<'a>>;
@@ -40,50 +43,69 @@ fn half(value: u8, calls: &mut u32) -> u8 {
     value / 2
 }
 
-/// What the call returns where the closure halves a value or fails with its key, and how often the
-/// closure was called.
-fn call_on<'a>(
-    call: Call,
-    map: &Tens<'a>,
-    owned: Tens<'a>,
-) -> (Result<Tens<'a>, MapError<u8>>, u32) {
+/// The outcome of the call on a borrowed map where the closure halves a value or fails with its
+/// key.
+fn lent(way: Way, map: &Tens<'_>, granted: u64) -> Outcome {
     let mut calls = 0u32;
-    let answer = match call {
-        Call::Lent => map
+    let answer = match way {
+        Way::Mapped => map
             .map_values(|_, value| half(*value, &mut calls))
             .map_err(MapError::from),
-        Call::LentTried => map.try_map_values(|_, value| Ok(half(*value, &mut calls))),
-        Call::LentFailed => map.try_map_values(|key, _| Err(*key)),
-        Call::Owned => owned
+        Way::Tried => map.try_map_values(|_, value| Ok(half(*value, &mut calls))),
+        Way::Failed => map.try_map_values(|key, _| Err(*key)),
+    };
+    outcome_of(answer, calls, granted)
+}
+
+/// The same of the call that consumes the map.
+fn owned(way: Way, map: Tens<'_>, granted: u64) -> Outcome {
+    let mut calls = 0u32;
+    let answer = match way {
+        Way::Mapped => map
             .map_values_into(|_, value| half(value, &mut calls))
             .map_err(MapError::from),
-        Call::OwnedTried => owned.try_map_values_into(|_, value| Ok(half(value, &mut calls))),
-        Call::OwnedFailed => owned.try_map_values_into(|key, _| Err(*key)),
+        Way::Tried => map.try_map_values_into(|_, value| Ok(half(value, &mut calls))),
+        Way::Failed => map.try_map_values_into(|key, _| Err(*key)),
     };
-    (answer, calls)
+    outcome_of(answer, calls, granted)
 }
 
 /// The outcome of a result and of the calls of the closure, where `granted` requests were granted.
-fn outcome_of(answer: (Result<Tens<'_>, MapError<u8>>, u32), granted: u64) -> Outcome {
-    match answer.0 {
+fn outcome_of(answer: Result<Tens<'_>, MapError<u8>>, calls: u32, granted: u64) -> Outcome {
+    match answer {
         Ok(halves) => full(halves.values() == [5, 10, 15].as_slice()),
         Err(MapError::Closure(key)) => full(key == 1),
         // The second request is for the clone of the keys, after the last call.
-        Err(MapError::Memory) => refused(answer.1 == if granted == 0 { 0 } else { 3 }),
+        Err(MapError::Memory) => refused(calls == if granted == 0 { 0 } else { 3 }),
+    }
+}
+
+/// The outcome of the call on a borrowed map, which has to stay as it is.
+fn lent_and_kept(way: Way, map: &Tens<'_>, granted: u64) -> Outcome {
+    let outcome = lent(way, map, granted);
+    if map.values() == [10, 20, 30].as_slice() {
+        outcome
+    } else {
+        Outcome::Wrong
+    }
+}
+
+impl Call {
+    /// The outcome of the call on this map.
+    fn outcome_on<'a>(self, heap: Heap<'a>, granted: u64, map: Tens<'a>) -> Outcome {
+        heap.restart(granted);
+        match self {
+            Call::Lent(way) => lent_and_kept(way, &map, granted),
+            Call::Owned(way) => owned(way, map, granted),
+        }
     }
 }
 
 impl Refusable for Call {
     fn outcome(&self, heap: Heap<'_>, granted: u64) -> Outcome {
-        let (Some(map), Some(owned)) = (tens(heap), tens(heap)) else {
-            return Outcome::Wrong;
-        };
-        heap.restart(granted);
-        let outcome = outcome_of(call_on(*self, &map, owned), granted);
-        if map.values() == [10, 20, 30].as_slice() {
-            outcome
-        } else {
-            Outcome::Wrong
+        match tens(heap) {
+            Some(map) => self.outcome_on(heap, granted, map),
+            None => Outcome::Wrong,
         }
     }
 }

@@ -32,23 +32,31 @@ fn later_requests_are_granted_again(rt: HostRuntime) {
 #[test]
 fn all_later_requests_are_refused(rt: HostRuntime) {
     let heap = Refusing::all_after(rt.alloc(), 1);
-    for granted in [true, false, false, false] {
-        assert!(rt; grants(&heap, 4) == granted && heap.has_refused() != granted);
+    for granted in &[true, false, false, false] {
+        assert!(rt; grants(&heap, 4) == *granted && heap.has_refused() != *granted);
     }
     heap.relent();
     assert!(rt; grants(&heap, 4) && heap.has_refused());
 }
 
+/// Sizes in bytes, and whether they are granted where 64 are the most.
+static LARGE: [(usize, bool); 5] = [(64, true), (65, false), (1, true), (65, false), (64, true)];
+
+/// Whether room for 16 words of four bytes is granted, and room for 17 isn't.
+fn grants_words(heap: Heap<'_>) -> bool {
+    let mut words: Vec<u32, Heap<'_>> = Vec::new(heap);
+    words.reserve(16).is_ok() && words.reserve(17).is_err()
+}
+
 #[test]
 fn large_requests_are_refused_each_time(rt: HostRuntime) {
     let heap = Refusing::above(rt.alloc(), 64);
-    for (items, granted) in [(64, true), (65, false), (1, true), (65, false), (64, true)] {
+    for (items, granted) in &LARGE {
         heap.restart(u64::MAX);
         assert!(rt;
-            grants(&heap, items) == granted && heap.has_refused() != granted,
+            grants(&heap, *items) == *granted && heap.has_refused() != *granted,
             "{items}"
         );
     }
-    let mut words: Vec<u32, &Refusing<Global>> = Vec::new(&heap);
-    assert!(rt; words.reserve(16).is_ok() && words.reserve(17).is_err());
+    assert!(rt; grants_words(&heap));
 }

@@ -3,8 +3,9 @@
 use crate::drawn::Drawn;
 use commonware_utils::TryFromIterator;
 use commonware_utils::ordered::{Error, Map, Set};
-use std::alloc::{AllocError, Global};
+use std::alloc::Global;
 use std::cell::Cell;
+use std::process::Abort;
 use test_equipment::Refusing;
 use test_equipment::walk::{Heap, Outcome, Refusable, full, refused, requests};
 
@@ -27,7 +28,7 @@ enum Kind {
 #[derive(Clone, Copy)]
 struct Way(Kind, bool);
 
-const WAYS: [Way; 4] = [
+static WAYS: [Way; 4] = [
     Way(Kind::Set, false),
     Way(Kind::Set, true),
     Way(Kind::Map, false),
@@ -67,18 +68,18 @@ impl Way {
 }
 
 /// These items, then the numbers from 10 on until there are many, and then these.
-fn items_of(alloc: Global, first: &[u32], last: &[u32]) -> Result<Vec<u32>, AllocError> {
-    let mut items = first.to_vec(alloc)?;
+fn items_of(rt: &impl Abort, alloc: Global, first: &[u32], last: &[u32]) -> Vec<u32> {
+    let mut items = first.to_vec(alloc).expect(rt, "memory");
     for item in 10..MANY {
-        items.push(item)?;
+        items.push(item).expect(rt, "memory");
     }
-    items.extend_from_slice(last)?;
-    Ok(items)
+    items.extend_from_slice(last).expect(rt, "memory");
+    items
 }
 
 #[test]
 fn a_refusal_before_the_first_repeat_is_returned(rt: HostRuntime) {
-    for (at, way) in WAYS.into_iter().enumerate() {
+    for (at, way) in WAYS.iter().enumerate() {
         let (error, refused, asked) = way.answer(rt.alloc(), &[5, 5, 7], 0);
         assert!(rt;
             error == Some(Error::Memory) && refused && asked <= 1,
@@ -91,8 +92,8 @@ fn a_refusal_before_the_first_repeat_is_returned(rt: HostRuntime) {
 #[test]
 fn a_refusal_before_a_late_repeat_is_returned(rt: HostRuntime) {
     for last in [MANY - 1, 50, 1] {
-        let items = items_of(rt.alloc(), &[1, 2], &[last]).expect(&rt, "memory");
-        for (at, way) in WAYS.into_iter().enumerate() {
+        let items = items_of(&rt, rt.alloc(), &[1, 2], &[last]);
+        for (at, way) in WAYS.iter().enumerate() {
             let (error, refused, asked) = way.answer(rt.alloc(), &items, ROOMS);
             let right = error == Some(Error::Memory) && refused && asked < items.len();
             assert!(rt; right, "{at} {last}");
@@ -102,8 +103,8 @@ fn a_refusal_before_a_late_repeat_is_returned(rt: HostRuntime) {
 
 #[test]
 fn a_repeat_before_the_first_refusal_is_returned(rt: HostRuntime) {
-    let items = items_of(rt.alloc(), &[5, 5], &[]).expect(&rt, "memory");
-    for (at, way) in WAYS.into_iter().enumerate() {
+    let items = items_of(&rt, rt.alloc(), &[5, 5], &[]);
+    for (at, way) in WAYS.iter().enumerate() {
         let (error, refused, _) = way.answer(rt.alloc(), &items, ROOMS);
         assert!(rt; error == Some(Error::DuplicateKey) && !refused, "{at}");
     }
@@ -125,7 +126,7 @@ impl<'b> Refusable for Repeated<'b> {
 
 /// Starts in which the last item is the first to be repeated: right after its equal, or after a
 /// lesser one.
-const STARTS: [&[u32]; 6] = [
+static STARTS: [&[u32]; 6] = [
     &[5, 5],
     &[2, 5, 5],
     &[5, 2, 5],
@@ -136,10 +137,10 @@ const STARTS: [&[u32]; 6] = [
 
 #[test]
 fn no_room_is_made_for_what_follows_a_repeat(rt: HostRuntime) {
-    for start in STARTS {
-        let items = items_of(rt.alloc(), start, &[]).expect(&rt, "memory");
-        for (at, way) in WAYS.into_iter().enumerate() {
-            let asked = requests(rt.alloc(), &Repeated(way, &items));
+    for start in &STARTS {
+        let items = items_of(&rt, rt.alloc(), start, &[]);
+        for (at, way) in WAYS.iter().enumerate() {
+            let asked = requests(rt.alloc(), &Repeated(*way, &items));
             assert!(rt; matches!(asked, Some(1..=FEW)), "{at} {start:?} {asked:?}");
         }
     }
@@ -147,9 +148,9 @@ fn no_room_is_made_for_what_follows_a_repeat(rt: HostRuntime) {
 
 #[test]
 fn no_item_is_taken_after_a_repeat(rt: HostRuntime) {
-    for start in STARTS {
-        let items = items_of(rt.alloc(), start, &[]).expect(&rt, "memory");
-        for (at, way) in WAYS.into_iter().enumerate() {
+    for start in &STARTS {
+        let items = items_of(&rt, rt.alloc(), start, &[]);
+        for (at, way) in WAYS.iter().enumerate() {
             let (error, _, asked) = way.answer(rt.alloc(), &items, u64::MAX);
             let right = error == Some(Error::DuplicateKey) && asked == start.len();
             assert!(rt; right, "{at} {start:?}");

@@ -18,15 +18,18 @@ const BROKEN: Answer = Err(ErrorKind::BrokenPipe);
 
 const INTERRUPTED: Answer = Err(ErrorKind::Interrupted);
 
+/// How a reader fails at its end, if it does.
+static FAILURES: [Option<ErrorKind>; 3] = [
+    None,
+    Some(ErrorKind::BrokenPipe),
+    Some(ErrorKind::Interrupted),
+];
+
 #[test]
 fn a_reader_ends_or_fails_after_its_bytes(rt: HostRuntime) {
-    for failure in [
-        None,
-        Some(ErrorKind::BrokenPipe),
-        Some(ErrorKind::Interrupted),
-    ] {
+    for failure in &FAILURES {
         let mut input = ScriptedReader::new(b"abc", 2);
-        if let Some(kind) = failure {
+        if let Some(kind) = *failure {
             input = input.failing(kind);
         }
         let mut buf = [0; 9];
@@ -37,7 +40,7 @@ fn a_reader_ends_or_fails_after_its_bytes(rt: HostRuntime) {
         for _ in 0..2 {
             let right = match input.read(&mut buf) {
                 Ok(given) => given == 0 && failure.is_none(),
-                Err(error) => failure == Some(error.kind()),
+                Err(error) => *failure == Some(error.kind()),
             };
             assert!(rt; right, "{failure:?}");
         }
@@ -47,11 +50,11 @@ fn a_reader_ends_or_fails_after_its_bytes(rt: HostRuntime) {
 
 /// Of a reader of four bytes, two a call: the call that goes wrong, how, and what each call returns
 /// and leaves.
-const READS: [(u32, ReadFault, [(Answer, &[u8]); 4]); 6] = [
+static READS: [(u32, ReadFault, &[(Answer, &[u8])]); 6] = [
     (
         0,
         ReadFault::Fails(ErrorKind::BrokenPipe),
-        [
+        &[
             (BROKEN, b"abcd"),
             (Ok(2), b"cd"),
             (Ok(2), b""),
@@ -61,7 +64,7 @@ const READS: [(u32, ReadFault, [(Answer, &[u8]); 4]); 6] = [
     (
         1,
         ReadFault::Fails(ErrorKind::Interrupted),
-        [
+        &[
             (Ok(2), b"cd"),
             (INTERRUPTED, b"cd"),
             (Ok(2), b""),
@@ -71,22 +74,22 @@ const READS: [(u32, ReadFault, [(Answer, &[u8]); 4]); 6] = [
     (
         2,
         ReadFault::Fails(ErrorKind::BrokenPipe),
-        [(Ok(2), b"cd"), (Ok(2), b""), (BROKEN, b""), (Ok(0), b"")],
+        &[(Ok(2), b"cd"), (Ok(2), b""), (BROKEN, b""), (Ok(0), b"")],
     ),
     (
         1,
         ReadFault::GivesOneByte,
-        [(Ok(2), b"cd"), (Ok(1), b"d"), (Ok(1), b""), (Ok(0), b"")],
+        &[(Ok(2), b"cd"), (Ok(1), b"d"), (Ok(1), b""), (Ok(0), b"")],
     ),
     (
         2,
         ReadFault::GivesOneByte,
-        [(Ok(2), b"cd"), (Ok(2), b""), (Ok(0), b""), (Ok(0), b"")],
+        &[(Ok(2), b"cd"), (Ok(2), b""), (Ok(0), b""), (Ok(0), b"")],
     ),
     (
         9,
         ReadFault::Fails(ErrorKind::BrokenPipe),
-        [(Ok(2), b"cd"), (Ok(2), b""), (Ok(0), b""), (Ok(0), b"")],
+        &[(Ok(2), b"cd"), (Ok(2), b""), (Ok(0), b""), (Ok(0), b"")],
     ),
 ];
 
@@ -100,7 +103,7 @@ fn is_call(input: &mut ScriptedReader<'_>, wanted: Answer, rest: &[u8]) -> bool 
 }
 
 /// Whether a reader whose call at a place goes wrong returns and leaves this, call by call.
-fn goes_wrong(at: u32, way: ReadFault, calls: &[(Answer, &[u8]); 4]) -> bool {
+fn goes_wrong(at: u32, way: ReadFault, calls: &[(Answer, &[u8])]) -> bool {
     let mut input = ScriptedReader::new(b"abcd", 2).with_fault(at, way);
     for (wanted, rest) in calls {
         if !is_call(&mut input, *wanted, rest) {
@@ -119,7 +122,7 @@ fn a_reader_goes_wrong_at_one_call_alone(rt: HostRuntime) {
 
 /// Of a writer that takes two bytes a call: how its second call goes wrong, what each call with
 /// three bytes returns, and what was taken in all.
-const WRITES: [(WriteFault, [Answer; 4], &[u8]); 5] = [
+static WRITES: [(WriteFault, [Answer; 4], &[u8]); 5] = [
     (
         WriteFault::Fails(ErrorKind::Interrupted),
         [Ok(2), INTERRUPTED, Ok(2), Ok(2)],
@@ -150,14 +153,14 @@ const WRITES: [(WriteFault, [Answer; 4], &[u8]); 5] = [
 /// Only a lasting fault is met again.
 #[test]
 fn a_writer_goes_wrong_at_one_call_or_from_it_on(rt: HostRuntime) {
-    for (fault, answers, taken) in WRITES {
-        let mut output = ScriptedWriter::new(rt.alloc(), 2).with_fault(1, fault);
+    for (fault, answers, taken) in &WRITES {
+        let mut output = ScriptedWriter::new(rt.alloc(), 2).with_fault(1, *fault);
         for wanted in answers {
             let answer = answer_of(output.write(b"abc"));
-            assert!(rt; answer == wanted, "{fault:?}");
+            assert!(rt; answer == *wanted, "{fault:?}");
         }
         assert!(rt;
-            output.taken.as_slice() == taken && output.calls == 4,
+            output.taken.as_slice() == *taken && output.calls == 4,
             "{fault:?}"
         );
     }

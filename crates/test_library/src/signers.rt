@@ -10,19 +10,16 @@ pub(super) fn certificate<A: Allocator + Copy>(
     value: u8,
     signers: &[u32],
 ) -> Result<Certificate<A>, AllocError> {
-    let signers = signers.iter().map(|signer| Participant::new(*signer));
+    let value = Vec::from_slice(alloc, &[value])?;
+    let signers = signers.iter().copied().map(Participant::new);
     Ok(Certificate {
-        value: Vec::from_slice(alloc, &[value])?,
+        value,
         signers: Set::from_iter_dedup(alloc, signers)?,
     })
 }
 
 /// Whether the signers are those of these indices.
 pub(super) fn are<A: Allocator>(signers: &Set<Participant, A>, indices: &[u32]) -> bool {
-    for (signer, index) in signers.iter().zip(indices) {
-        if signer.get() != *index {
-            return false;
-        }
-    }
-    signers.len() == indices.len()
+    let found = signers.iter().copied().map(Participant::get);
+    found.eq(indices.iter().copied())
 }

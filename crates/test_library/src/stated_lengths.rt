@@ -9,8 +9,9 @@ use crate::readings::outcome;
 use commonware_utils::codec::{Error, RangeCfg};
 use commonware_utils::ordered::{BiMap, Map, Set};
 use commonware_utils::vec::NonEmptyVec;
-use std::alloc::{AllocError, Global};
+use std::alloc::Global;
 use std::num::NonZeroUsize;
+use std::process::Abort;
 use test_equipment::Refusing;
 use test_equipment::walk::Heap;
 
@@ -69,10 +70,10 @@ impl Form {
 }
 
 /// The bytes of the lengths 100000 and 4294967295.
-const STATED: [&[u8]; 2] = [b"\xa0\x8d\x06", b"\xff\xff\xff\xff\x0f"];
+static STATED: [&[u8]; 2] = [b"\xa0\x8d\x06", b"\xff\xff\xff\xff\x0f"];
 
 /// A form, and what is before and after the stated length: good items, and too few.
-const SHORT: [(Form, &[u8], &[u8]); 10] = [
+static SHORT: [(Form, &[u8], &[u8]); 10] = [
     (Form::List, b"", b"\x01\x02\x03\x04\x05"),
     (Form::Set, b"", b"\x01\x02\x03\x04\x05"),
     (Form::Map, b"", b"\x01\x02\x03\x04\x05"),
@@ -93,52 +94,49 @@ fn results_in(alloc: Global, form: Form, bytes: &[u8], wanted: (Option<Error>, u
 }
 
 /// The bytes of a stated length, with those before and after it.
-fn joined(
-    alloc: Global,
-    before: &[u8],
-    stated: &[u8],
-    after: &[u8],
-) -> Result<Vec<u8>, AllocError> {
-    let mut bytes = before.to_vec(alloc)?;
-    bytes.extend_from_slice(stated)?;
-    bytes.extend_from_slice(after)?;
-    Ok(bytes)
+fn joined(rt: &impl Abort, alloc: Global, before: &[u8], stated: &[u8], after: &[u8]) -> Vec<u8> {
+    let mut bytes = before.to_vec(alloc).expect(rt, "memory");
+    bytes.extend_from_slice(stated).expect(rt, "memory");
+    bytes.extend_from_slice(after).expect(rt, "memory");
+    bytes
 }
 
 /// Whether the end of the input is met after each stated length, between these bytes.
-fn is_short(alloc: Global, form: Form, before: &[u8], after: &[u8]) -> Result<bool, AllocError> {
-    for stated in STATED {
-        let bytes = joined(alloc, before, stated, after)?;
+fn is_short(rt: &impl Abort, alloc: Global, form: Form, before: &[u8], after: &[u8]) -> bool {
+    for stated in &STATED {
+        let bytes = joined(rt, alloc, before, stated, after);
         if !results_in(alloc, form, &bytes, (Some(Error::EndOfBuffer), 0)) {
-            return Ok(false);
+            return false;
         }
     }
-    Ok(true)
+    true
 }
 
 #[test]
 fn a_stated_length_alone_makes_no_room(rt: HostRuntime) {
     for (at, (form, before, after)) in SHORT.iter().enumerate() {
-        let short = is_short(rt.alloc(), *form, before, after).expect(&rt, "memory");
-        assert!(rt; short, "{at}");
+        assert!(rt; is_short(&rt, rt.alloc(), *form, before, after), "{at}");
     }
 }
+
+/// A form, and bytes that it is read from.
+static WHOLE: [(Form, &[u8]); 8] = [
+    (Form::List, b"\x05\x01\x02\x03\x02\x01"),
+    (Form::Set, b"\x05\x01\x02\x03\x04\x05"),
+    (Form::Map, b"\x02\x01\x02\x02\x07\x07"),
+    (Form::BiMap, b"\x02\x01\x02\x02\x08\x07"),
+    (Form::NonEmpty, b"\x01\x00"),
+    (Form::Nest, b"\x03\x01\x07\x00\x02\x05\x06"),
+    (Form::NonEmptyNest, b"\x02\x01\x07\x02\x05\x06"),
+    (Form::Lists, b"\x01\x09\x01\x02\x05\x06"),
+];
 
 /// With as little memory at once, what is not short is accepted.
 #[test]
 fn short_lists_are_accepted(rt: HostRuntime) {
-    for (form, bytes) in [
-        (Form::List, b"\x05\x01\x02\x03\x02\x01".as_slice()),
-        (Form::Set, b"\x05\x01\x02\x03\x04\x05"),
-        (Form::Map, b"\x02\x01\x02\x02\x07\x07"),
-        (Form::BiMap, b"\x02\x01\x02\x02\x08\x07"),
-        (Form::NonEmpty, b"\x01\x00"),
-        (Form::Nest, b"\x03\x01\x07\x00\x02\x05\x06"),
-        (Form::NonEmptyNest, b"\x02\x01\x07\x02\x05\x06"),
-        (Form::Lists, b"\x01\x09\x01\x02\x05\x06"),
-    ] {
+    for (form, bytes) in &WHOLE {
         assert!(rt;
-            results_in(rt.alloc(), form, bytes, (None, bytes.len())),
+            results_in(rt.alloc(), *form, bytes, (None, bytes.len())),
             "{bytes:?}"
         );
     }
@@ -146,27 +144,28 @@ fn short_lists_are_accepted(rt: HostRuntime) {
 
 /// The length, a number repeated, and bytes `ff`, which begin no number.
 fn numbers(
+    rt: &impl Abort,
     alloc: Global,
     length: &[u8],
     number: &[u8],
     times: usize,
     faulty: usize,
-) -> Result<Vec<u8>, AllocError> {
-    let mut bytes = length.to_vec(alloc)?;
+) -> Vec<u8> {
+    let mut bytes = length.to_vec(alloc).expect(rt, "memory");
     for _ in 0..times {
-        bytes.extend_from_slice(number)?;
+        bytes.extend_from_slice(number).expect(rt, "memory");
     }
     for _ in 0..faulty {
-        bytes.extend_from_slice(b"\xff")?;
+        bytes.extend_from_slice(b"\xff").expect(rt, "memory");
     }
-    Ok(bytes)
+    bytes
 }
 
 /// A number, how often it is read before a fault, how many bytes follow that begin none, and for
 /// how many numbers the greatest allocation is: for a number a byte, and for no more than 1,024,
 /// until these are read; then for as many more as the bytes hold, if each takes as many as those
 /// before.
-const ROOMS: [(&[u8], usize, usize, usize); 7] = [
+static ROOMS: [(&[u8], usize, usize, usize); 7] = [
     (b"\x07", 1, 7, 8),
     (b"\x07", 1, 99, 100),
     (b"\x07", 1, 1023, MOST_ROOM),
@@ -199,9 +198,9 @@ fn each_takes(alloc: Global, bytes: &[u8], most: usize) -> bool {
 /// Room goes by the bytes that are there, whatever length is stated.
 #[test]
 fn room_goes_by_the_bytes_that_are_there(rt: HostRuntime) {
-    for stated in STATED {
-        for (number, times, faulty, room) in ROOMS {
-            let bytes = numbers(rt.alloc(), stated, number, times, faulty).expect(&rt, "memory");
+    for stated in &STATED {
+        for (number, times, faulty, room) in &ROOMS {
+            let bytes = numbers(&rt, rt.alloc(), stated, number, *times, *faulty);
             let right = each_takes(rt.alloc(), &bytes, room.saturating_mul(NUMBER));
             assert!(rt; right, "{stated:?} {times} {faulty}");
         }
