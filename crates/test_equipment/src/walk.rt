@@ -4,13 +4,38 @@ ghost use Rattle.std.specs.Prelude.{◌≡◌, if◌then◌else◌};
 ghost use Rattle.test_equipment.specs.declared.walk.Outcome.TheVariants.{Full, Refused, Wrong};
 
 use crate::Refusing;
-use std::alloc::Global;
+use std::alloc::{Allocator, Global};
 
 /// More requests than any call makes that tests walk over.
 const ENOUGH: u64 = 1000;
 
-/// An allocator that refuses requests.
-pub type Heap<'a> = &'a Refusing<Global>;
+/// The heap of a walk, a reference to a [`Refusing`]: as a type parameter of a call, so that the
+/// call's proof doesn't look into the reference and what it points to.
+pub trait Heap: Allocator + Copy {
+    /// The allocator that grants and refuses the heap's requests.
+    fn refusing(&self) -> &Refusing<Global>;
+
+    /// From now on `granted` requests are granted, as [`Refusing::restart`] has it.
+    fn restart(&self, granted: u64) {
+        self.refusing().restart(granted);
+    }
+
+    /// From now on all requests are granted, as [`Refusing::relent`] has it.
+    fn relent(&self) {
+        self.refusing().relent();
+    }
+
+    /// Whether a request has been refused since the last restart.
+    fn has_refused(&self) -> bool {
+        self.refusing().has_refused()
+    }
+}
+
+impl Heap for &Refusing<Global> {
+    fn refusing(&self) -> &Refusing<Global> {
+        self
+    }
+}
 
 /// What a run of a call returned.
 #[derive(Clone, Copy, Debug, PartialEq, Eq)]
@@ -45,7 +70,7 @@ pub fn refused(right: bool) -> Outcome
 pub trait Refusable {
     /// Returns what the call does where its request after `granted` granted ones is refused. The
     /// heap refuses none before.
-    fn outcome(&self, heap: Heap<'_>, granted: u64) -> Outcome;
+    fn outcome<H: Heap>(&self, heap: H, granted: u64) -> Outcome;
 
     /// Whether the call may give the full result though a request was refused, as one for more
     /// room than it needs.

@@ -132,8 +132,8 @@ pub(super) fn conflict_of<M: Faults, A: Allocator + Copy>(
 }
 
 /// The outcome of a result where the wanted one is this.
-fn outcome_of(
-    both: Option<Result<Set<Participant, Heap<'_>>, ConflictError>>,
+fn outcome_of<H: Heap>(
+    both: Option<Result<Set<Participant, H>, ConflictError>>,
     wanted: Result<&[u32], ConflictError>,
 ) -> Outcome {
     match both {
@@ -153,22 +153,17 @@ fn outcome_of_error(error: ConflictError, wanted: Result<&[u32], ConflictError>)
 }
 
 /// Two certificates.
-type Both<'a> = (Certificate<Heap<'a>>, Certificate<Heap<'a>>);
+type Both<H> = (Certificate<H>, Certificate<H>);
 
 impl Row {
     /// The row's certificates.
-    fn certificates<'a>(&self, heap: Heap<'a>) -> Result<Both<'a>, AllocError> {
+    fn certificates<H: Heap>(&self, heap: H) -> Result<Both<H>, AllocError> {
         let first = certificate(heap, 0xaa, self.first)?;
         Ok((first, certificate(heap, 0xbb, self.second)?))
     }
 
     /// The outcome in this committee.
-    fn outcome_among<'a>(
-        &self,
-        heap: Heap<'a>,
-        granted: u64,
-        committee: &Set<u32, Heap<'a>>,
-    ) -> Outcome {
+    fn outcome_among<H: Heap>(&self, heap: H, granted: u64, committee: &Set<u32, H>) -> Outcome {
         match self.certificates(heap) {
             Ok((first, second)) => {
                 heap.restart(granted);
@@ -179,13 +174,13 @@ impl Row {
     }
 
     /// The members that signed both certificates, under the row's model.
-    fn conflict<'a>(
+    fn conflict<H: Heap>(
         &self,
-        heap: Heap<'a>,
-        committee: &Set<u32, Heap<'a>>,
-        first: &Certificate<Heap<'a>>,
-        second: &Certificate<Heap<'a>>,
-    ) -> Option<Result<Set<Participant, Heap<'a>>, ConflictError>> {
+        heap: H,
+        committee: &Set<u32, H>,
+        first: &Certificate<H>,
+        second: &Certificate<H>,
+    ) -> Option<Result<Set<Participant, H>, ConflictError>> {
         match self.model {
             Model::N3f1 => conflict_of::<N3f1, _>(heap, committee, first, second),
             Model::N5f1 => conflict_of::<N5f1, _>(heap, committee, first, second),
@@ -200,7 +195,7 @@ impl Row {
 }
 
 impl Refusable for Row {
-    fn outcome(&self, heap: Heap<'_>, granted: u64) -> Outcome {
+    fn outcome<H: Heap>(&self, heap: H, granted: u64) -> Outcome {
         match Set::from_iter_dedup(heap, 0..self.members) {
             Ok(committee) => self.outcome_among(heap, granted, &committee),
             Err(_) => Outcome::Wrong,

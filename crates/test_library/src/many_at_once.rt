@@ -118,7 +118,7 @@ struct AtOnce<'a> {
 }
 
 impl<'r> Refusable for AtOnce<'r> {
-    fn outcome(&self, heap: Heap<'_>, granted: u64) -> Outcome {
+    fn outcome<H: Heap>(&self, heap: H, granted: u64) -> Outcome {
         let rows = self.rows;
         match (self.kind, self.is_write) {
             (Kind::Byte, true) => written(heap, granted, &rows.bytes),
@@ -132,7 +132,7 @@ impl<'r> Refusable for AtOnce<'r> {
 }
 
 /// The items written at once after three bytes, which a refusal leaves as they were.
-fn written<'a, T: Write<Heap<'a>>>(heap: Heap<'a>, granted: u64, row: &Row<T>) -> Outcome {
+fn written<H: Heap, T: Write<H>>(heap: H, granted: u64, row: &Row<T>) -> Outcome {
     match vec![in heap; 0xaau8, 0xbb, 0xcc] {
         Ok(mut sink) => written_after(heap, granted, row, &mut sink),
         Err(_) => Outcome::Wrong,
@@ -140,11 +140,11 @@ fn written<'a, T: Write<Heap<'a>>>(heap: Heap<'a>, granted: u64, row: &Row<T>) -
 }
 
 /// The items written at once into this sink, of three bytes.
-fn written_after<'a, T: Write<Heap<'a>>>(
-    heap: Heap<'a>,
+fn written_after<H: Heap, T: Write<H>>(
+    heap: H,
     granted: u64,
     row: &Row<T>,
-    sink: &mut Vec<u8, Heap<'a>>,
+    sink: &mut Vec<u8, H>,
 ) -> Outcome {
     if !row.items.is_writable() {
         return Outcome::Wrong;
@@ -158,8 +158,8 @@ fn written_after<'a, T: Write<Heap<'a>>>(
 }
 
 /// The items read at once from a source, which a refusal leaves as it was.
-fn read<'a, T: Read<Heap<'a>> + Eq + Drop>(
-    heap: Heap<'a>,
+fn read<H: Heap, T: Read<H> + Eq + Drop>(
+    heap: H,
     granted: u64,
     row: &Row<T>,
     cfg: &T::Cfg,
@@ -216,7 +216,7 @@ struct Listed<'a> {
 }
 
 impl<'r> Refusable for Listed<'r> {
-    fn outcome(&self, heap: Heap<'_>, granted: u64) -> Outcome {
+    fn outcome<H: Heap>(&self, heap: H, granted: u64) -> Outcome {
         self.form
             .tried(self.rows, &Trial::new(self.act, heap, granted))
     }
@@ -224,7 +224,7 @@ impl<'r> Refusable for Listed<'r> {
 
 impl Form {
     /// What the trial returns on the form's list of many.
-    fn tried(self, rows: &Rows, trial: &Trial<'_>) -> Outcome {
+    fn tried<H: Heap>(self, rows: &Rows, trial: &Trial<H>) -> Outcome {
         let limits = (RangeCfg::from(..), ());
         match self {
             Form::Bytes => trial.on::<Vec<u8, _>>(&rows.bytes.list, &limits),
@@ -263,7 +263,7 @@ impl Form {
     }
 
     /// What reading the form from the bytes returns.
-    fn read(self, heap: Heap<'_>, bytes: &[u8]) -> (Option<Error>, usize) {
+    fn read<H: Heap>(self, heap: H, bytes: &[u8]) -> (Option<Error>, usize) {
         let limits = (RangeCfg::from(..), ());
         match self {
             Form::Bytes => outcome::<Vec<u8, _>, _>(heap, bytes, &limits),
@@ -296,14 +296,14 @@ fn a_truncated_input_requires_no_memory(rt: HostRuntime) {
 }
 
 /// Whether nothing is done at once with items of a type that has no bodies of its own for it.
-fn is_left<'a>(heap: Heap<'a>, items: &Vec<usize>) -> bool {
-    let mut sink: Vec<u8, Heap<'a>> = Vec::new(heap);
+fn is_left<H: Heap>(heap: H, items: &Vec<usize>) -> bool {
+    let mut sink: Vec<u8, H> = Vec::new(heap);
     let mut src = Source::new(b"\x01\x02");
     if !items.is_writable() {
         return false;
     }
-    let written = <usize as Write<Heap<'a>>>::write_at_once(items.as_slice(), &mut sink);
-    let read = <usize as Read<Heap<'a>>>::read_at_once(heap, &mut src, 2, &RangeCfg::from(..));
+    let written = <usize as Write<H>>::write_at_once(items.as_slice(), &mut sink);
+    let read = <usize as Read<H>>::read_at_once(heap, &mut src, 2, &RangeCfg::from(..));
     written.is_none() && read.is_none() && sink.is_empty() && src.position() == 0
 }
 

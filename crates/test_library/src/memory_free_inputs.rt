@@ -71,7 +71,7 @@ static TEXTS: [(Form, &[u8], Option<Error>); 23] = [
 
 impl Form {
     /// What reading the form from the bytes returns.
-    fn read(self, heap: Heap<'_>, bytes: &[u8]) -> (Option<Error>, usize) {
+    fn read<H: Heap>(self, heap: H, bytes: &[u8]) -> (Option<Error>, usize) {
         let any = RangeCfg::from(..);
         let some: RangeCfg<NonZeroUsize> = RangeCfg::from(..);
         match self {
@@ -87,7 +87,7 @@ impl Form {
 }
 
 /// Whether the row's input is read to its end, or refused for its error and not read.
-fn is_read(heap: Heap<'_>, row: &(Form, &[u8], Option<Error>)) -> bool {
+fn is_read<H: Heap>(heap: H, row: &(Form, &[u8], Option<Error>)) -> bool {
     let (form, bytes, wanted) = row;
     let (error, read) = form.read(heap, bytes);
     let whole = if wanted.is_none() { bytes.len() } else { 0 };

@@ -37,11 +37,11 @@ static PAIRS: [([(u8, u8); 4], Result<&[u8], Error>); 3] = [
 ];
 
 /// What the builder returns for the pairs.
-fn build<'a>(
+fn build<H: Heap>(
     builder: Builder,
-    heap: Heap<'a>,
+    heap: H,
     pairs: &[(u8, u8); 4],
-) -> Result<BiMap<u8, u8, Heap<'a>>, Error> {
+) -> Result<BiMap<u8, u8, H>, Error> {
     match builder {
         Builder::Iterator => BiMap::try_from_iter(heap, *pairs),
         Builder::Collect => TryCollect::try_collect(pairs.iter().copied(), heap),
@@ -54,12 +54,12 @@ fn build<'a>(
 }
 
 /// The bimap of a list of the pairs.
-fn of_list<'a>(heap: Heap<'a>, pairs: &[(u8, u8)]) -> Result<Numbers<'a>, Error> {
+fn of_list<H: Heap>(heap: H, pairs: &[(u8, u8)]) -> Result<Numbers<H>, Error> {
     BiMap::try_from_vec(Vec::from_slice(heap, pairs)?)
 }
 
 /// The bimap of a map of the pairs.
-fn of_map<'a>(heap: Heap<'a>, pairs: &[(u8, u8)]) -> Result<Numbers<'a>, Error> {
+fn of_map<H: Heap>(heap: H, pairs: &[(u8, u8)]) -> Result<Numbers<H>, Error> {
     BiMap::try_from_map(Map::try_from_slice(heap, pairs)?)
 }
 
@@ -72,7 +72,7 @@ struct Building<'a> {
 }
 
 impl<'b> Refusable for Building<'b> {
-    fn outcome(&self, heap: Heap<'_>, granted: u64) -> Outcome {
+    fn outcome<H: Heap>(&self, heap: H, granted: u64) -> Outcome {
         heap.restart(granted);
         match build(self.builder, heap, self.pairs) {
             Ok(bimap) => full(matches!(self.answer, Ok(values) if bimap.values() == *values)),
@@ -81,10 +81,10 @@ impl<'b> Refusable for Building<'b> {
     }
 }
 
-type Numbers<'a> = BiMap<u8, u8, Heap<'a>>;
+type Numbers<H> = BiMap<u8, u8, H>;
 
 /// {1: 30, 2: 20, 3: 10}
-fn three(heap: Heap<'_>) -> Result<Numbers<'_>, Error> {
+fn three<H: Heap>(heap: H) -> Result<Numbers<H>, Error> {
     BiMap::try_from_iter(heap, [(3u8, 10u8), (1, 30), (2, 20)])
 }
 
@@ -92,7 +92,7 @@ fn three(heap: Heap<'_>) -> Result<Numbers<'_>, Error> {
 struct IntoPairs;
 
 impl Refusable for IntoPairs {
-    fn outcome(&self, heap: Heap<'_>, granted: u64) -> Outcome {
+    fn outcome<H: Heap>(&self, heap: H, granted: u64) -> Outcome {
         let Ok(bimap) = three(heap) else {
             return Outcome::Wrong;
         };
@@ -108,7 +108,7 @@ impl Refusable for IntoPairs {
 struct FromMap;
 
 impl Refusable for FromMap {
-    fn outcome(&self, heap: Heap<'_>, granted: u64) -> Outcome {
+    fn outcome<H: Heap>(&self, heap: H, granted: u64) -> Outcome {
         let Ok(map) = Map::try_from_iter(heap, [(1u8, 10u8), (2, 20), (3, 30)]) else {
             return Outcome::Wrong;
         };
@@ -118,7 +118,7 @@ impl Refusable for FromMap {
 }
 
 /// The outcome of the map {1: 10, 2: 20, 3: 30} made a bimap.
-fn outcome_of_map(map: Map<u8, u8, Heap<'_>>) -> Outcome {
+fn outcome_of_map<H: Heap>(map: Map<u8, u8, H>) -> Outcome {
     match BiMap::try_from_map(map) {
         Ok(bimap) => full(bimap.values() == [10, 20, 30].as_slice()),
         Err(error) => refused(error == Error::Memory),
@@ -151,7 +151,7 @@ fn each_request_is_refused_in_turn(rt: HostRuntime) {
 }
 
 /// Whether the map is refused by an allocation failure when it is made a bimap.
-fn is_refused(map: Map<u8, u8, Heap<'_>>) -> bool {
+fn is_refused<H: Heap>(map: Map<u8, u8, H>) -> bool {
     BiMap::try_from_map(map).err() == Some(Error::Memory)
 }
 
@@ -165,7 +165,7 @@ fn a_map_is_no_bimap_without_memory(rt: HostRuntime) {
 }
 
 /// Whether {1: 30, 2: 20, 3: 10} is looked up.
-fn is_looked_up(bimap: &Numbers<'_>) -> bool {
+fn is_looked_up<H: Heap>(bimap: &Numbers<H>) -> bool {
     bimap.get_key(&10) == Some(&3)
         && bimap.get_value(&3) == Some(&10)
         && bimap.position(&3) == Some(2)
@@ -174,12 +174,12 @@ fn is_looked_up(bimap: &Numbers<'_>) -> bool {
 }
 
 /// Whether one {1: 30, 2: 20, 3: 10} is looked up and equals another.
-fn are_looked_up<'a>(bimap: &Numbers<'a>, other: &Numbers<'a>) -> bool {
+fn are_looked_up<H: Heap>(bimap: &Numbers<H>, other: &Numbers<H>) -> bool {
     is_looked_up(bimap) && *bimap == *other
 }
 
 /// Whether the keys of one {1: 30, 2: 20, 3: 10} and the first pair of another are consumed.
-fn are_given_up(bimap: Numbers<'_>, other: Numbers<'_>) -> bool {
+fn are_given_up<H: Heap>(bimap: Numbers<H>, other: Numbers<H>) -> bool {
     let first = other.into_iter().next();
     bimap.into_keys().as_slice() == [1, 2, 3].as_slice() && first == Some((1, 30))
 }
@@ -195,8 +195,8 @@ fn bimaps_are_looked_up_and_given_up_without_memory(rt: HostRuntime) {
 }
 
 /// Whether a bimap of no pairs is empty, and the same as one of a map of none.
-fn is_empty(heap: Heap<'_>) -> Result<bool, Error> {
-    let none: Numbers<'_> = BiMap::empty(heap);
+fn is_empty<H: Heap>(heap: H) -> Result<bool, Error> {
+    let none: Numbers<H> = BiMap::empty(heap);
     let from_none = BiMap::try_from_map(Map::empty(heap))?;
     Ok(none.is_empty() && from_none == none)
 }

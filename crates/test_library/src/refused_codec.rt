@@ -84,14 +84,14 @@ struct Call {
 }
 
 impl Refusable for Call {
-    fn outcome(&self, heap: Heap<'_>, granted: u64) -> Outcome {
+    fn outcome<H: Heap>(&self, heap: H, granted: u64) -> Outcome {
         self.form.tried(&Trial::new(self.act, heap, granted))
     }
 }
 
 impl Form {
     /// What the trial returns on the form's value.
-    fn tried(self, trial: &Trial<'_>) -> Outcome {
+    fn tried<H: Heap>(self, trial: &Trial<H>) -> Outcome {
         let any = RangeCfg::from(..);
         let some: RangeCfg<NonZeroUsize> = RangeCfg::from(..);
         match self {
@@ -125,9 +125,9 @@ impl Form {
 
 /// An act, and the request to refuse.
 #[derive(Drop)]
-pub(super) struct Trial<'a> {
+pub(super) struct Trial<H: Heap> {
     act: Act,
-    heap: Heap<'a>,
+    heap: H,
     granted: u64,
 }
 
@@ -139,14 +139,14 @@ fn read<T: Read<A>, A: Allocator>(alloc: A, bytes: &[u8], cfg: &T::Cfg) -> Resul
     T::read_cfg(alloc, &mut Source::new(bytes), cfg)
 }
 
-impl<'a> Trial<'a> {
+impl<H: Heap> Trial<H> {
     /// The act, with the allocation after `granted` granted ones failing.
-    pub(super) fn new(act: Act, heap: Heap<'a>, granted: u64) -> Self {
+    pub(super) fn new(act: Act, heap: H, granted: u64) -> Self {
         Trial { act, heap, granted }
     }
 
     /// What the act returns on the value that the bytes encode. The value has to stay as it is.
-    pub(super) fn on<T: Read<Heap<'a>> + Write<Heap<'a>> + Canonical + Clone + Drop>(
+    pub(super) fn on<T: Read<H> + Write<H> + Canonical + Clone + Drop>(
         &self,
         bytes: &[u8],
         cfg: &T::Cfg,
@@ -171,7 +171,7 @@ impl<'a> Trial<'a> {
     }
 
     /// The value written into a sink, which a refusal leaves as it was. Its size allocates nothing.
-    fn write<T: Write<Heap<'a>>>(&self, value: &T, bytes: &[u8]) -> Outcome {
+    fn write<T: Write<H>>(&self, value: &T, bytes: &[u8]) -> Outcome {
         match vec![in self.heap; 0xaau8, 0xbb, 0xcc] {
             Ok(mut sink) => self.write_after(value, &mut sink, bytes),
             Err(_) => Outcome::Wrong,
@@ -179,12 +179,7 @@ impl<'a> Trial<'a> {
     }
 
     /// The value written into this sink, of three bytes.
-    fn write_after<T: Write<Heap<'a>>>(
-        &self,
-        value: &T,
-        sink: &mut Vec<u8, Heap<'a>>,
-        bytes: &[u8],
-    ) -> Outcome {
+    fn write_after<T: Write<H>>(&self, value: &T, sink: &mut Vec<u8, H>, bytes: &[u8]) -> Outcome {
         if !value.is_writable() {
             return Outcome::Wrong;
         }
@@ -196,12 +191,7 @@ impl<'a> Trial<'a> {
     }
 
     /// The value read from a source, which a refusal leaves as it was.
-    fn read<T: Read<Heap<'a>> + Eq + Drop>(
-        &self,
-        value: &T,
-        bytes: &[u8],
-        cfg: &T::Cfg,
-    ) -> Outcome {
+    fn read<T: Read<H> + Eq + Drop>(&self, value: &T, bytes: &[u8], cfg: &T::Cfg) -> Outcome {
         let mut src = Source::new(bytes);
         self.heap.restart(self.granted);
         match T::read_cfg(self.heap, &mut src, cfg) {
@@ -220,7 +210,7 @@ impl<'a> Trial<'a> {
     }
 
     /// The value written with two bytes after it, and read again.
-    fn round_trip<T: Read<Heap<'a>> + Write<Heap<'a>> + Canonical + Drop>(
+    fn round_trip<T: Read<H> + Write<H> + Canonical + Drop>(
         &self,
         value: &T,
         cfg: &T::Cfg,
@@ -240,7 +230,7 @@ impl<'a> Trial<'a> {
 struct ListRead;
 
 impl Refusable for ListRead {
-    fn outcome(&self, heap: Heap<'_>, granted: u64) -> Outcome {
+    fn outcome<H: Heap>(&self, heap: H, granted: u64) -> Outcome {
         let any = RangeCfg::from(..);
         let mut src = Source::new(SETS);
         heap.restart(granted);
@@ -257,7 +247,7 @@ impl Refusable for ListRead {
 struct LongRead<'a>(&'a [u8]);
 
 impl<'b> Refusable for LongRead<'b> {
-    fn outcome(&self, heap: Heap<'_>, granted: u64) -> Outcome {
+    fn outcome<H: Heap>(&self, heap: H, granted: u64) -> Outcome {
         let mut src = Source::new(self.0);
         heap.restart(granted);
         let read: Result<Vec<u8, _>, Error> = read_list(heap, &mut src, RangeCfg::exact(1024), &());
@@ -303,7 +293,7 @@ fn each_request_is_refused_in_turn(rt: HostRuntime) {
 }
 
 /// A sink of `length` bytes.
-fn sink_of(heap: Heap<'_>, length: usize) -> Result<Vec<u8, Heap<'_>>, AllocError> {
+fn sink_of<H: Heap>(heap: H, length: usize) -> Result<Vec<u8, H>, AllocError> {
     let mut bytes = Vec::new(heap);
     for _ in 0..length {
         bytes.push(0xaau8)?;
@@ -313,7 +303,7 @@ fn sink_of(heap: Heap<'_>, length: usize) -> Result<Vec<u8, Heap<'_>>, AllocErro
 
 /// Whether the varint is written, or fails and leaves the sink, with no memory but the sink's. How
 /// often it fails is counted.
-fn is_written(heap: Heap<'_>, sink: &mut Vec<u8, Heap<'_>>, refusals: &mut u32) -> bool {
+fn is_written<H: Heap>(heap: H, sink: &mut Vec<u8, H>, refusals: &mut u32) -> bool {
     let length = sink.len();
     heap.restart(0);
     let fails = UInt(300).write(sink).is_err();

@@ -30,11 +30,7 @@ static SHOWN: [Shown; 6] = [
 ];
 
 /// The text of a value on the heap. `None` if it was refused by an allocation failure.
-fn text_of<'a, T: Display + Debug>(
-    heap: Heap<'a>,
-    value: &T,
-    debug: bool,
-) -> Option<String<Heap<'a>>> {
+fn text_of<H: Heap, T: Display + Debug>(heap: H, value: &T, debug: bool) -> Option<String<H>> {
     if debug {
         format!(in heap; "{value:?}").ok()
     } else {
@@ -44,7 +40,7 @@ fn text_of<'a, T: Display + Debug>(
 
 impl Shown {
     /// The text of the collection, for which `granted` requests are granted before one is refused.
-    fn text<'a>(&self, heap: Heap<'a>, granted: u64) -> Result<Option<String<Heap<'a>>>, Error> {
+    fn text<H: Heap>(&self, heap: H, granted: u64) -> Result<Option<String<H>>, Error> {
         let Shown(collection, debug, _) = *self;
         match collection {
             Collection::Set => {
@@ -64,19 +60,19 @@ impl Shown {
 }
 
 /// The text of a collection that was made, if it was.
-fn text_of_made<'a, T: Display + Debug + Drop>(
-    heap: Heap<'a>,
+fn text_of_made<H: Heap, T: Display + Debug + Drop>(
+    heap: H,
     granted: u64,
     made: Result<T, Error>,
     debug: bool,
-) -> Result<Option<String<Heap<'a>>>, Error> {
+) -> Result<Option<String<H>>, Error> {
     let value = made?;
     heap.restart(granted);
     Ok(text_of(heap, &value, debug))
 }
 
 impl Refusable for Shown {
-    fn outcome(&self, heap: Heap<'_>, granted: u64) -> Outcome {
+    fn outcome<H: Heap>(&self, heap: H, granted: u64) -> Outcome {
         match self.text(heap, granted) {
             Ok(Some(text)) => full(text.as_str() == self.2),
             Ok(None) => refused(true),

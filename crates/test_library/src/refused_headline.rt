@@ -9,7 +9,7 @@ use test_equipment::walk::{Heap, Outcome, Refusable, full, makes_requests, refus
 struct Decoding;
 
 impl Refusable for Decoding {
-    fn outcome(&self, heap: Heap<'_>, granted: u64) -> Outcome {
+    fn outcome<H: Heap>(&self, heap: H, granted: u64) -> Outcome {
         let any = RangeCfg::from(..);
         let text = b"\x03\x00\x02\x01\x02\x01\x07\xff";
         heap.restart(granted);

@@ -59,7 +59,7 @@ impl Order {
     }
 
     /// Whether the map has the numbers below 40, each with its position.
-    fn is_map(self, map: &Map<u32, u8, Heap<'_>>) -> bool {
+    fn is_map<H: Heap>(self, map: &Map<u32, u8, H>) -> bool {
         are_all(map.keys().as_slice()) && self.rises_at(map.values())
     }
 }
@@ -74,7 +74,7 @@ fn are_all(items: &[u32]) -> bool {
 struct SetOf(Builder, Order);
 
 impl Refusable for SetOf {
-    fn outcome(&self, heap: Heap<'_>, granted: u64) -> Outcome {
+    fn outcome<H: Heap>(&self, heap: H, granted: u64) -> Outcome {
         let items = self.1.items();
         heap.restart(granted);
         match refused_sets::build(self.0, heap, &items) {
@@ -89,7 +89,7 @@ impl Refusable for SetOf {
 struct MapOf(Builder, Order);
 
 impl Refusable for MapOf {
-    fn outcome(&self, heap: Heap<'_>, granted: u64) -> Outcome {
+    fn outcome<H: Heap>(&self, heap: H, granted: u64) -> Outcome {
         let pairs = self.1.pairs();
         heap.restart(granted);
         match refused_maps::build(self.0, heap, &pairs) {
@@ -120,7 +120,7 @@ fn each_request_of_a_map_is_refused_in_turn(rt: HostRuntime) {
 }
 
 /// Whether the numbers below the count are taken as a set without an allocation.
-fn are_taken(heap: Heap<'_>, items: Vec<u32, Heap<'_>>, count: u32) -> Result<bool, Error> {
+fn are_taken<H: Heap>(heap: H, items: Vec<u32, H>, count: u32) -> Result<bool, Error> {
     heap.restart(0);
     let set = Set::try_from_vec(items)?;
     Ok(set.iter().copied().eq(0..count) && !heap.has_refused())

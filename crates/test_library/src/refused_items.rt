@@ -3,14 +3,18 @@
 use commonware_utils::ordered::{BiMap, Error, Map, MapError, Set};
 use commonware_utils::vec::{Bounded, NonEmptyVec};
 use commonware_utils::{NZUsize, vec};
-use std::alloc::AllocError;
+use std::alloc::{AllocError, Global};
+use test_equipment::Refusing;
 use test_equipment::walk::{Heap, Outcome, Refusable, full, makes_requests, refused};
 
-type Item<'a> = Vec<u8, Heap<'a>>;
+/// A heap whose size is known.
+type Known<'a> = &'a Refusing<Global>;
 
-type Pair<'a> = (Item<'a>, Item<'a>);
+type Item<H> = Vec<u8, H>;
 
-type List<'a> = NonEmptyVec<Item<'a>, Heap<'a>>;
+type Pair<H> = (Item<H>, Item<H>);
+
+type List<H> = NonEmptyVec<Item<H>, H>;
 
 /// The texts of three items, in no order.
 static TEXTS: [&[u8]; 3] = [b"cc", b"a", b"bbb"];
@@ -19,35 +23,45 @@ static TEXTS: [&[u8]; 3] = [b"cc", b"a", b"bbb"];
 static IN_ORDER: [&[u8]; 3] = [b"a", b"bbb", b"cc"];
 
 /// An item of this text.
-fn item<'a>(heap: Heap<'a>, text: &[u8]) -> Result<Item<'a>, AllocError> {
+fn item<H: Heap>(heap: H, text: &[u8]) -> Result<Item<H>, AllocError> {
     Vec::from_slice(heap, text)
 }
 
-/// The items of these texts.
-fn items_of<'a>(heap: Heap<'a>, texts: &[&[u8]; 3]) -> Result<[Item<'a>; 3], AllocError> {
+/// The items of the three texts.
+fn items<H: Heap>(heap: H) -> Result<Vec<Item<H>, H>, AllocError> {
+    let mut items = Vec::new(heap);
+    for text in &TEXTS {
+        items.push(item(heap, text)?)?;
+    }
+    Ok(items)
+}
+
+/// The same items in an array. It is of a heap whose size is known, since not every array fits in
+/// memory.
+fn three_items<'a>(heap: Known<'a>) -> Result<[Item<Known<'a>>; 3], AllocError> {
     Ok([
-        item(heap, texts[0])?,
-        item(heap, texts[1])?,
-        item(heap, texts[2])?,
+        item(heap, TEXTS[0])?,
+        item(heap, TEXTS[1])?,
+        item(heap, TEXTS[2])?,
     ])
 }
 
-/// The items of these texts, each with a clone of itself.
-fn pairs_of<'a>(heap: Heap<'a>, texts: &[&[u8]; 3]) -> Result<[Pair<'a>; 3], AllocError> {
+/// The same items in an array, each with a clone of itself.
+fn three_pairs<'a>(heap: Known<'a>) -> Result<[Pair<Known<'a>>; 3], AllocError> {
     Ok([
-        pair(heap, texts[0])?,
-        pair(heap, texts[1])?,
-        pair(heap, texts[2])?,
+        pair(heap, TEXTS[0])?,
+        pair(heap, TEXTS[1])?,
+        pair(heap, TEXTS[2])?,
     ])
 }
 
 /// An item of this text, with a clone of itself.
-fn pair<'a>(heap: Heap<'a>, text: &[u8]) -> Result<Pair<'a>, AllocError> {
+fn pair<H: Heap>(heap: H, text: &[u8]) -> Result<Pair<H>, AllocError> {
     Ok((item(heap, text)?, item(heap, text)?))
 }
 
 /// Whether the items have these texts.
-fn are(items: &[Item<'_>], texts: &[&[u8]]) -> bool {
+fn are<H: Heap>(items: &[Item<H>], texts: &[&[u8]]) -> bool {
     for (item, text) in items.iter().zip(texts) {
         if item.as_slice() != *text {
             return false;
@@ -57,7 +71,7 @@ fn are(items: &[Item<'_>], texts: &[&[u8]]) -> bool {
 }
 
 /// Whether the items of the pairs have these texts.
-fn pairs_are(pairs: &[Pair<'_>], texts: &[&[u8]]) -> bool {
+fn pairs_are<H: Heap>(pairs: &[Pair<H>], texts: &[&[u8]]) -> bool {
     for ((first, second), text) in pairs.iter().zip(texts) {
         if first.as_slice() != *text || second.as_slice() != *text {
             return false;
@@ -67,7 +81,7 @@ fn pairs_are(pairs: &[Pair<'_>], texts: &[&[u8]]) -> bool {
 }
 
 /// Whether the set has the texts in order.
-fn is_in_order(set: &Set<Item<'_>, Heap<'_>>) -> bool {
+fn is_in_order<H: Heap>(set: &Set<Item<H>, H>) -> bool {
     are(set.as_slice(), &IN_ORDER)
 }
 
@@ -82,7 +96,7 @@ enum Build {
 
 /// What the call returns for the items, as whether it is right. `None` if it was refused by an
 /// allocation failure.
-fn built<'a>(call: Build, heap: Heap<'a>, items: &[Item<'a>; 3]) -> Option<bool> {
+fn built<'a>(call: Build, heap: Known<'a>, items: &[Item<Known<'a>>; 3]) -> Option<bool> {
     match call {
         Build::SetOfSlice => set_is_right(Set::try_from_slice(heap, items)),
         Build::SetOfArray => set_is_right(Set::try_from_array_ref(heap, items)),
@@ -92,7 +106,7 @@ fn built<'a>(call: Build, heap: Heap<'a>, items: &[Item<'a>; 3]) -> Option<bool>
 }
 
 /// Whether the set is in order, if it is there.
-fn set_is_right(set: Result<Set<Item<'_>, Heap<'_>>, Error>) -> Option<bool> {
+fn set_is_right<H: Heap>(set: Result<Set<Item<H>, H>, Error>) -> Option<bool> {
     match set {
         Ok(set) => Some(is_in_order(&set)),
         Err(_) => None,
@@ -100,7 +114,7 @@ fn set_is_right(set: Result<Set<Item<'_>, Heap<'_>>, Error>) -> Option<bool> {
 }
 
 /// Whether the list has the texts as they were given, if it is there.
-fn list_is_right(list: Result<List<'_>, vec::Error>) -> Option<bool> {
+fn list_is_right<H: Heap>(list: Result<List<H>, vec::Error>) -> Option<bool> {
     match list {
         Ok(list) => Some(are(list.as_slice(), &TEXTS)),
         Err(_) => None,
@@ -108,8 +122,9 @@ fn list_is_right(list: Result<List<'_>, vec::Error>) -> Option<bool> {
 }
 
 impl Refusable for Build {
-    fn outcome(&self, heap: Heap<'_>, granted: u64) -> Outcome {
-        let Ok(items) = items_of(heap, &TEXTS) else {
+    fn outcome<H: Heap>(&self, heap: H, granted: u64) -> Outcome {
+        let heap = heap.refusing();
+        let Ok(items) = three_items(heap) else {
             return Outcome::Wrong;
         };
         heap.restart(granted);
@@ -131,23 +146,27 @@ enum BuildPairs {
     BiMapOfArray,
 }
 
-type Items<'a> = Map<Item<'a>, Item<'a>, Heap<'a>>;
+type Items<H> = Map<Item<H>, Item<H>, H>;
 
-type ItemsBothWays<'a> = BiMap<Item<'a>, Item<'a>, Heap<'a>>;
+type ItemsBothWays<H> = BiMap<Item<H>, Item<H>, H>;
 
 /// Whether the keys and the values of the map have the texts in order.
-fn map_is_in_order(map: &Items<'_>) -> bool {
+fn map_is_in_order<H: Heap>(map: &Items<H>) -> bool {
     is_in_order(map.keys()) && are(map.values(), &IN_ORDER)
 }
 
 /// The same of a bimap.
-fn bimap_is_in_order(bimap: &ItemsBothWays<'_>) -> bool {
+fn bimap_is_in_order<H: Heap>(bimap: &ItemsBothWays<H>) -> bool {
     is_in_order(bimap.keys()) && are(bimap.values(), &IN_ORDER)
 }
 
 /// What the call returns for the pairs, as whether it is right. `None` if it was refused by an
 /// allocation failure.
-fn built_of_pairs<'a>(call: BuildPairs, heap: Heap<'a>, pairs: &[Pair<'a>; 3]) -> Option<bool> {
+fn built_of_pairs<'a>(
+    call: BuildPairs,
+    heap: Known<'a>,
+    pairs: &[Pair<Known<'a>>; 3],
+) -> Option<bool> {
     match call {
         BuildPairs::MapOfSlice => map_is_right(Map::try_from_slice(heap, pairs)),
         BuildPairs::MapOfArray => map_is_right(Map::try_from_array_ref(heap, pairs)),
@@ -157,7 +176,7 @@ fn built_of_pairs<'a>(call: BuildPairs, heap: Heap<'a>, pairs: &[Pair<'a>; 3]) -
 }
 
 /// Whether the map is in order, if it is there.
-fn map_is_right(map: Result<Items<'_>, Error>) -> Option<bool> {
+fn map_is_right<H: Heap>(map: Result<Items<H>, Error>) -> Option<bool> {
     match map {
         Ok(map) => Some(map_is_in_order(&map)),
         Err(_) => None,
@@ -165,7 +184,7 @@ fn map_is_right(map: Result<Items<'_>, Error>) -> Option<bool> {
 }
 
 /// The same of a bimap.
-fn bimap_is_right(bimap: Result<ItemsBothWays<'_>, Error>) -> Option<bool> {
+fn bimap_is_right<H: Heap>(bimap: Result<ItemsBothWays<H>, Error>) -> Option<bool> {
     match bimap {
         Ok(bimap) => Some(bimap_is_in_order(&bimap)),
         Err(_) => None,
@@ -173,8 +192,9 @@ fn bimap_is_right(bimap: Result<ItemsBothWays<'_>, Error>) -> Option<bool> {
 }
 
 impl Refusable for BuildPairs {
-    fn outcome(&self, heap: Heap<'_>, granted: u64) -> Outcome {
-        let Ok(pairs) = pairs_of(heap, &TEXTS) else {
+    fn outcome<H: Heap>(&self, heap: H, granted: u64) -> Outcome {
+        let heap = heap.refusing();
+        let Ok(pairs) = three_pairs(heap) else {
             return Outcome::Wrong;
         };
         heap.restart(granted);
@@ -191,7 +211,7 @@ impl Refusable for BuildPairs {
 struct Resize;
 
 impl Refusable for Resize {
-    fn outcome(&self, heap: Heap<'_>, granted: u64) -> Outcome {
+    fn outcome<H: Heap>(&self, heap: H, granted: u64) -> Outcome {
         let Some(mut list) = list(heap) else {
             return Outcome::Wrong;
         };
@@ -204,15 +224,15 @@ impl Refusable for Resize {
 }
 
 /// A list of the three items.
-fn list(heap: Heap<'_>) -> Option<List<'_>> {
-    NonEmptyVec::try_from_array(heap, items_of(heap, &TEXTS).ok()?).ok()
+fn list<H: Heap>(heap: H) -> Option<List<H>> {
+    NonEmptyVec::try_from(items(heap).ok()?).ok()
 }
 
 /// The texts of the list of five.
 static RESIZED: [&[u8]; 5] = [b"cc", b"a", b"bbb", b"dd", b"dd"];
 
 /// The outcome of the list of three items made one of five.
-fn resized<'a>(list: &mut List<'a>, more: Item<'a>) -> Outcome {
+fn resized<H: Heap>(list: &mut List<H>, more: Item<H>) -> Outcome {
     match list.resize(NZUsize!(5), more) {
         Ok(()) => full(are(list.as_slice(), &RESIZED)),
         Err(_) => refused(are(list.as_slice(), &TEXTS)),
@@ -223,11 +243,11 @@ fn resized<'a>(list: &mut List<'a>, more: Item<'a>) -> Outcome {
 struct QueueClone;
 
 impl Refusable for QueueClone {
-    fn outcome(&self, heap: Heap<'_>, granted: u64) -> Outcome {
+    fn outcome<H: Heap>(&self, heap: H, granted: u64) -> Outcome {
         let Some(queue) = queue(heap) else {
             return Outcome::Wrong;
         };
-        let Ok(items) = items_of(heap, &TEXTS) else {
+        let Ok(items) = items(heap) else {
             return Outcome::Wrong;
         };
         heap.restart(granted);
@@ -240,10 +260,10 @@ impl Refusable for QueueClone {
     }
 }
 
-type Queue<'a> = Bounded<Item<'a>, Heap<'a>>;
+type Queue<H> = Bounded<Item<H>, H>;
 
 /// A queue of the three items.
-fn queue(heap: Heap<'_>) -> Option<Queue<'_>> {
+fn queue<H: Heap>(heap: H) -> Option<Queue<H>> {
     let mut queue = Bounded::new(heap, NZUsize!(3));
     for text in &TEXTS {
         if queue.push(item(heap, text).ok()?) != Ok(None) {
@@ -254,7 +274,7 @@ fn queue(heap: Heap<'_>) -> Option<Queue<'_>> {
 }
 
 /// The outcome of a clone of the queue.
-fn queue_cloned(queue: &Queue<'_>) -> Outcome {
+fn queue_cloned<H: Heap>(queue: &Queue<H>) -> Outcome {
     let clone: Result<_, _> = queue.clone();
     match clone {
         Ok(clone) => full(clone == *queue),
@@ -270,7 +290,7 @@ enum MapValues {
 }
 
 impl Refusable for MapValues {
-    fn outcome(&self, heap: Heap<'_>, granted: u64) -> Outcome {
+    fn outcome<H: Heap>(&self, heap: H, granted: u64) -> Outcome {
         let Some(map) = map(heap) else {
             return Outcome::Wrong;
         };
@@ -286,22 +306,26 @@ impl Refusable for MapValues {
 }
 
 /// The length of an item, which is counted.
-fn length(item: &Item<'_>, calls: &mut u32) -> usize {
+fn length<H: Heap>(item: &Item<H>, calls: &mut u32) -> usize {
     *calls = calls.saturating_add(1);
     item.len()
 }
 
 /// The map of the three items with themselves.
-fn map(heap: Heap<'_>) -> Option<Items<'_>> {
-    Map::try_from_array(heap, pairs_of(heap, &TEXTS).ok()?).ok()
+fn map<H: Heap>(heap: H) -> Option<Items<H>> {
+    let mut pairs = Vec::new(heap);
+    for text in &TEXTS {
+        pairs.push(pair(heap, text).ok()?).ok()?;
+    }
+    Map::try_from_vec(pairs).ok()
 }
 
 /// The lengths of items by the items.
-type Lengths<'a> = Map<Item<'a>, usize, Heap<'a>>;
+type Lengths<H> = Map<Item<H>, usize, H>;
 
 impl MapValues {
     /// The lengths of the map's values, and how often the closure was called.
-    fn lengths<'a>(&self, map: &Items<'a>) -> (Result<Lengths<'a>, MapError<()>>, u32) {
+    fn lengths<H: Heap>(&self, map: &Items<H>) -> (Result<Lengths<H>, MapError<()>>, u32) {
         let mut calls = 0u32;
         let lengths = match self {
             MapValues::Mapped => map
@@ -314,7 +338,7 @@ impl MapValues {
 }
 
 /// The outcome of lengths that are there, or of a refusal that came in time or not.
-fn outcome_of(lengths: Result<Lengths<'_>, MapError<()>>, in_time: bool) -> Outcome {
+fn outcome_of<H: Heap>(lengths: Result<Lengths<H>, MapError<()>>, in_time: bool) -> Outcome {
     match lengths {
         Ok(lengths) => full(lengths.values() == [1, 3, 2].as_slice()),
         Err(_) => refused(in_time),

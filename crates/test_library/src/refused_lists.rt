@@ -7,10 +7,10 @@ use commonware_utils::{NZUsize, TryCollect, TryFromIterator, non_empty_vec};
 use test_equipment::Refusing;
 use test_equipment::walk::{Heap, Outcome, Refusable, full, makes_requests, refused};
 
-type List<'a> = NonEmptyVec<u8, Heap<'a>>;
+type List<H> = NonEmptyVec<u8, H>;
 
 /// 1, 2, 3, with no room for more.
-fn three(heap: Heap<'_>) -> Result<List<'_>, Error> {
+fn three<H: Heap>(heap: H) -> Result<List<H>, Error> {
     non_empty_vec!(heap => 1u8, 2, 3)
 }
 
@@ -56,7 +56,7 @@ static GROWTHS: [Growth; 5] = [
 
 /// Whether the call gave back what was handed in where it was refused, and called no closure.
 /// `None` if it was not refused.
-fn refusal_of(call: Grow, list: &mut List<'_>) -> Option<bool> {
+fn refusal_of<H: Heap>(call: Grow, list: &mut List<H>) -> Option<bool> {
     match call {
         Grow::Push => Some(list.push(9).err()? == 9),
         Grow::Insert => Some(list.insert(0, 9).err()? == 9),
@@ -70,12 +70,12 @@ fn refusal_of(call: Grow, list: &mut List<'_>) -> Option<bool> {
 }
 
 /// Whether the list refuses the numbers from 4 to 15, of an iterator that may give none of them.
-fn is_not_extended(list: &mut List<'_>) -> bool {
+fn is_not_extended<H: Heap>(list: &mut List<H>) -> bool {
     list.extend((4u8..=15).filter(|item| *item > 0)).is_err()
 }
 
 /// Whether the list refuses to be one of five by calls of a closure, and how many of these it made.
-fn resizing(list: &mut List<'_>) -> (bool, u32) {
+fn resizing<H: Heap>(list: &mut List<H>) -> (bool, u32) {
     let mut calls = 0u32;
     let resized = list.resize_with(NZUsize!(5), || {
         calls = calls.saturating_add(1);
@@ -86,7 +86,7 @@ fn resizing(list: &mut List<'_>) -> (bool, u32) {
 
 impl Growth {
     /// The outcome of the call on this list, which is 1, 2, 3.
-    fn grow(&self, heap: Heap<'_>, granted: u64, list: &mut List<'_>) -> Outcome {
+    fn grow<H: Heap>(&self, heap: H, granted: u64, list: &mut List<H>) -> Outcome {
         heap.restart(granted);
         match refusal_of(self.call, list) {
             None => full(list.as_slice() == self.grown),
@@ -96,7 +96,7 @@ impl Growth {
 }
 
 impl Refusable for Growth {
-    fn outcome(&self, heap: Heap<'_>, granted: u64) -> Outcome {
+    fn outcome<H: Heap>(&self, heap: H, granted: u64) -> Outcome {
         match three(heap) {
             Ok(mut list) => self.grow(heap, granted, &mut list),
             Err(_) => Outcome::Wrong,
@@ -138,7 +138,7 @@ static MAKES: [(Make, &[u8]); 10] = [
 ];
 
 /// What the call returns for 1, 2, 3.
-fn made_by<'a>(call: Make, heap: Heap<'a>, items: &[u8]) -> Result<List<'a>, Error> {
+fn made_by<H: Heap>(call: Make, heap: H, items: &[u8]) -> Result<List<H>, Error> {
     match call {
         Make::One => NonEmptyVec::new(heap, 7u8),
         Make::Iterator => NonEmptyVec::try_from_iter(heap, [1u8, 2, 3]),
@@ -157,7 +157,7 @@ fn made_by<'a>(call: Make, heap: Heap<'a>, items: &[u8]) -> Result<List<'a>, Err
 }
 
 /// The outcome of a result where these items are wanted, and no closure is called before a failure.
-fn outcome_of(made: Result<List<'_>, Error>, wanted: &[u8], calls: u32) -> Outcome {
+fn outcome_of<H: Heap>(made: Result<List<H>, Error>, wanted: &[u8], calls: u32) -> Outcome {
     match made {
         Ok(made) => full(made.as_slice() == wanted),
         Err(error) => refused(error == Error::Memory && calls == 0),
@@ -165,7 +165,7 @@ fn outcome_of(made: Result<List<'_>, Error>, wanted: &[u8], calls: u32) -> Outco
 }
 
 /// The outcome, if 1, 2, 3 are as they were.
-fn if_unchanged(list: &List<'_>, outcome: Outcome) -> Outcome {
+fn if_unchanged<H: Heap>(list: &List<H>, outcome: Outcome) -> Outcome {
     if list.as_slice() == [1, 2, 3].as_slice() {
         outcome
     } else {
@@ -179,7 +179,7 @@ struct Making(Make, &'static [u8]);
 
 impl Making {
     /// The outcome of the call on this list, which is 1, 2, 3 and has to stay.
-    fn make<'a>(&self, heap: Heap<'a>, granted: u64, list: &List<'a>) -> Outcome {
+    fn make<H: Heap>(&self, heap: H, granted: u64, list: &List<H>) -> Outcome {
         heap.restart(granted);
         let outcome = outcome_of(made_by(self.0, heap, list.as_slice()), self.1, 0);
         if_unchanged(list, outcome)
@@ -187,7 +187,7 @@ impl Making {
 }
 
 impl Refusable for Making {
-    fn outcome(&self, heap: Heap<'_>, granted: u64) -> Outcome {
+    fn outcome<H: Heap>(&self, heap: H, granted: u64) -> Outcome {
         match three(heap) {
             Ok(list) => self.make(heap, granted, &list),
             Err(_) => Outcome::Wrong,
@@ -206,7 +206,7 @@ enum Remake {
 static REMAKES: [Remake; 3] = [Remake::Clone, Remake::Map, Remake::MapInto];
 
 /// A clone of the list.
-fn cloned<'a>(list: &List<'a>) -> Result<List<'a>, Error> {
+fn cloned<H: Heap>(list: &List<H>) -> Result<List<H>, Error> {
     Ok(list.clone()?)
 }
 
@@ -217,7 +217,7 @@ fn counted(item: u8, calls: &mut u32) -> u8 {
 }
 
 /// The outcome of the call on 1, 2, 3, borrowed and owned, with no closure called before a failure.
-fn remade_by<'a>(call: Remake, list: &List<'a>, owned: List<'a>) -> Outcome {
+fn remade_by<H: Heap>(call: Remake, list: &List<H>, owned: List<H>) -> Outcome {
     let mut calls = 0u32;
     let made = match call {
         Remake::Clone => cloned(list),
@@ -228,7 +228,7 @@ fn remade_by<'a>(call: Remake, list: &List<'a>, owned: List<'a>) -> Outcome {
 }
 
 impl Refusable for Remake {
-    fn outcome(&self, heap: Heap<'_>, granted: u64) -> Outcome {
+    fn outcome<H: Heap>(&self, heap: H, granted: u64) -> Outcome {
         let Ok(list) = three(heap) else {
             return Outcome::Wrong;
         };
@@ -264,7 +264,7 @@ fn each_request_is_refused_in_turn(rt: HostRuntime) {
 
 /// Removes four of six items, and returns whether the two that came back are right and no closure
 /// was called.
-fn shorten(list: &mut List<'_>) -> Result<bool, Error> {
+fn shorten<H: Heap>(list: &mut List<H>) -> Result<bool, Error> {
     if list.len().get() != 6 {
         return Ok(false);
     }
@@ -284,7 +284,7 @@ fn shorten(list: &mut List<'_>) -> Result<bool, Error> {
 }
 
 /// Whether six items get to be 1 and 3.
-fn is_shortened(list: &mut List<'_>) -> Option<bool> {
+fn is_shortened<H: Heap>(list: &mut List<H>) -> Option<bool> {
     let right = shorten(list).ok()?;
     Some(right && list.as_slice() == [1, 3].as_slice() && list.is_writable())
 }
@@ -298,14 +298,14 @@ fn a_list_gets_shorter_without_memory(rt: HostRuntime) {
 }
 
 /// Whether 1, 3 is reversed, and 7 written for the first of them.
-fn is_changed(list: &mut List<'_>) -> bool {
+fn is_changed<H: Heap>(list: &mut List<H>) -> bool {
     list.mutate(|items| items.reverse());
     *list.first_mut() = 7;
     list.len().get() == 2 && *list.last() == 1 && list[0] == 7
 }
 
 /// The items of a list that is consumed and rebuilt twice.
-fn given_up(list: List<'_>) -> Result<Vec<u8, Heap<'_>>, Error> {
+fn given_up<H: Heap>(list: List<H>) -> Result<Vec<u8, H>, Error> {
     let items = NonEmptyVec::from_unchecked(list.into_vec()).into_vec();
     Ok(NonEmptyVec::try_from(items)?.into())
 }
@@ -323,7 +323,7 @@ fn a_list_is_changed_and_given_up_without_memory(rt: HostRuntime) {
 #[test]
 fn a_list_of_nothing_is_refused_without_memory(rt: HostRuntime) {
     let heap = Refusing::all_after(rt.alloc(), 0);
-    let none: Vec<u8, Heap<'_>> = Vec::new(&heap);
+    let none: Vec<u8, _> = Vec::new(&heap);
     let refusal = NonEmptyVec::try_from(none).err();
     assert!(rt; refusal == Some(Error::Empty) && !heap.has_refused());
 }

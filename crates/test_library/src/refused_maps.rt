@@ -4,11 +4,11 @@ use crate::builders::{BUILDERS, Builder, outcome_of_error};
 use commonware_utils::codec::EncodeSize;
 use commonware_utils::ordered::{Error, Map, Set};
 use commonware_utils::{TryCollect, TryFromIterator};
-use std::alloc::AllocError;
+use std::alloc::{AllocError, Global};
 use test_equipment::Refusing;
 use test_equipment::walk::{Heap, Outcome, Refusable, full, makes_requests, refused};
 
-type Numbers<'a> = Map<u32, u8, Heap<'a>>;
+type Numbers<H> = Map<u32, u8, H>;
 
 /// Pairs of different keys.
 static PAIRS: [(u32, u8); 4] = [(5, 50), (1, 10), (9, 90), (3, 30)];
@@ -17,11 +17,11 @@ static PAIRS: [(u32, u8); 4] = [(5, 50), (1, 10), (9, 90), (3, 30)];
 static REPEAT: [(u32, u8); 4] = [(5, 50), (1, 10), (5, 90), (3, 30)];
 
 /// What the builder returns for the pairs.
-pub(super) fn build<'a, const N: usize>(
+pub(super) fn build<H: Heap, const N: usize>(
     builder: Builder,
-    heap: Heap<'a>,
+    heap: H,
     pairs: &[(u32, u8); N],
-) -> Result<Map<u32, u8, Heap<'a>>, Error> {
+) -> Result<Map<u32, u8, H>, Error> {
     match builder {
         Builder::Dedup => Map::from_iter_dedup(heap, pairs.iter().copied()).map_err(Error::from),
         Builder::Iterator => Map::try_from_iter(heap, pairs.iter().copied()),
@@ -34,7 +34,7 @@ pub(super) fn build<'a, const N: usize>(
 }
 
 /// The map of a list of the pairs.
-fn of_list<'a>(heap: Heap<'a>, pairs: &[(u32, u8)]) -> Result<Numbers<'a>, Error> {
+fn of_list<H: Heap>(heap: H, pairs: &[(u32, u8)]) -> Result<Numbers<H>, Error> {
     Map::try_from_vec(Vec::from_slice(heap, pairs)?)
 }
 
@@ -51,7 +51,7 @@ struct Building {
 
 impl Building {
     /// Whether the map has the keys and values that it has to have.
-    fn is_answered(&self, map: &Numbers<'_>) -> bool {
+    fn is_answered<H: Heap>(&self, map: &Numbers<H>) -> bool {
         match &self.answer {
             Ok((keys, values)) => map.keys().as_slice() == *keys && map.values() == *values,
             Err(_) => false,
@@ -60,7 +60,7 @@ impl Building {
 }
 
 impl Refusable for Building {
-    fn outcome(&self, heap: Heap<'_>, granted: u64) -> Outcome {
+    fn outcome<H: Heap>(&self, heap: H, granted: u64) -> Outcome {
         heap.restart(granted);
         match build(self.builder, heap, self.pairs) {
             Ok(map) => full(self.is_answered(&map)),
@@ -77,7 +77,7 @@ impl Refusable for Building {
 struct IntoPairs;
 
 impl Refusable for IntoPairs {
-    fn outcome(&self, heap: Heap<'_>, granted: u64) -> Outcome {
+    fn outcome<H: Heap>(&self, heap: H, granted: u64) -> Outcome {
         let Ok(map) = Map::try_from_slice(heap, &PAIRS) else {
             return Outcome::Wrong;
         };
@@ -117,7 +117,7 @@ fn each_request_is_refused_in_turn(rt: HostRuntime) {
 }
 
 /// Whether the map of the pairs is looked up.
-fn is_looked_up(map: &Numbers<'_>) -> bool {
+fn is_looked_up<H: Heap>(map: &Numbers<H>) -> bool {
     map.len() == 4
         && !map.is_empty()
         && map.is_writable()
@@ -128,7 +128,7 @@ fn is_looked_up(map: &Numbers<'_>) -> bool {
 }
 
 /// Halves the values, writes 31 for 3, doubles the values and takes the last pair away.
-fn change(map: &mut Numbers<'_>) {
+fn change<H: Heap>(map: &mut Numbers<H>) {
     for value in map.values_mut() {
         *value /= 2;
     }
@@ -142,7 +142,7 @@ fn change(map: &mut Numbers<'_>) {
 }
 
 /// Whether the map of the pairs is changed.
-fn is_changed(map: &Numbers<'_>) -> bool {
+fn is_changed<H: Heap>(map: &Numbers<H>) -> bool {
     map.values() == [10, 62, 50].as_slice() && map.get_value(&3) == Some(&62)
 }
 
@@ -160,16 +160,16 @@ fn maps_are_looked_up_and_changed_without_memory(rt: HostRuntime) {
 }
 
 /// Keys and their values.
-type Parts<'a> = (Set<u32, Heap<'a>>, Vec<u8, Heap<'a>>);
+type Parts<H> = (Set<u32, H>, Vec<u8, H>);
 
 /// The keys 1, 3, 5 and their values.
-fn parts(heap: Heap<'_>) -> Result<Parts<'_>, AllocError> {
+fn parts<H: Heap>(heap: H) -> Result<Parts<H>, AllocError> {
     let keys = Set::from_iter_dedup(heap, [1u32, 3, 5])?;
     Ok((keys, vec![in heap; 10u8, 31, 50]?))
 }
 
 /// Whether the parts make a map that is not this one, and ends with (5, 50).
-fn make_another<'a>(parts: Parts<'a>, map: &Numbers<'a>) -> Option<bool> {
+fn make_another<H: Heap>(parts: Parts<H>, map: &Numbers<H>) -> Option<bool> {
     let made = Map::from_parts(parts.0, parts.1)?;
     let differs = made != *map;
     let last = made.into_iter().next_back();
@@ -188,7 +188,7 @@ fn maps_of_parts_take_no_memory(rt: HostRuntime) {
 #[test]
 fn a_map_of_nothing_takes_no_memory(rt: HostRuntime) {
     let heap = Refusing::all_after(rt.alloc(), 0);
-    let none: Numbers<'_> = Map::empty(&heap);
-    let most = Numbers::max_encode_size(128, 1);
+    let none: Numbers<_> = Map::empty(&heap);
+    let most = Numbers::<&Refusing<Global>>::max_encode_size(128, 1);
     assert!(rt; none.is_empty() && most == 644 && !heap.has_refused());
 }

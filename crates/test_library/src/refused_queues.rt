@@ -10,7 +10,7 @@ use test_equipment::walk::{Heap, Outcome, Refusable, full, makes_requests, refus
 struct Pushes;
 
 impl Refusable for Pushes {
-    fn outcome(&self, heap: Heap<'_>, granted: u64) -> Outcome {
+    fn outcome<H: Heap>(&self, heap: H, granted: u64) -> Outcome {
         let mut queue = Bounded::new(heap, NZUsize!(5));
         heap.restart(granted);
         pushed(heap, &mut queue)
@@ -18,7 +18,7 @@ impl Refusable for Pushes {
 }
 
 /// The outcome of the five pushes into an empty queue.
-fn pushed<'a>(heap: Heap<'a>, queue: &mut Bounded<u8, Heap<'a>>) -> Outcome {
+fn pushed<H: Heap>(heap: H, queue: &mut Bounded<u8, H>) -> Outcome {
     let mut came_back = false;
     for item in 1u8..=5 {
         let before = queue.len();
@@ -44,7 +44,7 @@ fn pushed<'a>(heap: Heap<'a>, queue: &mut Bounded<u8, Heap<'a>>) -> Outcome {
 struct Clones;
 
 impl Refusable for Clones {
-    fn outcome(&self, heap: Heap<'_>, granted: u64) -> Outcome {
+    fn outcome<H: Heap>(&self, heap: H, granted: u64) -> Outcome {
         let mut queue = Bounded::new(heap, NZUsize!(3));
         for item in 1u8..=4 {
             let _ = queue.push(item);
@@ -65,7 +65,7 @@ fn each_request_is_refused_in_turn(rt: HostRuntime) {
 }
 
 /// Whether a full queue of 1, 2, 3 takes 4 and 5 for the first two, and gives the third.
-fn takes_two(queue: &mut Bounded<u8, Heap<'_>>) -> bool {
+fn takes_two<H: Heap>(queue: &mut Bounded<u8, H>) -> bool {
     queue.push(4) == Ok(Some(1))
         && queue.push(5) == Ok(Some(2))
         && queue.pop_front() == Some(3)
@@ -81,15 +81,15 @@ fn a_full_queue_takes_no_memory(rt: HostRuntime) {
     }
     heap.restart(0);
     assert!(rt; takes_two(&mut queue));
-    let items: VecDeque<u8, Heap<'_>> = queue.into();
+    let items: VecDeque<u8, _> = queue.into();
     assert!(rt; items.iter().eq([4, 5].iter()) && !heap.has_refused());
 }
 
 #[test]
 fn an_empty_queue_takes_no_memory(rt: HostRuntime) {
     let heap = Refusing::all_after(rt.alloc(), 0);
-    let empty: Bounded<u8, Heap<'_>> = Bounded::new(&heap, NZUsize!(9));
-    let other: Bounded<u8, Heap<'_>> = Bounded::new(&heap, NZUsize!(3));
+    let empty: Bounded<u8, _> = Bounded::new(&heap, NZUsize!(9));
+    let other: Bounded<u8, _> = Bounded::new(&heap, NZUsize!(3));
     assert!(rt; empty != other && !heap.has_refused());
     assert!(rt; empty.into_inner().is_empty());
 }

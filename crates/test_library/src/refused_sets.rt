@@ -16,11 +16,11 @@ static ITEMS: [([u32; 5], &[u32], bool); 3] = [
 ];
 
 /// What the builder returns for the items.
-pub(super) fn build<'a, const N: usize>(
+pub(super) fn build<H: Heap, const N: usize>(
     builder: Builder,
-    heap: Heap<'a>,
+    heap: H,
     items: &[u32; N],
-) -> Result<Set<u32, Heap<'a>>, Error> {
+) -> Result<Set<u32, H>, Error> {
     match builder {
         Builder::Dedup => Set::from_iter_dedup(heap, items.iter().copied()).map_err(Error::from),
         Builder::Iterator => Set::try_from_iter(heap, items.iter().copied()),
@@ -33,7 +33,7 @@ pub(super) fn build<'a, const N: usize>(
 }
 
 /// The set of a list of the items.
-fn of_list<'a>(heap: Heap<'a>, items: &[u32]) -> Result<Set<u32, Heap<'a>>, Error> {
+fn of_list<H: Heap>(heap: H, items: &[u32]) -> Result<Set<u32, H>, Error> {
     Set::try_from_vec(Vec::from_slice(heap, items)?)
 }
 
@@ -46,7 +46,7 @@ struct Building<'a> {
 }
 
 impl<'b> Refusable for Building<'b> {
-    fn outcome(&self, heap: Heap<'_>, granted: u64) -> Outcome {
+    fn outcome<H: Heap>(&self, heap: H, granted: u64) -> Outcome {
         heap.restart(granted);
         match build(self.builder, heap, self.items) {
             Ok(set) => full(matches!(&self.answer, Ok(items) if set.as_slice() == *items)),
@@ -88,17 +88,17 @@ fn each_request_is_refused_in_turn(rt: HostRuntime) {
 }
 
 /// Whether {1, 3, 5} is read by its places.
-fn is_read(set: &Set<u32, Heap<'_>>) -> bool {
+fn is_read<H: Heap>(set: &Set<u32, H>) -> bool {
     set.len() == 3 && set[0] == 1 && set.slice(1..3) == [3, 5].as_slice()
 }
 
 /// Whether {1, 3, 5} is looked up.
-fn is_looked_up(set: &Set<u32, Heap<'_>>) -> bool {
+fn is_looked_up<H: Heap>(set: &Set<u32, H>) -> bool {
     set.get(1) == Some(&3) && set.position(&5) == Some(2) && set.iter().next_back() == Some(&5)
 }
 
 /// Whether {1, 3, 5} is a committee of three.
-fn is_committee(set: &Set<u32, Heap<'_>>) -> bool {
+fn is_committee<H: Heap>(set: &Set<u32, H>) -> bool {
     set.len() == 3
         && set.key(Participant::new(1)) == Some(&3)
         && set.index(&5) == Some(Participant::new(2))
@@ -106,19 +106,19 @@ fn is_committee(set: &Set<u32, Heap<'_>>) -> bool {
 }
 
 /// Whether the set comes before another one, and can be written.
-fn is_before<'a>(set: &Set<u32, Heap<'a>>, other: &Set<u32, Heap<'a>>) -> bool {
+fn is_before<H: Heap>(set: &Set<u32, H>, other: &Set<u32, H>) -> bool {
     *set < *other && *set != *other && set.is_writable()
 }
 
 /// Whether {1, 3, 5} is read and comes before {1, 5}.
-fn are_right<'a>(set: &Set<u32, Heap<'a>>, other: &Set<u32, Heap<'a>>) -> bool {
+fn are_right<H: Heap>(set: &Set<u32, H>, other: &Set<u32, H>) -> bool {
     is_read(set) && is_looked_up(set) && is_committee(set) && is_before(set, other)
 }
 
 /// Whether the items of {1, 3, 5} and the last of {1, 5} are consumed.
-fn are_given_up(set: Set<u32, Heap<'_>>, other: Set<u32, Heap<'_>>) -> bool {
+fn are_given_up<H: Heap>(set: Set<u32, H>, other: Set<u32, H>) -> bool {
     let last = other.into_iter().next_back();
-    let items: Vec<u32, Heap<'_>> = set.into();
+    let items: Vec<u32, H> = set.into();
     items.as_slice() == [1, 3, 5].as_slice() && last == Some(5)
 }
 
@@ -135,7 +135,7 @@ fn sets_are_read_compared_and_given_up_without_memory(rt: HostRuntime) {
 #[test]
 fn a_set_of_nothing_takes_no_memory(rt: HostRuntime) {
     let heap = Refusing::all_after(rt.alloc(), 0);
-    let none: Set<u32, Heap<'_>> = Set::empty(&heap);
-    let most = Set::<u32, Heap<'_>>::max_encode_size(128);
+    let none: Set<u32, _> = Set::empty(&heap);
+    let most = Set::<u32, &Refusing<Global>>::max_encode_size(128);
     assert!(rt; none.is_empty() && most == 514 && !heap.has_refused());
 }

@@ -21,7 +21,7 @@ static UNIONS: [Union; 2] = [
 ];
 
 impl Refusable for Union {
-    fn outcome(&self, heap: Heap<'_>, granted: u64) -> Outcome {
+    fn outcome<H: Heap>(&self, heap: H, granted: u64) -> Outcome {
         let (front, back) = (b"\x01\x02\x03", b"\x04\x05\x06");
         heap.restart(granted);
         let text = if self.counted {

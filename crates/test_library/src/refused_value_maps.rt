@@ -29,10 +29,10 @@ static CALLS: [(Call, u64); 6] = [
     (Call::Owned(Way::Failed), 1),
 ];
 
-type Tens<'a> = Map<u8, u8, Heap<'a>>;
+type Tens<H> = Map<u8, u8, H>;
 
 /// {1: 10, 2: 20, 3: 30}, if there is memory for it.
-fn tens(heap: Heap<'_>) -> Option<Tens<'_>> {
+fn tens<H: Heap>(heap: H) -> Option<Tens<H>> {
     let keys = Set::from_iter_dedup(heap, [1u8, 2, 3]).ok()?;
     Map::from_parts(keys, vec![in heap; 10, 20, 30].ok()?)
 }
@@ -45,7 +45,7 @@ fn half(value: u8, calls: &mut u32) -> u8 {
 
 /// The outcome of the call on a borrowed map where the closure halves a value or fails with its
 /// key.
-fn lent(way: Way, map: &Tens<'_>, granted: u64) -> Outcome {
+fn lent<H: Heap>(way: Way, map: &Tens<H>, granted: u64) -> Outcome {
     let mut calls = 0u32;
     let answer = match way {
         Way::Mapped => map
@@ -58,7 +58,7 @@ fn lent(way: Way, map: &Tens<'_>, granted: u64) -> Outcome {
 }
 
 /// The same of the call that consumes the map.
-fn owned(way: Way, map: Tens<'_>, granted: u64) -> Outcome {
+fn owned<H: Heap>(way: Way, map: Tens<H>, granted: u64) -> Outcome {
     let mut calls = 0u32;
     let answer = match way {
         Way::Mapped => map
@@ -71,7 +71,7 @@ fn owned(way: Way, map: Tens<'_>, granted: u64) -> Outcome {
 }
 
 /// The outcome of a result and of the calls of the closure, where `granted` requests were granted.
-fn outcome_of(answer: Result<Tens<'_>, MapError<u8>>, calls: u32, granted: u64) -> Outcome {
+fn outcome_of<H: Heap>(answer: Result<Tens<H>, MapError<u8>>, calls: u32, granted: u64) -> Outcome {
     match answer {
         Ok(halves) => full(halves.values() == [5, 10, 15].as_slice()),
         Err(MapError::Closure(key)) => full(key == 1),
@@ -81,7 +81,7 @@ fn outcome_of(answer: Result<Tens<'_>, MapError<u8>>, calls: u32, granted: u64) 
 }
 
 /// The outcome of the call on a borrowed map, which has to stay as it is.
-fn lent_and_kept(way: Way, map: &Tens<'_>, granted: u64) -> Outcome {
+fn lent_and_kept<H: Heap>(way: Way, map: &Tens<H>, granted: u64) -> Outcome {
     let outcome = lent(way, map, granted);
     if map.values() == [10, 20, 30].as_slice() {
         outcome
@@ -92,7 +92,7 @@ fn lent_and_kept(way: Way, map: &Tens<'_>, granted: u64) -> Outcome {
 
 impl Call {
     /// The outcome of the call on this map.
-    fn outcome_on<'a>(self, heap: Heap<'a>, granted: u64, map: Tens<'a>) -> Outcome {
+    fn outcome_on<H: Heap>(self, heap: H, granted: u64, map: Tens<H>) -> Outcome {
         heap.restart(granted);
         match self {
             Call::Lent(way) => lent_and_kept(way, &map, granted),
@@ -102,7 +102,7 @@ impl Call {
 }
 
 impl Refusable for Call {
-    fn outcome(&self, heap: Heap<'_>, granted: u64) -> Outcome {
+    fn outcome<H: Heap>(&self, heap: H, granted: u64) -> Outcome {
         match tens(heap) {
             Some(map) => self.outcome_on(heap, granted, map),
             None => Outcome::Wrong,

@@ -4,8 +4,8 @@ use test_equipment::Refusing;
 use test_equipment::walk::Heap;
 
 /// Whether room for `count` bytes is granted.
-fn grants(heap: Heap<'_>, count: usize) -> bool {
-    let bytes: Result<Vec<u8, Heap<'_>>, _> = Vec::with_capacity(heap, count);
+fn grants<H: Heap>(heap: H, count: usize) -> bool {
+    let bytes: Result<Vec<u8, H>, _> = Vec::with_capacity(heap, count);
     bytes.is_ok()
 }
 
@@ -43,8 +43,8 @@ fn all_later_requests_are_refused(rt: HostRuntime) {
 static LARGE: [(usize, bool); 5] = [(64, true), (65, false), (1, true), (65, false), (64, true)];
 
 /// Whether room for 16 words of four bytes is granted, and room for 17 isn't.
-fn grants_words(heap: Heap<'_>) -> bool {
-    let mut words: Vec<u32, Heap<'_>> = Vec::new(heap);
+fn grants_words<H: Heap>(heap: H) -> bool {
+    let mut words: Vec<u32, H> = Vec::new(heap);
     words.reserve(16).is_ok() && words.reserve(17).is_err()
 }
 

@@ -50,7 +50,7 @@ type Answer = (Option<Error>, bool, usize);
 
 impl Way {
     /// The error that the items give, if there is one. The calls of `next` are counted.
-    fn refusal(self, heap: Heap<'_>, items: &[u32], asked: &Cell<u32>) -> Option<Error> {
+    fn refusal<H: Heap>(self, heap: H, items: &[u32], asked: &Cell<u32>) -> Option<Error> {
         let items = Drawn::new(items, asked, self.1);
         match self.0 {
             Kind::Set => Set::try_from_iter(heap, items).err(),
@@ -115,7 +115,7 @@ fn a_repeat_before_the_first_refusal_is_returned(rt: HostRuntime) {
 struct Repeated<'a>(Way, &'a [u32]);
 
 impl<'b> Refusable for Repeated<'b> {
-    fn outcome(&self, heap: Heap<'_>, granted: u64) -> Outcome {
+    fn outcome<H: Heap>(&self, heap: H, granted: u64) -> Outcome {
         heap.restart(granted);
         match self.0.refusal(heap, self.1, &Cell::new(0)) {
             Some(Error::Memory) => refused(true),

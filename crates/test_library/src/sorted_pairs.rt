@@ -21,7 +21,7 @@ fn are_pairs_from(first: u32, keys: &[u32], values: &[u32]) -> bool {
 }
 
 /// The keys from 1 to 5,000, in a run.
-fn run(heap: Heap<'_>) -> Result<SortedEntries<u32, u32, Heap<'_>>, AllocError> {
+fn run<H: Heap>(heap: H) -> Result<SortedEntries<u32, u32, H>, AllocError> {
     let mut entries = SortedEntries::with_room(heap, 0)?;
     for key in 1..=MOST {
         entries.insert(key, key.wrapping_add(1))?;
@@ -32,7 +32,7 @@ fn run(heap: Heap<'_>) -> Result<SortedEntries<u32, u32, Heap<'_>>, AllocError> 
 /// What an insertion of the least key gives where its allocation after `granted` granted ones
 /// fails: whether one did, and whether the pairs are then as they have to be. `None` where one
 /// before or after it fails.
-fn insertion(heap: Heap<'_>, granted: u64) -> Option<(bool, bool)> {
+fn insertion<H: Heap>(heap: H, granted: u64) -> Option<(bool, bool)> {
     let mut entries = run(heap).ok()?;
     heap.restart(granted);
     let inserted = entries.insert(0, 1);
@@ -72,7 +72,7 @@ fn a_refused_insertion_leaves_a_prefix(rt: HostRuntime) {
 #[test]
 fn room_for_none_takes_no_memory(rt: HostRuntime) {
     let heap = Refusing::<Global>::all_after(rt.alloc(), 0);
-    assert!(rt; SortedEntries::<u32, u32, Heap<'_>>::with_room(&heap, 0).is_ok());
+    assert!(rt; SortedEntries::<u32, u32, _>::with_room(&heap, 0).is_ok());
     assert!(rt; !heap.has_refused());
-    assert!(rt; SortedEntries::<u32, u32, Heap<'_>>::with_room(&heap, 1).is_err());
+    assert!(rt; SortedEntries::<u32, u32, _>::with_room(&heap, 1).is_err());
 }

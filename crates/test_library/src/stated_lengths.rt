@@ -48,7 +48,7 @@ enum Form {
 
 impl Form {
     /// What reading the form from the bytes returns.
-    fn read(self, heap: Heap<'_>, bytes: &[u8]) -> (Option<Error>, usize) {
+    fn read<H: Heap>(self, heap: H, bytes: &[u8]) -> (Option<Error>, usize) {
         let any = RangeCfg::from(..);
         let some: RangeCfg<NonZeroUsize> = RangeCfg::from(..);
         match self {

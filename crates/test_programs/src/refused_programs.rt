@@ -110,7 +110,7 @@ fn is_silent(output: &ScriptedWriter<Global>) -> bool {
 }
 
 /// The command that the words ask for.
-fn command_of(heap: Heap<'_>, words: &[&str]) -> Option<Command> {
+fn command_of<H: Heap>(heap: H, words: &[&str]) -> Option<Command> {
     let words = words_of(heap, words).ok()?;
     parse_args(&words)
 }
@@ -167,7 +167,7 @@ fn programs() -> [Asked<'static>; 9] {
 struct Run<'a>(Global, &'a Asked<'a>);
 
 impl<'b> Refusable for Run<'b> {
-    fn outcome(&self, heap: Heap<'_>, granted: u64) -> Outcome {
+    fn outcome<H: Heap>(&self, heap: H, granted: u64) -> Outcome {
         let Run(alloc, asked) = self;
         let Some(command) = command_of(heap, asked.words) else {
             return Outcome::Wrong;
@@ -190,7 +190,7 @@ impl<'b> Refusable for Run<'b> {
 struct Session<'a>(Global, &'a Asked<'a>);
 
 impl<'b> Refusable for Session<'b> {
-    fn outcome(&self, heap: Heap<'_>, granted: u64) -> Outcome {
+    fn outcome<H: Heap>(&self, heap: H, granted: u64) -> Outcome {
         let Session(alloc, asked) = self;
         let Ok(words) = words_of(heap, asked.words) else {
             return Outcome::Wrong;

@@ -46,10 +46,7 @@ pub fn two_session() -> Session<'static> {
 }
 
 /// The words, as the program gets them.
-pub fn words_of<'a>(
-    heap: Heap<'a>,
-    words: &[&str],
-) -> Result<Vec<String<Heap<'a>>, Heap<'a>>, AllocError> {
+pub fn words_of<H: Heap>(heap: H, words: &[&str]) -> Result<Vec<String<H>, H>, AllocError> {
     let mut strings = Vec::new(heap);
     for word in words {
         strings.push(String::from_str(heap, word)?)?;
@@ -58,10 +55,7 @@ pub fn words_of<'a>(
 }
 
 /// The program's name and then the words, as the program gets them.
-pub fn arguments_of<'a>(
-    heap: Heap<'a>,
-    words: &[&str],
-) -> Result<Vec<String<Heap<'a>>, Heap<'a>>, AllocError> {
+pub fn arguments_of<H: Heap>(heap: H, words: &[&str]) -> Result<Vec<String<H>, H>, AllocError> {
     let mut strings = words_of(heap, &["committee"])?;
     for word in words {
         strings.push(String::from_str(heap, word)?)?;

@@ -3,7 +3,7 @@ use crate::bounds::{MOST, ONE, SIX, TEN};
 use crate::committees::{
     ONE_AND_A_BYTE, ONE_CUT_SHORT, TWO, TWO_EQUAL, TWO_FALLING, TWO_REPORT, committee_of_256,
 };
-use crate::devices::{Input, Output, TAKEN, WHOLE};
+use crate::devices::{Input, Output, WHOLE};
 use crate::session_trial::{READ, Session, is_right, read_session, two_session, words_of};
 use committee_core::{Command, parse_args};
 use std::io::ErrorKind;

@@ -23,7 +23,7 @@ type Row = (
 );
 
 /// Whether a program does what it has to.
-fn is_right(heap: Heap<'_>, alloc: Global, row: &Row) -> Result<bool, AllocError> {
+fn is_right<H: Heap>(heap: H, alloc: Global, row: &Row) -> Result<bool, AllocError> {
     let (texts, wanted, written, said) = *row;
     let arguments = match texts {
         Some(texts) => Ok(words_of(heap, texts)?.into_iter()),
@@ -78,7 +78,7 @@ impl<'a> Start<'a> {
 }
 
 impl<'b> Refusable for Start<'b> {
-    fn outcome(&self, heap: Heap<'_>, granted: u64) -> Outcome {
+    fn outcome<H: Heap>(&self, heap: H, granted: u64) -> Outcome {
         let Ok(texts) = words_of(heap, &["committee", "read"]) else {
             return Outcome::Wrong;
         };
