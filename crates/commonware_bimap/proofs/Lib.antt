@@ -1,4 +1,3 @@
 pub mod BiMapReads
 pub mod Keys
-pub mod NoneEqual
 pub mod Refused

@@ -19,10 +19,10 @@ mod iterators;
 mod refs;
 
 pub use codec::bimap_fault_law;
+use commonware_columns::has_equal_values;
 use commonware_map::{Map, Pairs};
 use commonware_ordered::{Error, Set};
 use std::alloc::{AllocError, Allocator};
-use std::collections::HashSet;
 use std::hash::Hash;
 use std::marker::Model;
 use std::slice;
@@ -84,25 +84,6 @@ impl<K: Ord + Drop, V: Eq + Hash + Drop, A: Allocator + Copy> BiMap<K, V, A> {
         let BiMap { map } = self;
         map.into_pairs()
     }
-}
-
-/// Whether two positions hold equal values. It allocates for as many references, and for no values
-/// nothing.
-fn has_equal_values<V: Eq + Hash, A: Allocator + Copy>(
-    alloc: A,
-    values: &[V],
-) -> Result<bool, AllocError>
-    ensures found { IfOk result (λ found. IsTrue found ↔ HasEqualItems V.eq values.now) }
-    ensures empty { values.now ≡ [] → IsOk result }
-{
-    let mut seen = HashSet::new(alloc);
-    seen.reserve(values.len())?;
-    for value in values {
-        if !seen.insert(value)? {
-            return Ok(true);
-        }
-    }
-    Ok(false)
 }
 
 impl<K: Ord, V: Eq + Hash, A: Allocator> BiMap<K, V, A> {

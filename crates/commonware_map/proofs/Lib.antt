@@ -1,8 +1,6 @@
-pub mod ByKeys
 pub mod Calls
 pub mod Columns
 pub mod Lookups
 pub mod MapReads
 pub mod Stepped
-pub mod Walked
 pub mod Zipped

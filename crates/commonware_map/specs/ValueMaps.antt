@@ -1,4 +1,5 @@
 -- What a map of the values calls, and what it returns.
+pub use Rattle.commonware_columns.specs.ValueCalls.{CalledAtPair, TakesPair}
 use Rattle.std.specs.Prelude.{◌≡◌, List, ◌∷◌, ◌++◌, Ok, Err}
 use Rattle.std.specs.Borrow.{Bor}
 use Rattle.std.specs.Fn.{Called, Mut, Takes}
@@ -16,21 +17,10 @@ pub record CalledAtRefs {F K V R : Type 0} (calls : Mut F (Bor K × (Bor V × Un
   pub value_is : value.now ≡ pair.1
   pub called : Called calls f (key, (value, tt)) r f'
 
--- A call of f at a reference to the key of a pair and at its value returned r and left f'.
-pub record CalledAtPair {F K V R : Type 0} (calls : Mut F (Bor K × (V × Unit {0})) R) (f : F) (pair : K × V) (r : R)
-    (f' : F) : Type 0 where
-  pub key : Bor K
-  pub key_is : key.now ≡ pair.0
-  pub called : Called calls f (key, (pair.1, tt)) r f'
-
 -- f may be called at references to the key and the value of a pair.
 abbrev pub TakesRefs : {F K V R : Type 0} → Mut F (Bor K × (Bor V × Unit {0})) R → F → K × V → Type 0
 TakesRefs {F} {K} {V} calls f pair = (key : Bor K) → (value : Bor V) → key.now ≡ pair.0 → value.now ≡ pair.1
     → Takes calls f (key, (value, tt))
-
--- f may be called at a reference to the key of a pair and at its value.
-abbrev pub TakesPair : {F K V R : Type 0} → Mut F (Bor K × (V × Unit {0})) R → F → K × V → Type 0
-TakesPair {F} {K} calls f pair = (key : Bor K) → key.now ≡ pair.0 → Takes calls f (key, (pair.1, tt))
 
 -- The step from f to f' returned `Ok r`.
 abbrev pub Succeeds : {F X R E : Type 0} → (F → X → Result R E → F → Type 0) → F → X → R → F → Type 0

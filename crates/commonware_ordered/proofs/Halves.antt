@@ -42,11 +42,10 @@ module _ {X : Type 0} (run tree all : List X) (whole : run ++ tree ≡ all) wher
 pub strict_from_sorted : {K : Type 0} (cmp : K → K → Ordering) (ks ls : List K) → ls ≡ ks → IsStrictlySortedBy cmp ks → IsStrict cmp ls
 strict_from_sorted cmp ks ls is sorted k d high = Less-from_sorted cmp ls k (k + 1) d (subst (IsStrictlySortedBy cmp) (sym is) sorted) (omega arith) high
 
--- the keys of all are strictly increasing where those of both are
-pub strict_halves : {K V : Type 0} (cmp : K → K → Ordering) (run tree all : List (K × V)) → run ++ tree ≡ all → (run ≡ []) ⊎ (tree ≡ []) → IsStrictlySortedBy cmp (keys_of run) → IsStrictlySortedBy cmp (keys_of tree) → (ks : List K) → ks ≡ keys_of all → IsStrict cmp ks
-strict_halves cmp run tree all whole one in_run in_tree ks is =
-    strict_from_sorted cmp (keys_of all) ks is
-    (⊎_elim
+-- the keys of all are strictly sorted where those of both are
+pub sorted_halves : {K V : Type 0} (cmp : K → K → Ordering) (run tree all : List (K × V)) → run ++ tree ≡ all → (run ≡ []) ⊎ (tree ≡ []) → IsStrictlySortedBy cmp (keys_of run) → IsStrictlySortedBy cmp (keys_of tree) → IsStrictlySortedBy cmp (keys_of all)
+sorted_halves cmp run tree all whole one in_run in_tree =
+    ⊎_elim
     (λ e. subst (λ l. IsStrictlySortedBy cmp (keys_of l)) (sym (ap (λ l. l ++ tree) e) ∙ whole) in_tree)
     (λ e. subst (λ l. IsStrictlySortedBy cmp (keys_of l)) (run_is_all run tree all whole (ap length e)) in_run)
-    one)
+    one

@@ -144,7 +144,11 @@ module _ {K V : Type 0} {cmp : K → K → Ordering} (o : IsTotalOrder cmp) wher
     pub run_pairs : zip ls ws ≡ es ++ (k, v) ∷ []
     run_pairs = (λ j. zip (f j) (g j)) ∙ (zip-push ks vs k v even ∙ ap (λ l. l ++ (k, v) ∷ []) e)
 
+  -- the keys of the pairs before one are less than its key
+  pub keys_below_next : (es : List (K × V)) (p : K × V) (fs all : List (K × V)) → es ++ p ∷ fs ≡ all → IsStrictlySortedBy cmp (keys_of all) → AllByRecursion (λ q. cmp q.0 p.0 ≡ Less) es
+  keys_below_next es p fs all e s =
+      all_of_keys (λ x. cmp x p.0 ≡ Less) es (below_next o (keys_of es) p.0 (keys_of fs) (subst (IsStrictlySortedBy cmp) (sym (ap keys_of e) ∙ keys_amidst es p fs) s))
+
   -- pairs in order that are inserted into a tree in turn
   pub put_next : (es : List (K × V)) (p : K × V) (fs all gs : List (K × V)) (new : Bool) → es ++ p ∷ fs ≡ all → IsStrictlySortedBy cmp (keys_of all) → IsPut (λ p q. cmp p.0 q.0) es p new gs → gs ≡ es ++ p ∷ []
-  put_next es p fs all gs new e s =
-      put_at_end (on_total (λ p. p.0) o) es gs p new (all_of_keys (λ x. cmp x p.0 ≡ Less) es (below_next o (keys_of es) p.0 (keys_of fs) (subst (IsStrictlySortedBy cmp) (sym (ap keys_of e) ∙ keys_amidst es p fs) s)))
+  put_next es p fs all gs new e s = put_at_end (on_total (λ p. p.0) o) es gs p new (keys_below_next es p fs all e s)

@@ -13,7 +13,7 @@ use std::collections::BTreeSet;
 
 /// The most items, or pairs, for which room is reserved before the first has come: a few pages,
 /// whatever an iterator promises.
-pub(crate) const MOST_ROOM: usize = 4096;
+pub const MOST_ROOM: usize = 4096;
 
 /// Returns an empty list with room for some of the items that are to come, for no more than a few
 /// pages of them. Where none are to come it allocates nothing.

@@ -10,7 +10,8 @@ ghost use Rattle.commonware_ordered.specs.Whole.{IsRefusedFor, IsSetOfAll, IsWho
 
 use super::Map;
 use commonware_base::{EqClone, TryFromIterator};
-use commonware_ordered::{Error, Set, SortedEntries};
+use commonware_columns::{SortedEntries, dedup_columns};
+use commonware_ordered::{Error, Set};
 use std::alloc::{AllocError, Allocator};
 
 impl<K: Ord + Drop, V: Drop, A: Allocator + Copy> Map<K, V, A> {
@@ -26,12 +27,8 @@ impl<K: Ord + Drop, V: Drop, A: Allocator + Copy> Map<K, V, A> {
         ensures { IfOk result (λ m. TakesAll I.into_iter_gives I.IntoIter.next_gives iter
             (λ ps. IsDedup (on_keys K.eq) (on_keys K.cmp) ps m)) }
     {
-        let rest = iter.into_iter();
-        let mut entries = SortedEntries::with_room(alloc, rest.size_hint().0)?;
-        for (key, value) in rest {
-            entries.insert(key, value)?;
-        }
-        map_of(entries)
+        let (keys, values) = dedup_columns(alloc, iter)?;
+        Ok(Map::from_columns(Set::from_strict(keys), values))
     }
 
     /// Returns the map of all the pairs, or `DuplicateKey` where two of their keys are equal. It

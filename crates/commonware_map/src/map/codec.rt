@@ -12,8 +12,9 @@ ghost use Rattle.commonware_ordered.specs.Sets.{IsWritableSet};
 
 use super::Map;
 use commonware_base::codec::{
-    Canonical, EncodeSize, Error, MaxEncodeSize, RangeCfg, Read, Source, UInt, Write, read_list,
+    Canonical, EncodeSize, Error, MaxEncodeSize, RangeCfg, Read, Source, UInt, Write,
 };
+use commonware_columns::read_values;
 use commonware_ordered::{Set, read_set};
 use std::alloc::{AllocError, Allocator};
 
@@ -71,7 +72,7 @@ impl<K: Ord + Canonical + Read<A> + Drop, V: Read<A> + Drop, A: Allocator + Copy
     fn read_cfg(alloc: A, src: &mut Source<'_>, cfg: &Self::Cfg) -> Result<Map<K, V, A>, Error> {
         let mut here = *src;
         let keys = read_set::<K, A>(alloc, &mut here, cfg.0, &cfg.1)?;
-        let values = read_list::<V, A>(alloc, &mut here, RangeCfg::exact(keys.len()), &cfg.2)?;
+        let values = read_values::<V, A>(alloc, &mut here, keys.len(), &cfg.2)?;
         *src = here;
         Ok(Map { keys, values })
     }

@@ -8,6 +8,7 @@ ghost use Rattle.commonware_map.specs.ValueMaps.{CalledAtPair, CalledAtRefs, IfC
 use super::Map;
 use crate::MapError;
 use commonware_base::EqClone;
+use commonware_columns::called_values;
 use std::alloc::{AllocError, Allocator};
 
 impl<K: Ord + EqClone, V, A: Allocator + Copy> Map<K, V, A> {
@@ -63,18 +64,15 @@ impl<K: Ord + Drop, V: Drop, A: Allocator + Copy> Map<K, V, A> {
     /// the keys. Room for all values is reserved before the first call.
     pub fn map_values_into<U: Drop, F: FnMut(&K, V) -> U>(
         self,
-        mut f: F,
+        f: F,
     ) -> Result<Map<K, U, A>, AllocError>
         requires { CallableAlong (CalledAtPair F.FnMut) (TakesPair F.FnMut) f self }
         ensures keys { IfOk result (λ m. keys_of m ≡ keys_of self) }
         ensures values { IfOk result (λ m.
             CallsGiveAll (CalledAtPair F.FnMut) f self (values_of m)) }
     {
-        let mut mapped = Vec::with_capacity(*self.values.allocator(), self.len())?;
         let (keys, values) = self.into_columns();
-        for (key, value) in keys.iter().zip(values) {
-            mapped.push_reserved(f(key, value));
-        }
+        let mapped = called_values(keys.as_slice(), values, f)?;
         Ok(Map::from_columns(keys, mapped))
     }
 

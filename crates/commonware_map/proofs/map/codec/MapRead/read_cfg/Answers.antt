@@ -28,16 +28,16 @@ returns-clause-accepted g c =
     let cfg = c.args.cfg.now in
     let a = c.in_ok-keys.ensures in
     let b = c.in_ok-values.ensures in
-    let range : c.exact.result ≡ exactly (length c.in_ok-keys.keys) = c.exact.ensures.bounds ∙ ap exactly c.len.ensures in
+    let range : exactly c.len.result ≡ exactly (length c.in_ok-keys.keys) = ap exactly c.len.ensures in
     accepts_map g.K.EncodeSize.enc g.V.EncodeSize.enc g.K.EncodeSize.writable (g.K.Read.allowed cfg.1) g.K.Ord.cmp g.V.EncodeSize.writable (g.V.Read.allowed cfg.2) cfg.0 _ _ _ _ _ a.writable a.allowed b.writable
     (subst (λ r. IsAllowedList r (g.V.Read.allowed cfg.2) c.in_ok-values.values.items) range b.allowed) a.consumed.rest b.consumed.rest
 
 pub returns-clause-consumed : goal.returns-clause-consumed
 returns-clause-consumed g c =
     let b = c.in_ok-values.ensures in
-    let range : c.exact.result ≡ exactly (length c.in_ok-keys.keys) = c.exact.ensures.bounds ∙ ap exactly c.len.ensures in
+    let range : exactly c.len.result ≡ exactly (length c.in_ok-keys.keys) = ap exactly c.len.ensures in
     let even = as_many (g.V.Read.allowed c.args.cfg.now.2) (length c.in_ok-keys.keys) c.in_ok-values.values.items (subst (λ r. IsAllowedList r (g.V.Read.allowed c.args.cfg.now.2) c.in_ok-values.values.items) range b.allowed) in
-    consumes_map g.K.EncodeSize.enc g.V.EncodeSize.enc c.args.src.now c.read_set.new.src c.read_list.new.src c.in_ok-keys.keys c.in_ok-values.values.items even c.in_ok-keys.ensures.consumed b.consumed
+    consumes_map g.K.EncodeSize.enc g.V.EncodeSize.enc c.args.src.now c.read_set.new.src c.read_values.new.src c.in_ok-keys.keys c.in_ok-values.values.items even c.in_ok-keys.ensures.consumed b.consumed
 
 pub returns-in_err-values-clause-refused : goal.returns-in_err-values-clause-refused
 returns-in_err-values-clause-refused g c =
@@ -46,7 +46,7 @@ returns-in_err-values-clause-refused g c =
     let after = rest_of c.read_set.new.src in
     let a = c.in_ok-keys.ensures in
     let bytes = bytes_right (list_enc g.K.EncodeSize.enc c.in_ok-keys.keys) after (subst AreBytes a.consumed.rest (rest_bytes c.args.src.now c.args.src.now.are_bytes)) in
-    let range : c.exact.result ≡ exactly (length c.in_ok-keys.keys) = c.exact.ensures.bounds ∙ ap exactly c.len.ensures in
+    let range : exactly c.len.result ≡ exactly (length c.in_ok-keys.keys) = ap exactly c.len.ensures in
     let value_fault = λ (r : Bounds ℕ). ListFault g.V.EncodeSize.enc g.V.EncodeSize.writable (g.V.Read.allowed cfg.2) (g.V.Read.fault cfg.2) r after in
     let map_fault = MapFault g.K.EncodeSize.enc g.K.EncodeSize.writable g.K.Ord.cmp (g.K.Read.allowed cfg.1) (g.K.Read.fault cfg.1) g.V.EncodeSize.enc g.V.EncodeSize.writable (g.V.Read.allowed cfg.2) (g.V.Read.fault cfg.2) cfg.0 text in
     let free = λ (r : Bounds ℕ). IsListMemoryFree (g.V.Read.fault cfg.2) (g.V.Read.memory_free cfg.2) r after in

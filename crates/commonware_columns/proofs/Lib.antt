@@ -1,0 +1,5 @@
+pub mod ByKeys
+pub mod Columns
+pub mod Entries
+pub mod NoneEqual
+pub mod Walked
