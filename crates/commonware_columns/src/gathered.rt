@@ -11,12 +11,7 @@ use std::alloc::{AllocError, Allocator};
 /// Returns the keys in order, and the values at their positions, of the pairs that an iterator
 /// gives, where of equal keys the first pair stays. The only error is an allocation failure; it
 /// allocates for the pairs that stay. It takes O(n log n) comparisons.
-pub fn dedup_columns<
-    K: Ord + Drop,
-    V: Drop,
-    A: Allocator + Copy,
-    I: IntoIterator<Item = (K, V)>,
->(
+pub fn dedup_columns<K: Ord + Drop, V: Drop, A: Allocator + Copy, I: IntoIterator<Item = (K, V)>>(
     alloc: A,
     iter: I,
 ) -> Result<(Vec<K, A>, Vec<V, A>), AllocError>

@@ -19,9 +19,13 @@ returns-clause-dedup g c =
     let es = c.loop-key.entries in
     let pairs = (λ j. zip (c.in_ok-keys.ensures.keys j) (c.in_ok-keys.ensures.values j)) ∙ zip-parts es in
     let strict = strict_by_keys g.K.Ord.cmp es (subst (IsStrict g.K.Ord.cmp) c.in_ok-keys.ensures.keys c.in_ok-keys.ensures.strict) in
-    let given = subst (g.I.IntoIterator.into_iter_gives c.args.iter) (sym c.into_iter-key-iterator.ensures.into_iter_gives) c.into_iter-rest.ensures.into_iter_gives in
-    (c.into_iter-key-iterator.result, c.loop-key.yielded, given, (c.next.new.self, (c.loop-key.key-iterator, c.loop-key.yielded_by, c.in-None.ensures.steps)),
-    dedup_from_keeps total (λ p q. g.met.K.Ord.matches_eq p.0 q.0) c.loop-key.yielded _ (subst (IsStrict (λ p q. g.K.Ord.cmp p.0 q.0)) (sym pairs) strict) (subst (Keeps total c.loop-key.yielded) (sym pairs) c.loop-key.invariant))
+    let given = subst (g.I.IntoIterator.into_iter_gives c.args.iter) (sym c.into_iter-key-iterator.ensures.into_iter_gives) c.into_iter-rest.ensures.into_iter_gives in (
+      c.into_iter-key-iterator.result,
+      c.loop-key.yielded,
+      given,
+      (c.next.new.self, (c.loop-key.key-iterator, c.loop-key.yielded_by, c.in-None.ensures.steps)),
+      dedup_from_keeps total (λ p q. g.met.K.Ord.matches_eq p.0 q.0) c.loop-key.yielded _ (subst (IsStrict (λ p q. g.K.Ord.cmp p.0 q.0)) (sym pairs) strict) (subst (Keeps total c.loop-key.yielded) (sym pairs) c.loop-key.invariant),
+    )
 
 pub returns-clause-even : goal.returns-clause-even
 returns-clause-even g c =
