@@ -1,7 +1,6 @@
 //! Builders of maps: of equal keys the first pair stays, or equal keys are refused.
 ghost use Rattle.std.specs.Prelude.{◌≡◌, IfOk};
 ghost use Rattle.std.specs.Iterator.{IsFiniteIterable};
-ghost use Rattle.std.specs.Map.{keys_of, values_of};
 ghost use Rattle.commonware_base.specs.Taken.{TakesAll};
 ghost use Rattle.commonware_map.specs.Pairs.{on_both, on_keys};
 ghost use Rattle.commonware_ordered.specs.Dedup.{IsDedup};
