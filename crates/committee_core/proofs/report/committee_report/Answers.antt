@@ -8,3 +8,6 @@ pub returns : goal.returns
 returns g c =
     let n = length c.args.members.now in
     (n3f1_faults n, n5f1_faults n, 2 * n5f1_faults n + 1, are_numbers n c.requires.some, grind (arith, common_steps))
+
+pub loop-position-preserved : goal.loop-position-preserved
+loop-position-preserved g c = grind (arith, common_steps)

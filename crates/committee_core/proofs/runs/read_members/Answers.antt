@@ -6,6 +6,8 @@ use Rattle.committee_core.specs.declared.error.RunError.TheVariants.{Memory}
 use Rattle.committee_core.proofs.CommitteePrefixes.{prefix_refused}
 use Rattle.commonware_base.proofs.Errors.{err_along}
 use Rattle.committee_core.proofs.Refusals.{err_is, refused_by_reader, wanted_by_reader}
+use Rattle.std.proofs.Common.{arith}
+use Rattle.std.proofs.lemmas.Grind.{common_steps}
 use Rattle.committee_core.proofs.runs.read_members.Goals as goal
 
 pub returns-in_err-members-clause-refused : goal.returns-in_err-members-clause-refused
@@ -24,3 +26,9 @@ returns-in_err-members-clause-memory g c = λ s is_front memory.
     let error = c.in_err-members.field-0.0 in
     let whole = prefix_refused c.from.result (rest_of c.new-src.result) s c.args.prefix.now error range text is_front c.in_err-members.ensures.refused in
     wanted_by_reader (committee_fault s) (IsCommitteeMemoryFree s) error whole (err_is c.from_residual.result (refusal_of error) Memory c.from_residual.ensures.1 memory)
+
+pub returns-then-left-gt0-clause-refused : goal.returns-then-left-gt0-clause-refused
+returns-then-left-gt0-clause-refused g c = grind (arith, common_steps)
+
+pub returns-clause-accepted : goal.returns-clause-accepted
+returns-clause-accepted g c = grind (arith, common_steps)

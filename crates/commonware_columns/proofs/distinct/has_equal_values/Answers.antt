@@ -38,3 +38,6 @@ returns-clause-found g c = (
   λ never. cc,
   λ twice. absurd (c.loop-value.invariant.0 (subst (HasEqualItems g.V.PartialEq.eq) (sym (take_all c.loop-value.value-index c.args.values.now (search rules))) twice)),
 )
+
+pub loop-value-init : goal.loop-value-init
+loop-value-init g c = grind (arith, common_steps)

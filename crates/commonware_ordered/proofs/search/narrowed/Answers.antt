@@ -1,6 +1,7 @@
 use Rattle.std.proofs.Common.{◌≤◌, ◌*◌, ◌/◌, sym, ap, ◌∙◌, arith}
 use Rattle.std.proofs.lemmas.List.{get_or_default}
 use Rattle.commonware_ordered.proofs.Narrowing.{quartered_within, passed_at_most, none_from_only}
+use Rattle.std.proofs.lemmas.Grind.{common_steps}
 use Rattle.commonware_ordered.proofs.search.narrowed.Goals as goal
 
 pub loop-size-preserved : goal.loop-size-preserved
@@ -27,3 +28,6 @@ returns-else-eq g c =
     let at = c.index-items-place in
     none_from_only g.T.PartialEq.eq xs c.args.item.now c.last_steps-place.result c.last_steps-place.ensures
     (λ within d. ap (λ y. g.T.PartialEq.eq y c.args.item.now) (get_or_default xs c.last_steps-place.result d at.result within ∙ sym at.is) ∙ (sym c.eq.ensures ∙ c.if-eq.false))
+
+pub returns-then-eq : goal.returns-then-eq
+returns-then-eq g c = grind (arith, common_steps)

@@ -2,6 +2,7 @@ use Rattle.std.proofs.Common.{◌-◌, ◌≤◌, [], ◌∷◌, ◌++◌, get_o
 use Rattle.judge_questions.specs.Hex.{IsHex}
 use Rattle.judge_questions.proofs.HexLemmas.{hex_more, hex_rest, long_hex, no_byte, text_is_hex, two_front, one_left}
 use Rattle.judge_questions.proofs.AllocationFailure.{at_error}
+use Rattle.std.proofs.lemmas.Grind.{common_steps}
 use Rattle.judge_questions.proofs.hex.read_text.Goals as goal
 
 pub loop-rest-preserved : goal.loop-rest-preserved
@@ -36,3 +37,6 @@ pub returns-in_err-push-clause-memory : goal.returns-in_err-push-clause-memory
 returns-in_err-push-clause-memory g c =
     let (done, split, hex) = c.loop-rest.invariant in
     at_error c.from_residual.result _ (long_hex c.args.word.now done c.loop-rest.rest.now c.loop-rest.bytes split hex c.in_err-push.ensures.memory c.in-len2-up.len_at_least)
+
+pub returns-then-is_empty-2-clause-read : goal.returns-then-is_empty-2-clause-read
+returns-then-is_empty-2-clause-read g c = grind (arith, common_steps)

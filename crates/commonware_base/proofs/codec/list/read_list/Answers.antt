@@ -6,6 +6,7 @@ use Rattle.commonware_base.specs.laws.RefusalLaws.{refuses_from}
 use Rattle.commonware_base.specs.Source.{rest_of}
 use Rattle.commonware_base.proofs.Errors.{err_along}
 use Rattle.commonware_base.proofs.ReadSteps.{ReadSoFar, read_none, read_more, read_all, read_all_writable, read_all_allowed, read_outside, read_faulty, read_wants, list_faulty, list_wants}
+use Rattle.std.proofs.lemmas.Grind.{common_steps}
 use Rattle.commonware_base.proofs.codec.list.read_list.Goals as goal
 
 pub returns-then-not-contains-clause-refused : goal.returns-then-not-contains-clause-refused
@@ -66,3 +67,6 @@ returns-in_err-items-in-Some-clause-refused g c =
     (list_faulty g.T.EncodeSize.enc g.T.EncodeSize.writable (g.T.Read.allowed c.args.item.now) c.args.range c.in_ok-count.count c.args.src.now c.read_varint.new.src c.in_ok-count.ensures.fits c.in_ok-count.ensures.consumed (g.T.Read.fault c.args.item.now) (g.T.Read.memory_free c.args.item.now) (c.if-not-contains.ensures.0 refl))
     (list_wants g.T.EncodeSize.enc g.T.EncodeSize.writable (g.T.Read.allowed c.args.item.now) c.args.range c.in_ok-count.count c.args.src.now c.read_varint.new.src c.in_ok-count.ensures.fits c.in_ok-count.ensures.consumed (g.T.Read.fault c.args.item.now) (g.T.Read.memory_free c.args.item.now) (c.if-not-contains.ensures.0 refl) (g.met.T.Read.read_laws c.args.alloc c.args.item.now).accepted_no_fault)
     c.in_err-items-in-Some.field-0.0 refused)
+
+pub returns-in-Some-clause-consumed : goal.returns-in-Some-clause-consumed
+returns-in-Some-clause-consumed g c = grind (arith, common_steps)

@@ -2,6 +2,8 @@ use Rattle.std.proofs.Common.{◌≡◌, [], ◌++◌, ap, refl, ◌∙◌}
 use Rattle.std.proofs.lemmas.Cmp.{on_total}
 use Rattle.commonware_ordered.proofs.Halves.{put_in_run, put_in_tree, run_is_all, run_is_none}
 use Rattle.commonware_columns.proofs.sorted_entries.SortedEntries.insert.Goals as goal
+use Rattle.std.proofs.Common.{arith}
+use Rattle.std.proofs.lemmas.Grind.{common_steps}
 use Rattle.commonware_columns.proofs.sorted_entries.SortedEntries.insert.Goals.{then-is_empty+in-Greater+in_ok-move_into-in-Greater, else-is_empty}
 
 pub returns-in-Less-clause-put : goal.returns-in-Less-clause-put
@@ -26,3 +28,12 @@ returns-clause-put g c =
           let none : c.self.inside.run ≡ [] = run_is_none c.self.inside.run c.self.inside.tree.entries c.args.self.now c.self.view_is c.self.invariant (λ e. cc (w.if-is_empty.ensures.1 e)) in
           put_whole ((λ j. same_run j ++ same_tree j) ∙ c.self.view_is) (same_run ∙ none))
     ]
+
+pub invariant_of-self-in-Less : goal.invariant_of-self-in-Less
+invariant_of-self-in-Less g c = grind (arith, common_steps)
+
+pub returns-in_err-move_into-in-Greater-clause-prefix : goal.returns-in_err-move_into-in-Greater-clause-prefix
+returns-in_err-move_into-in-Greater-clause-prefix g c = grind (arith, common_steps)
+
+pub returns-clause-prefix : goal.returns-clause-prefix
+returns-clause-prefix g c = grind (arith, common_steps)

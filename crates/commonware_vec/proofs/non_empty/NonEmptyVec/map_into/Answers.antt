@@ -2,6 +2,7 @@ use Rattle.std.proofs.Common.{ap, arith, length, sym, ◌∙◌}
 use Rattle.std.proofs.lemmas.List.{nil_from_length}
 use Rattle.commonware_base.specs.laws.CallLaws.{length_answers, so_far_all, so_far_more}
 use Rattle.commonware_vec.specs.Closures.{CalledWith}
+use Rattle.std.proofs.lemmas.Grind.{common_steps}
 use Rattle.commonware_vec.proofs.non_empty.NonEmptyVec.map_into.Goals as goal
 
 pub loop-item-preserved : goal.loop-item-preserved
@@ -19,3 +20,6 @@ invariant_of-result g c =
     let kept = c.loop-item.invariant in
     let all = so_far_all (CalledWith g.F.FnMut) _ _ _ _ _ kept.calls (nil_from_length _ (sym kept.counted ∙ c.in-None.ensures.steps.0)) in
     omega (arith, length_answers (CalledWith g.F.FnMut) _ _ _ all, c.self.invariant, ap length c.self.view_is)
+
+pub returns-clause-items : goal.returns-clause-items
+returns-clause-items g c = grind (arith, common_steps)

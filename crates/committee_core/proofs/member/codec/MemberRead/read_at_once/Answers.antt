@@ -4,6 +4,7 @@ use Rattle.commonware_base.specs.Source.{rest_of}
 use Rattle.commonware_base.specs.laws.SourceLaws.{rest_bytes}
 use Rattle.committee_core.specs.laws.MemberLaws.{member_laws}
 use Rattle.committee_core.specs.Members.{IsMember, member_bytes, member_fault}
+use Rattle.std.proofs.lemmas.Grind.{common_steps}
 use Rattle.committee_core.proofs.member.codec.MemberRead.read_at_once.Goals as goal
 
 pub returns-then-remaining-count-clause-refused : goal.returns-then-remaining-count-clause-refused
@@ -18,3 +19,6 @@ returns-in_default-clause-refused g c =
 
 pub returns-clause-allowed : goal.returns-clause-allowed
 returns-clause-allowed g c = each_allowed c.loop.items.items
+
+pub loop-preserved : goal.loop-preserved
+loop-preserved g c = grind (arith, common_steps)

@@ -8,6 +8,7 @@ use Rattle.commonware_base.specs.laws.SourceLaws.{rest_bytes}
 use Rattle.commonware_base.specs.Text.{IsByte}
 use Rattle.commonware_base.proofs.ByteSteps.{byte_short, bytes_join}
 use Rattle.commonware_base.proofs.SourceLemmas.{consumes_front}
+use Rattle.std.proofs.lemmas.Grind.{common_steps}
 use Rattle.commonware_base.proofs.codec.primitives.U8Read.read_at_once.Goals as goal
 
 pub returns-then-lacks-clause-refused : goal.returns-then-lacks-clause-refused
@@ -29,3 +30,6 @@ returns-clause-consumed g c =
 
 pub returns-clause-allowed : goal.returns-clause-allowed
 returns-clause-allowed g c = each_allowed c.in-Ok.items.items
+
+pub returns-clause-writable : goal.returns-clause-writable
+returns-clause-writable g c = grind (arith, common_steps)

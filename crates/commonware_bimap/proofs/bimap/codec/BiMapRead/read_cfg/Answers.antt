@@ -8,6 +8,8 @@ use Rattle.commonware_map.specs.Maps.{MapFault}
 use Rattle.commonware_ordered.specs.Whole.{HasEqualItems, MatchError}
 use Rattle.commonware_bimap.specs.BiMaps.{BiMapFault, bad_map, bad_values, repeated_fault}
 use Rattle.commonware_bimap.proofs.BiMapReads.{pairs_want_memory}
+use Rattle.std.proofs.Common.{arith}
+use Rattle.std.proofs.lemmas.Grind.{common_steps}
 use Rattle.commonware_bimap.proofs.bimap.codec.BiMapRead.read_cfg.Goals as goal
 
 pub returns-in_err-map-clause-refused : goal.returns-in_err-map-clause-refused
@@ -33,3 +35,6 @@ returns-in-Err-DuplicateValue-clause-refused g c =
     let a = c.in_ok-map.ensures.accepted in
     let twice = subst (λ e. MatchError e ⊥ (HasEqualItems g.V.PartialEq.eq (values_of c.in_ok-map.map))) c.in-Err-DuplicateValue.field-0-is c.in-Err-DuplicateValue.ensures.whole in
     bad_values (refl {a = repeated_fault}) (record { pairs = c.in_ok-map.map; rest = _; begins = a.begins; writable = a.writable; allowed = a.allowed; repeated = twice })
+
+pub returns-in-Ok-clause-accepted : goal.returns-in-Ok-clause-accepted
+returns-in-Ok-clause-accepted g c = grind (arith, common_steps)
