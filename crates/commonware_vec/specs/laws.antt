@@ -1,2 +1,1 @@
 pub mod NonEmptyLaws
-pub mod QueueLaws

@@ -1,12 +1,10 @@
-//! Non-empty lists, and queues of a fixed capacity.
+//! Lists with at least one item.
 #![tactic(auto)]
 
-mod bounded;
 mod error;
 mod mutate;
 mod non_empty;
 
-pub use bounded::Bounded;
 pub use error::Error;
 pub use mutate::Mutate;
 pub use non_empty::{NonEmptyVec, non_empty_fault_law};

@@ -4,7 +4,7 @@ use Rattle.std.proofs.Common.{ap}
 use Rattle.std.proofs.lemmas.Bool.{eqb-true}
 use Rattle.std.specs.Hash as fed
 use Rattle.std.specs.Hash.{Alike}
-use Rattle.commonware_vec.specs.Queues.{Queue}
+use Rattle.commonware_queue.specs.Queues.{Queue}
 
 -- equal capacities are fed to a hasher alike
 pub capacities_alike : {T : Type 0} → Alike (λ (b c : Queue T). b.capacity == c.capacity) (λ b. fed.usize b.capacity)

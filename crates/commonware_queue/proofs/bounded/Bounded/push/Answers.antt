@@ -1,6 +1,6 @@
 use Rattle.std.proofs.Common.{◌≡◌, ◌+◌, ◌-◌, ap, arith, length}
-use Rattle.commonware_vec.proofs.Turned.{turned_and_set, turned_last}
-use Rattle.commonware_vec.proofs.bounded.Bounded.push.Goals as goal
+use Rattle.commonware_queue.proofs.Turned.{turned_and_set, turned_last}
+use Rattle.commonware_queue.proofs.bounded.Bounded.push.Goals as goal
 
 pub returns-clause-full : goal.returns-clause-full
 returns-clause-full g c = λ full.

@@ -7,7 +7,7 @@ ghost use Rattle.std.specs.Hash.{and-Alike, items_Alike, on_Alike};
 ghost use Rattle.std.specs.Int.NonZero.{non_zero_usize_get};
 ghost use Rattle.std.specs.List.{AllZip};
 ghost use Rattle.std.proofs.lemmas.Cmp.{nat_eq_equiv};
-ghost use Rattle.commonware_vec.specs.laws.QueueLaws.{capacities_alike};
+ghost use Rattle.commonware_queue.specs.laws.QueueLaws.{capacities_alike};
 
 use std::alloc::{AllocError, Allocator};
 use std::collections::VecDeque;
@@ -31,7 +31,7 @@ pub struct Bounded<T, A: Allocator> {
 impl<T, A: Allocator> Model for Bounded<T, A> {
     ghost use Rattle.std.specs.Prelude.{◌≤◌, length};
     ghost use Rattle.std.specs.Int.NonZero.{non_zero_usize_get};
-    ghost use Rattle.commonware_vec.specs.Queues.{Queue};
+    ghost use Rattle.commonware_queue.specs.Queues.{Queue};
 
     ghost Value = { Queue T };
 

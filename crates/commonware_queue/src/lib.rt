@@ -1,0 +1,6 @@
+//! Queues of a fixed capacity.
+#![tactic(auto)]
+
+mod bounded;
+
+pub use bounded::Bounded;
