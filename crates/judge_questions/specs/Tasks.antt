@@ -9,7 +9,7 @@ use Rattle.judge_questions.specs.declared.collection.Collection.{Collection}
 use Rattle.judge_questions.specs.declared.collection.SetForm.{SetForm}
 use Rattle.judge_questions.specs.declared.form.Form.{Form}
 use Rattle.judge_questions.specs.declared.question.Unreadable.{Unreadable}
-use Rattle.judge_questions.specs.declared.question.Unreadable.TheVariants.{Name, Ranges, Bytes, Model, Number}
+use Rattle.judge_questions.specs.declared.question.Unreadable.TheVariants.{Name, Bytes, Model, Number}
 use Rattle.judge_questions.specs.declared.task.Task.{Task}
 use Rattle.judge_questions.specs.declared.task.Task.TheVariants as tasks
 use Rattle.judge_questions.specs.declared.verb.Verb.{Verb}
