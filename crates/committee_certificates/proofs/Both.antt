@@ -36,19 +36,19 @@ filter_agree p q low (x ∷ xs) r same =
     rw (rest, here) refl
 
 -- a first number below the first of the others is in none of them
-common_less : (x y : ℕ) (xs ys : List ℕ) → x < y → RisesFrom 0 (y ∷ ys) → common (x ∷ xs) (y ∷ ys) ≡ common xs (y ∷ ys)
+pub common_less : (x y : ℕ) (xs ys : List ℕ) → x < y → RisesFrom 0 (y ∷ ys) → common (x ∷ xs) (y ∷ ys) ≡ common xs (y ∷ ys)
 common_less x y xs ys h r =
     let none : has (y ∷ ys) x ≡ false = has_not_below y (y ∷ ys) x h (omega arith, r.1) in
     rw none refl
 
 -- the first of the others is in none where it is below the first number
-common_greater : (x y : ℕ) (xs ys : List ℕ) → y < x → RisesFrom 0 (x ∷ xs)
+pub common_greater : (x y : ℕ) (xs ys : List ℕ) → y < x → RisesFrom 0 (x ∷ xs)
     → common (x ∷ xs) (y ∷ ys) ≡ common (x ∷ xs) ys
 common_greater x y xs ys h r =
     filter_agree (has (y ∷ ys)) (has ys) x (x ∷ xs) (omega arith, r.1) (λ k above. has_after y ys k (omega arith))
 
 -- a first number that both have
-common_equal : (x : ℕ) (xs ys : List ℕ) → RisesFrom 0 (x ∷ xs) → common (x ∷ xs) (x ∷ ys) ≡ x ∷ common xs ys
+pub common_equal : (x : ℕ) (xs ys : List ℕ) → RisesFrom 0 (x ∷ xs) → common (x ∷ xs) (x ∷ ys) ≡ x ∷ common xs ys
 common_equal x xs ys r =
     let here = has_first x ys in
     let rest : filter (has (x ∷ ys)) xs ≡ filter (has ys) xs =
@@ -56,7 +56,7 @@ common_equal x xs ys r =
     rw (here, rest) refl
 
 -- nothing is in an empty list
-common_none : (xs : List ℕ) → common xs [] ≡ []
+pub common_none : (xs : List ℕ) → common xs [] ≡ []
 common_none [] = refl
 common_none (x ∷ xs) = common_none xs
 

@@ -1,6 +1,7 @@
 -- Signers as subsets of positions: what two of them share, and what is outside.
 use Rattle.std.proofs.Common.{◌≡◌, ℕ, ◌+◌, ◌-◌, ◌*◌, ◌<◌, ◌≤◌, Bool, true, false, ◌&&◌, List, length, get_or, Some}
 use Rattle.std.proofs.Common.{slice_get, ◌⊎◌, Decides, refl, ap, sym, ◌∙◌, arith, inl, inr}
+use Rattle.std.proofs.Math.Nat.{mul-le-mul_right}
 use Rattle.std.specs.Cmp.{nat_eq_equiv}
 use Rattle.std.specs.List.{Contains, range_with_len}
 use Rattle.std.specs.Ordering.{nat_cmp}
@@ -10,7 +11,7 @@ use Rattle.std.proofs.lemmas.List.Elements.{All-from_get_or, All-contains, Conta
 use Rattle.std.proofs.lemmas.List.FromFn.{get_or-map-range_with_len}
 use Rattle.std.proofs.lemmas.Map.Views.{Contains-from_any, list_any-from_Contains}
 use Rattle.std.proofs.lemmas.Option.{slice_get-get_or, slice_get_within}
-use Rattle.commonware_faults.specs.Subsets.{size, shared, passing, IsIn, IsOutside, Overlap, Greatest3, Greatest5}
+use Rattle.commonware_faults.specs.Subsets.{size, shared, passing, IsIn, IsOutside, Overlap, Greatest, Greatest3, Greatest5}
 use Rattle.commonware_faults.specs.laws.SubsetLaws.{Overlap-at_ends, beyond}
 use Rattle.commonware_faults.specs.laws.ToleranceLaws.{quorums_share, Greatest-fit, Greatest-three}
 use Rattle.commonware_faults.specs.laws.SubsetSizeLaws.{shared-map, size-agree, length-passing}
@@ -118,3 +119,7 @@ overlap-many n f k many h o = omega (arith, h, Overlap-at_ends n (n - f) (n - f)
 pub thirds-fit : (n f : ℕ) → Greatest3 n f ⊎ Greatest5 n f → 3 * f + 1 ≤ n
 thirds-fit n f (inl h) = (Greatest-fit 3 n f (omega arith) (Greatest-three n f h)).fits
 thirds-fit n f (inr h) = omega (arith, (Greatest-fit 5 n f (omega arith) h).fits)
+
+-- and where it is at any k of 3 and more
+pub resilient-fit : (k n f : ℕ) → 3 ≤ k → Greatest k n f → 3 * f + 1 ≤ n
+resilient-fit k n f three h = omega (arith, (Greatest-fit k n f (omega (arith, three)) h).fits, mul-le-mul_right f three)

@@ -1,6 +1,7 @@
 -- The signers of certificates, as participants of a committee of n members. A set of signers is the list of their
 -- indices, strictly increasing. `faults` are those of a fault model: how many of n members may be faulty.
-use Rattle.std.specs.Prelude.{◌≡◌, ℕ, ◌-◌, ◌<◌, ◌≤◌, ◌↔◌, Bool, List, length, All, Any, Contains}
+use Rattle.std.specs.Prelude.{◌≡◌, ℕ, ◌+◌, ◌-◌, ◌*◌, ◌<◌, ◌≤◌, ◌↔◌, Bool, List, length}
+use Rattle.std.specs.Prelude.{All, Any, Contains}
 use Rattle.std.specs.Ordering.{nat_cmp}
 use Rattle.commonware_faults.specs.Subsets.{size, IsOutside}
 use Rattle.commonware_ordered.specs.Strict.{IsStrict}
@@ -37,3 +38,9 @@ pub record LeavesOneOutside (n f : ℕ) (signers : List ℕ) : Type 0 where
       → (index : ℕ) × Contains signers index × IsOutside faulty index
   pub of_participants : (faulty : List ℕ) → IsStrict nat_cmp faulty → AreMembers n faulty → length faulty ≤ f
       → (index : ℕ) × Contains signers index × (¬ Contains faulty index)
+
+-- What the signers of both of two certificates are at a resilience k of 3 and more: at least (k - 2)f + 1, of whom one is
+-- outside any f of the n members.
+pub record OutnumberFaults (k n f : ℕ) (signers : List ℕ) : Type 0 where
+  pub many : (k - 2) * f + 1 ≤ length signers
+  pub leaves : LeavesOneOutside n f signers

@@ -1,11 +1,11 @@
 //! Accountability: the members that signed both of two certificates for different values, which is
 //! equivocation.
-ghost use Rattle.std.specs.Prelude.{◌≡◌, ◌≢◌, ◌+◌, ◌*◌, ◌<◌, ◌≤◌, ◌⊎◌, ◌↔◌, IfOk, IsErrOf, IsFalse, IsTrue, OnOk, length, pos};
+ghost use Rattle.std.specs.Prelude.{◌≡◌, ◌≢◌, ◌+◌, ◌*◌, ◌<◌, ◌≤◌, ◌⊎◌, ◌↔◌, ℕ, IfOk, IsErrOf, IsFalse, IsTrue, OnOk, length, pos};
 ghost use Rattle.committee_certificates.specs.declared.conflicts.ConflictError.TheVariants.{Memory, Outside, TooFew};
 ghost use Rattle.committee_certificates.specs.Signers.{AreInBoth, AreMembers, AreQuorum, AreTooFew};
-ghost use Rattle.committee_certificates.specs.Signers.{HasOutsider, LeavesOneOutside};
+ghost use Rattle.committee_certificates.specs.Signers.{HasOutsider, LeavesOneOutside, OutnumberFaults};
 ghost use Rattle.commonware_faults.specs.Counts.{IsCommitteeSize};
-ghost use Rattle.commonware_faults.specs.Subsets.{Greatest3, Greatest5};
+ghost use Rattle.commonware_faults.specs.Subsets.{Greatest, Greatest3, Greatest5};
 ghost use Rattle.commonware_ordered.specs.Strict.{IsStrict};
 
 use crate::certificate::Certificate;
@@ -75,6 +75,8 @@ pub fn conflict<M: Faults, T: Ord, A: Allocator>(
     ensures both { IfOk result (AreInBoth first.now.signers second.now.signers) }
     ensures shared { let n = length committee.now in
         IfOk result (λ both. n ≤ 2 * M.faults n + length both) }
+    ensures accountable { let n = length committee.now in (k : ℕ) → 3 ≤ k
+        → Greatest k n (M.faults n) → IfOk result (OutnumberFaults k n (M.faults n)) }
     ensures thirds { let n = length committee.now in Greatest3 n (M.faults n)
         → IfOk result (λ both. M.faults n + 1 ≤ length both) }
     ensures fifths { let n = length committee.now in Greatest5 n (M.faults n)

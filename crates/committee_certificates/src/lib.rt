@@ -4,6 +4,10 @@
 
 mod certificate;
 mod conflicts;
+mod in_place;
+mod walk;
 
 pub use certificate::{Certificate, certificate_fault_law};
 pub use conflicts::{ConflictError, conflict, conflict_among};
+pub use in_place::{CertificateAt, SignersAt, find_certificate, find_signers};
+pub use walk::write_both;

@@ -20,4 +20,4 @@ pub use laws::{list_fault_law, round_trip, varint_law};
 pub use list::read_list;
 pub use source::Source;
 pub use traits::{Canonical, EncodeSize, MaxEncodeSize, Read, Write};
-pub use varint::UInt;
+pub use varint::{UInt, read_varint};

@@ -14,3 +14,11 @@ refuses_from P Q M N on_fault on_memory InvalidVarint r = on_fault faults.Invali
 refuses_from P Q M N on_fault on_memory (InvalidLength n) r = on_fault (faults.InvalidLength n) r
 refuses_from P Q M N on_fault on_memory (Invalid what why) r = on_fault (faults.Invalid what.now why.now) r
 refuses_from P Q M N on_fault on_memory Memory r = on_memory r
+
+-- An error where the decoding is memory-free names a fault.
+pub fault_of_refusal : (P : Fault → Type 0) (e : Error) → Refuses P (Unit {0}) e → (f : Fault) × P f
+fault_of_refusal P EndOfBuffer r = (faults.EndOfBuffer, r)
+fault_of_refusal P InvalidVarint r = (faults.InvalidVarint, r)
+fault_of_refusal P (InvalidLength n) r = (faults.InvalidLength n, r)
+fault_of_refusal P (Invalid what why) r = (faults.Invalid what.now why.now, r)
+fault_of_refusal P Memory r = absurd (r tt)

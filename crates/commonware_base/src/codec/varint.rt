@@ -1,7 +1,7 @@
 //! Varints: numbers below 2^32 in groups of seven bits, the lowest group first, one group a byte,
 //! the top bit set on every byte but the last, in the fewest bytes. An overlong encoding is
 //! refused.
-ghost use Rattle.std.specs.Prelude.{◌≡◌, ℕ, ◌+◌, ◌≤◌, ◌<◌, ◌^◌, ◌==◌, ◌++◌, List, length, take, OnOk, OnErr, IfOk, IfErr, refl};
+ghost use Rattle.std.specs.Prelude.{◌≡◌, ℕ, ◌+◌, ◌≤◌, ◌<◌, ◌^◌, ◌==◌, ◌++◌, List, length, take, OnOk, OnErr, IfOk, IfErr, IfSome, refl};
 ghost use Rattle.commonware_base.specs.Refusal.{Refuses};
 ghost use Rattle.commonware_base.specs.Source.{rest_of, Consumes};
 ghost use Rattle.commonware_base.specs.laws.TextLaws.{prefix_free_on, laws_on, canonical_on};
@@ -114,18 +114,41 @@ pub(crate) fn push_varint<A: Allocator>(
     Ok(())
 }
 
-/// Decodes the varint that comes next.
-pub(crate) fn read_varint(src: &mut Source<'_>) -> Result<u32, Error>
+/// Decodes the varint that comes next. It takes no memory, and after an error the source is where
+/// it was.
+pub fn read_varint(src: &mut Source<'_>) -> Result<u32, Error>
     ensures consumed { IfOk result (λ number. Consumes src.old src.new (varint number)) }
     ensures fits { IfOk result (λ number. number < 2 ^ 32) }
     ensures refused { IfErr result (Refuses (varint_fault (rest_of src.old)) (Unit {0})) }
     ensures stays { OnErr result (src.new ≡ src.old) }
 {
     let rest = src.rest();
+    if let Some((number, count)) = short_varint(rest) {
+        src.advance(count);
+        return Ok(number);
+    }
     let count = varint_len(rest)?;
     let number = groups_value(&rest[..count]);
     src.advance(count);
     Ok(number)
+}
+
+/// Returns the number at the start of the bytes, and its length, where that is one or two bytes, as
+/// most are.
+#[inline(always)]
+fn short_varint(bytes: &[u8]) -> Option<(u32, usize)>
+    ensures within { IfSome result (λ found. found.1 ≤ length bytes.now) }
+    ensures found { IfSome result (λ found. IsVarint found.0 (take found.1 bytes.now)) }
+{
+    let low = *bytes.first()?;
+    if low < 128 {
+        return Some((u32::from(low), 1));
+    }
+    let high = *bytes.get(1)?;
+    if high == 0 || high >= 128 {
+        return None;
+    }
+    Some((u32::from(low % 128) + 128 * u32::from(high), 2))
 }
 
 /// Returns the length of the varint at the start of the bytes.

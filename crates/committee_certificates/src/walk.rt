@@ -1,0 +1,119 @@
+//! Signers walked in place, index by index.
+ghost use Rattle.std.specs.Prelude.{◌≡◌, ◌<◌, ◌≤◌, ◌++◌, ℕ, List, [], ◌∷◌, length};
+ghost use Rattle.committee_certificates.specs.Cursors.{GoesOnWith, IsAt};
+ghost use Rattle.committee_certificates.specs.InPlace.{AreSignersAt, AreWrittenBoth, written};
+
+use crate::in_place::SignersAt;
+use commonware_base::codec::{Source, read_varint};
+
+/// A place among signers.
+#[derive(Clone, Copy)]
+struct Cursor<'a> {
+    /// How many indices are left, the one at this place among them.
+    left: usize,
+    /// The index at this place, where one is left.
+    index: u32,
+    /// Where the index after it begins.
+    next: Source<'a>,
+}
+
+impl SignersAt<'_> {
+    /// Writes the indices to the start of the room, in order, as many as it has places for.
+    pub fn write_indices(&self, out: &mut [u32])
+        ensures { (indices : List ℕ) → AreSignersAt self.now indices
+            → out.new ≡ written indices out.old }
+    {
+        let mut cursor = first_place(self);
+        let mut count = 0;
+        while cursor.left > 0 {
+            put_at(cursor.index, count, out);
+            count += 1;
+            cursor = next_place(&cursor);
+        }
+    }
+}
+
+/// Writes the indices of those that are among both signers to the start of the room, in order, as
+/// many as it has places for, and returns how many there are. Both are walked once, side by side.
+pub fn write_both(first: &SignersAt<'_>, second: &SignersAt<'_>, out: &mut [u32]) -> usize
+    ensures { (one two : List ℕ) → AreSignersAt first.now one → AreSignersAt second.now two
+        → AreWrittenBoth one two result out.old out.new }
+{
+    let mut one = first_place(first);
+    let mut two = first_place(second);
+    let mut count = 0;
+    while one.left > 0 && two.left > 0 {
+        if one.index < two.index {
+            one = next_place(&one);
+        } else if two.index < one.index {
+            two = next_place(&two);
+        } else {
+            put_at(one.index, count, out);
+            count += 1;
+            one = next_place(&one);
+            two = next_place(&two);
+        }
+    }
+    count
+}
+
+/// Returns the place of the first signer.
+#[inline(always)]
+fn first_place<'a>(signers: &SignersAt<'a>) -> Cursor<'a>
+    ensures fewer { result.left ≤ signers.now.count }
+    ensures at { (indices : List ℕ) → AreSignersAt signers.now indices → IsAt result indices }
+{
+    place_of(&signers.start, signers.count as usize)
+}
+
+/// Returns the place after this one, which has an index.
+#[inline(always)]
+fn next_place<'a>(cursor: &Cursor<'a>) -> Cursor<'a>
+    requires { 0 < cursor.now.left }
+    ensures fewer { result.left < cursor.now.left }
+    ensures at { (index : ℕ) (indices : List ℕ) → IsAt cursor.now (index ∷ indices)
+        → IsAt result indices }
+{
+    place_of(&cursor.next, cursor.left - 1)
+}
+
+/// Returns the place of the first of `left` indices that come next in a source; where it has none,
+/// a place where none is left.
+#[inline(always)]
+fn place_of<'a>(source: &Source<'a>, left: usize) -> Cursor<'a>
+    ensures fewer { result.left ≤ left }
+    ensures at { (indices : List ℕ) → GoesOnWith source.now indices → left ≡ length indices
+        → IsAt result indices }
+{
+    if left == 0 {
+        return past_all(source);
+    }
+    let mut next = *source;
+    match read_varint(&mut next) {
+        Ok(index) => Cursor { left, index, next },
+        Err(_) => past_all(source),
+    }
+}
+
+/// Returns a place where no index is left.
+#[inline(always)]
+fn past_all<'a>(source: &Source<'a>) -> Cursor<'a>
+    ensures { result.left ≡ 0 }
+{
+    Cursor {
+        left: 0,
+        index: 0,
+        next: *source,
+    }
+}
+
+/// Writes the index to a place of the room, where it has that place.
+#[inline(always)]
+fn put_at(index: u32, place: usize, out: &mut [u32])
+    ensures { (before room : List ℕ) → place ≡ length before → out.old ≡ written before room
+        → out.new ≡ written (before ++ index ∷ []) room }
+{
+    if place < out.len() {
+        out[place] = index;
+    }
+}
