@@ -7,3 +7,5 @@ pub mod NoGap
 pub mod Offsets
 pub mod EncodingLemmas
 pub mod Spliced
+pub mod SignedBoth
+pub mod WrittenIndices

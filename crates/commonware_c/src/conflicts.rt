@@ -1,17 +1,17 @@
-//! Accountability: the members that signed two certificates for different values (equivocation),
-//! from the certificates' encodings.
-ghost use Rattle.std.specs.Prelude.{◌≡◌, ◌≢◌, ◌<◌, ◌≤◌, IfErr, IfOk, drop, length, take};
-ghost use Rattle.commonware_c.specs.Certificates.{AreAccused, IsNoWhole, IsStopped, IsWhole, LacksRoom};
-ghost use Rattle.committee_certificates.specs.Certificates.{parts};
+//! Accountability: the members that signed both of two certificates for different values, from the
+//! certificates' encodings. Nothing is allocated.
+ghost use Rattle.std.specs.Prelude.{◌≡◌, ◌≢◌, ◌<◌, ◌≤◌, ◌⊎◌, ℕ, List, IfErr, IfNone, IfOk, IfSome, OnOk, drop, length, take};
+ghost use Rattle.commonware_c.specs.Certificates.{AreAccused, AreNoQuorums, IsNoWhole, IsStopped};
+ghost use Rattle.commonware_c.specs.Certificates.{IsWhole, LacksRoom};
+ghost use Rattle.commonware_c.specs.Conflicting.{AreConflicting, IsViewOfBoth};
+ghost use Rattle.committee_certificates.specs.InPlace.{AreSignersAt};
+ghost use Rattle.committee_certificates.specs.Signers.{AreInBoth, AreQuorum};
+ghost use Rattle.commonware_c.specs.Status.{IsOfInput};
 
-use crate::certificates::decode_certificate;
-use crate::rooms::put;
-use crate::statuses::{MEMORY, NO_MEMBERS, NO_MODEL, OK, OUTSIDE, ROOM, SAME_VALUE, TOO_FEW};
-use committee_certificates::{Certificate, ConflictError, conflict_among};
-use commonware_base::Participant;
+use crate::certificates::find_whole;
+use crate::statuses::{NO_MEMBERS, NO_MODEL, OK, OUTSIDE, ROOM, SAME_VALUE, TOO_FEW};
+use committee_certificates::{CertificateAt, SignersAt, write_both};
 use commonware_faults::tolerated_faults;
-use commonware_ordered::Set;
-use std::alloc::Global;
 
 /// The result for two certificates, for a caller in C.
 ///
@@ -38,11 +38,10 @@ struct Reason {
     number: usize,
 }
 
-/// Returns the members that signed two certificates for different values, in a committee of
-/// `members` at a resilience of `k`, with room for their indices.
+/// Returns the members that signed both of two certificates for different values, in a committee of
+/// `members` at a resilience of `k`, with room for their indices. Nothing is allocated.
 #[unsafe(no_mangle)]
 pub extern "C" fn commonware_conflict(
-    alloc: Global,
     k: u32,
     members: u32,
     first: &[u8],
@@ -56,58 +55,59 @@ pub extern "C" fn commonware_conflict(
     ensures untouched { result.status ≢ 0 → out.new ≡ out.old }
     ensures room { result.status ≡ 11
         → LacksRoom k members first.now second.now (length out.old) result.count }
+    ensures about_none { (result.status ≡ 0) ⊎ (result.status ≡ 11)
+        → (result.which ≡ 0) × (result.number ≡ 0) }
     ensures stopped { result.status ≢ 0 → result.status ≢ 11
         → IsStopped k members first.now second.now
         result.status result.which result.number }
+    ensures no_one { result.status ≢ 0 → result.status ≢ 11 → result.count ≡ 0 }
+    ensures no_memory { result.status ≢ 5 }
 {
-    match conflict_of(alloc, k, members, first, second) {
-        Ok(both) => view_of_accused(both.as_slice(), out),
+    match signers_of(k, members, first, second) {
+        Ok((first_signers, second_signers)) => view_of_both(&first_signers, &second_signers, out),
         Err(reason) => view_of_reason(reason),
     }
 }
 
-/// Returns the members that signed both, or why no one is named.
-fn conflict_of(
-    alloc: Global,
+/// Returns the signers of both certificates, or the first reason for which no one is named.
+fn signers_of<'a>(
     k: u32,
     members: u32,
-    first: &[u8],
-    second: &[u8],
-) -> Result<Set<Participant, Global>, Reason>
-    ensures accused { IfOk result (AreAccused k members first.now second.now) }
+    first: &'a [u8],
+    second: &'a [u8],
+) -> Result<(SignersAt<'a>, SignersAt<'a>), Reason>
+    ensures conflicting { IfOk result (λ both.
+        AreConflicting k members first.now second.now both.0 both.1) }
     ensures stopped { IfErr result (λ reason. IsStopped k members first.now second.now
         reason.status reason.which reason.number) }
-    ensures status { IfErr result (λ reason. (reason.status ≢ 0) × (reason.status ≢ 11)) }
+    ensures status { IfErr result (λ reason. IsOfInput reason.status) }
 {
     if k < 2 {
-        return Err(reason_of_status(NO_MODEL));
+        return Err(reason_of_neither(NO_MODEL));
     }
     if members == 0 {
-        return Err(reason_of_status(NO_MEMBERS));
+        return Err(reason_of_neither(NO_MEMBERS));
     }
-    let one = decode_one_of_two(alloc, first, 1)?;
-    let two = decode_one_of_two(alloc, second, 2)?;
+    let one = find_one_of_two(first, 1)?;
+    let two = find_one_of_two(second, 2)?;
     if one.value == two.value {
-        return Err(reason_of_status(SAME_VALUE));
+        return Err(reason_of_neither(SAME_VALUE));
     }
     let faults = tolerated_faults(k, members);
-    match conflict_among(alloc, members as usize, faults, &one, &two) {
-        Ok(both) => Ok(both),
-        Err(ConflictError::Outside) => Err(reason_of_status(OUTSIDE)),
-        Err(ConflictError::TooFew) => Err(reason_of_status(TOO_FEW)),
-        Err(ConflictError::Memory) => Err(reason_of_status(MEMORY)),
-    }
+    check_signers(members, faults, &one.signers, &two.signers)?;
+    Ok((one.signers, two.signers))
 }
 
 /// Returns the certificate that the input encodes, with nothing after it; else the reason, with
 /// `which` of the two inputs it is about.
-fn decode_one_of_two(alloc: Global, input: &[u8], which: u32) -> Result<Certificate<Global>, Reason>
-    ensures whole { IfOk result (λ certificate. IsWhole input.now (parts certificate)) }
+fn find_one_of_two(input: &[u8], which: u32) -> Result<CertificateAt<'_>, Reason>
+    ensures whole { IfOk result (λ found. (indices : List ℕ)
+        × IsWhole input.now (found.value.now, indices) × AreSignersAt found.signers indices) }
     ensures refused { IfErr result (λ reason. IsNoWhole input.now reason.status reason.number) }
     ensures which { IfErr result (λ reason. reason.which ≡ which) }
-    ensures status { IfErr result (λ reason. (reason.status ≢ 0) × (reason.status ≢ 11)) }
+    ensures status { IfErr result (λ reason. IsOfInput reason.status) }
 {
-    match decode_certificate(alloc, input) {
+    match find_whole(input) {
         Ok(certificate) => Ok(certificate),
         Err((status, number)) => Err(Reason {
             status,
@@ -117,13 +117,96 @@ fn decode_one_of_two(alloc: Global, input: &[u8], which: u32) -> Result<Certific
     }
 }
 
-/// Returns the reason of a status about neither certificate alone.
-fn reason_of_status(status: u32) -> Reason
+/// Refuses a signer that is no member, of the first and then of the second, and then fewer signers
+/// than a quorum. It requires that `faults` is at most `members`.
+fn check_signers(
+    members: u32,
+    faults: u32,
+    first: &SignersAt<'_>,
+    second: &SignersAt<'_>,
+) -> Result<(), Reason>
+    requires { faults ≤ members }
+    ensures quorums { OnOk result ((one two : List ℕ) → AreSignersAt first.now one
+        → AreSignersAt second.now two
+        → AreQuorum (λ _. faults) members one × AreQuorum (λ _. faults) members two) }
+    ensures refused { IfErr result (λ reason. (one two : List ℕ) → AreSignersAt first.now one
+        → AreSignersAt second.now two
+        → AreNoQuorums members faults one two reason.status reason.which) }
+    ensures number { IfErr result (λ reason. reason.number ≡ 0) }
+{
+    let count = members as usize;
+    if !first.are_members(count) {
+        return Err(reason_of(OUTSIDE, 1));
+    }
+    if !second.are_members(count) {
+        return Err(reason_of(OUTSIDE, 2));
+    }
+    let quorum = count - faults as usize;
+    if first.count() < quorum {
+        return Err(reason_of(TOO_FEW, 1));
+    }
+    if second.count() < quorum {
+        return Err(reason_of(TOO_FEW, 2));
+    }
+    Ok(())
+}
+
+/// Returns the view of the members that signed both, whose indices go to `out` if it is large
+/// enough.
+fn view_of_both(first: &SignersAt<'_>, second: &SignersAt<'_>, out: &mut [u32]) -> ConflictView
+    ensures { (one two : List ℕ) → AreSignersAt first.now one → AreSignersAt second.now two
+        → IsViewOfBoth one two result out.old out.new }
+{
+    if let Some(count) = lacking(first, second, out.len()) {
+        return view(ROOM, count);
+    }
+    let count = write_both(first, second, out);
+    view(OK, count)
+}
+
+/// Returns how many are among both signers, where a room of `places` places is too small for them.
+fn lacking(first: &SignersAt<'_>, second: &SignersAt<'_>, places: usize) -> Option<usize>
+    ensures none { IfNone result ((one two both : List ℕ) → AreSignersAt first.now one
+        → AreSignersAt second.now two → AreInBoth one two both → length both ≤ places) }
+    ensures some { IfSome result (λ count. (one two : List ℕ) → AreSignersAt first.now one
+        → AreSignersAt second.now two → (both : List ℕ) × AreInBoth one two both
+        × (count ≡ length both) × (places < count)) }
+{
+    // Those that signed both are no more than those that signed one, so most rooms are large enough
+    // whoever signed.
+    if first.count() <= places || second.count() <= places {
+        return None;
+    }
+    let count = write_both(first, second, &mut []);
+    if count <= places { None } else { Some(count) }
+}
+
+/// Returns the view of `count` members, with a status that is about neither input alone.
+fn view(status: u32, count: usize) -> ConflictView
+    ensures { result ≡ record { status = status; which = 0; number = 0; count = count } }
+{
+    ConflictView {
+        status,
+        which: 0,
+        number: 0,
+        count,
+    }
+}
+
+/// Returns the reason of a status about neither input alone.
+fn reason_of_neither(status: u32) -> Reason
     ensures { result ≡ record { status = status; which = 0; number = 0 } }
+{
+    reason_of(status, 0)
+}
+
+/// Returns the reason of a status about `which` of the inputs.
+fn reason_of(status: u32, which: u32) -> Reason
+    ensures { result ≡ record { status = status; which = which; number = 0 } }
 {
     Reason {
         status,
-        which: 0,
+        which,
         number: 0,
     }
 }
@@ -143,28 +226,4 @@ fn view_of_reason(reason: Reason) -> ConflictView
         number: reason.number,
         count: 0,
     }
-}
-
-/// Returns the view of the members that are named, whose indices go to `out` if it is large enough.
-fn view_of_accused(accused: &[Participant], out: &mut [u32]) -> ConflictView
-    ensures count { result.count ≡ length accused.now }
-    ensures fits { result.status ≡ 0 → result.count ≤ length out.new }
-    ensures taken { result.status ≡ 0 → take result.count out.new ≡ accused.now }
-    ensures after { result.status ≡ 0 → drop result.count out.new ≡ drop result.count out.old }
-    ensures untouched { result.status ≢ 0 → out.new ≡ out.old }
-    ensures room { result.status ≢ 0
-        → (result.status ≡ 11) × (length out.old < length accused.now) }
-{
-    let count = accused.len();
-    let mut view = ConflictView {
-        status: ROOM,
-        which: 0,
-        number: 0,
-        count,
-    };
-    if count <= out.len() {
-        put(accused, out);
-        view.status = OK;
-    }
-    view
 }

@@ -32,6 +32,9 @@ pub extern "C" fn commonware_certificate_write(
     ensures untouched { result.status ≢ 0 → out.new ≡ out.old }
     ensures refused { result.status ≢ 0 → result.status ≢ 11
         → IsUnwritable value.now signers.now result.status result.number }
+    ensures no_number { (result.status ≡ 0) ⊎ (result.status ≡ 11) → result.number ≡ 0 }
+    ensures nothing_else { result.status ≢ 0 → result.status ≢ 11
+        → (result.count ≡ 0) × (result.size ≡ 0) }
     ensures exactly { (result.status ≡ 0) ↔ (IsWritableCertificate (value.now, signers.now)
         × (length (certificate_enc (value.now, signers.now)) ≤ length out.old)) }
 {
