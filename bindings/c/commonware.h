@@ -1,6 +1,6 @@
 /* The proved committee layer of consensus nodes, for C11 and C++17: how many of n participants may be
- * faulty, the encodings of committees and certificates, and which members signed two different values
- * (equivocation).
+ * faulty, the encodings of committees and certificates, and which members signed both of two different
+ * values.
  *
  * The theorem of each function is its contract in crates/commonware_c/src. This header says the same in
  * words; docs/NATIVE.md says what is proved and what only tests show.
@@ -13,16 +13,15 @@
  * Ownership. The caller owns each array before, during and after the call. No function keeps a pointer,
  * and none returns one: the views have offsets into the caller's bytes.
  *
- * Refusal. Where `status` isn't COMMONWARE_OK, `out` is as it was, byte for byte, and what the view says
- * beside `status` is 0 unless it is described here.
+ * Refusal. Where `status` isn't COMMONWARE_OK, `out` is as it was, byte for byte. At each status, OK too,
+ * what the view says beside `status` is 0 unless it is described here.
  *
  * Threads. There are no global variables, no locks and no callbacks, so any number of threads may call
- * at once. A function that allocates isn't for signal handlers, nor for a forked child of a process
+ * at once. The function that allocates isn't for signal handlers, nor for a forked child of a process
  * with threads.
  *
- * Memory. commonware_committee_write, commonware_certificate_read and commonware_conflict allocate, and
- * free all of it before they return; the others allocate nothing. The archive holds a heap over
- * malloc, realloc and free. A program with an allocator of its own defines these three instead, with C
+ * Memory. commonware_committee_write allocates, and frees all of it before it returns; the others
+ * allocate nothing, and never return COMMONWARE_MEMORY. The archive holds a heap over malloc, realloc and free. A program with an allocator of its own defines these three instead, with C
  * linkage and all of them, and the linker takes them:
  *
  *     struct tried { bool ok; unsigned char *block; };
@@ -130,7 +129,7 @@ commonware_written_view commonware_committee_write(
 
 /* A certificate at the start of the input. */
 typedef struct {
-    uint32_t status;     /* OK, END_OF_INPUT, INVALID_VARINT, INVALID_LENGTH, NOT_STRICT, MEMORY or ROOM */
+    uint32_t status;     /* OK, END_OF_INPUT, INVALID_VARINT, INVALID_LENGTH, NOT_STRICT or ROOM */
     uint32_t signers;    /* at OK and ROOM: how many signers there are */
     size_t number;       /* at INVALID_LENGTH: the stated length, of the value or the signers */
     size_t value_start;  /* at OK and ROOM: the offset of the value */
@@ -139,9 +138,9 @@ typedef struct {
 } commonware_certificate_view;
 
 /* Decodes a certificate with a value of up to `most_bytes` bytes and up to `most_signers` signers at the
- * start of the input, else returns the first fault (decoding error). The indices of the signers go to
- * the start of `out`, strictly increasing; its length is in indices. A signer takes at least one byte of
- * the input, so input_length indices always suffice. */
+ * start of the input: OK or ROOM exactly where there is one, else the first fault (decoding error). The
+ * indices of the signers go to the start of `out`, strictly increasing; its length is in indices. A
+ * signer takes at least one byte of the input, so input_length indices always suffice. Never MEMORY. */
 commonware_certificate_view commonware_certificate_read(
     const uint8_t *input, size_t input_length, size_t most_bytes, size_t most_signers,
     uint32_t *out, size_t out_length);
@@ -157,21 +156,25 @@ commonware_written_view commonware_certificate_write(
 
 /* The result for two certificates. */
 typedef struct {
-    uint32_t status; /* each but INVALID_LENGTH and ABSENT */
-    uint32_t which;  /* 1 or 2 where the status is about the first or the second input alone, else 0 */
+    uint32_t status; /* each but INVALID_LENGTH, MEMORY and ABSENT */
+    uint32_t which;  /* the input that the status is about, 1 or 2; 0 at OK, NO_MODEL, NO_MEMBERS,
+                      * SAME_VALUE and ROOM */
     size_t number;   /* at LEFT_OVER: how many bytes follow the certificate */
     size_t count;    /* at OK and ROOM: how many members signed both */
 } commonware_conflict_view;
 
-/* The members that signed two certificates for different values (equivocation), in a committee of
- * `members` at a resilience k: their indices go to the start of `out`, in order. With f =
- * commonware_max_faults(k, members) they are at least (k - 2)f + 1, and where k is 3 or more, at least
- * one of them is outside every set of f members. Each input is exactly one certificate. Whether a
- * signature is genuine isn't tested: that is for the caller to know.
+/* The members that signed both of two certificates for different values, in a committee of `members` at
+ * a resilience k: their indices go to the start of `out`, in order. With f = commonware_max_faults(k,
+ * members) they are at least (k - 2)f + 1, and where k is 3 or more, at least one of them is outside
+ * every set of f members. Each input is exactly one certificate. To sign two values is a fault only where
+ * both are for one slot (a height and a view, say): honest members sign many values, one a slot.
  *
- * The status is the first of these: NO_MODEL, NO_MEMBERS, a fault of the first input or MEMORY while it
- * is decoded, the same of the second, SAME_VALUE, OUTSIDE, TOO_FEW, MEMORY, ROOM. As many indices as
- * there are members always suffice. */
+ * Warning: no signature is looked at. Whoever doesn't verify them first may accuse an innocent member.
+ *
+ * The status is the first of these: NO_MODEL, NO_MEMBERS, a fault of the first input (END_OF_INPUT,
+ * INVALID_VARINT, NOT_STRICT, LEFT_OVER), one of the second, SAME_VALUE, OUTSIDE of the first, of the
+ * second, TOO_FEW of the first, of the second, ROOM. As many indices as there are members always
+ * suffice. Never MEMORY. */
 commonware_conflict_view commonware_conflict(
     uint32_t k, uint32_t members, const uint8_t *first, size_t first_length,
     const uint8_t *second, size_t second_length, uint32_t *out, size_t out_length);

@@ -263,12 +263,13 @@ static void try_conflict(uint32_t k, uint32_t members, const uint8_t *input, siz
     } else if (status == COMMONWARE_OK) {
         const bool same = parts[0].value_length == parts[1].value_length &&
                           memcmp(parts[0].value, parts[1].value, parts[0].value_length) == 0;
-        const bool outside = has_outsider(&parts[0], members) || has_outsider(&parts[1], members);
-        const bool few = parts[0].count < quorum || parts[1].count < quorum;
-        status = same      ? COMMONWARE_SAME_VALUE
-                 : outside ? COMMONWARE_OUTSIDE
-                 : few     ? COMMONWARE_TOO_FEW
-                           : COMMONWARE_OK;
+        const uint32_t outside = has_outsider(&parts[0], members) ? 1 : has_outsider(&parts[1], members) ? 2 : 0;
+        const uint32_t few = parts[0].count < quorum ? 1 : parts[1].count < quorum ? 2 : 0;
+        status = same           ? COMMONWARE_SAME_VALUE
+                 : outside != 0 ? COMMONWARE_OUTSIDE
+                 : few != 0     ? COMMONWARE_TOO_FEW
+                                : COMMONWARE_OK;
+        which = same ? 0 : outside != 0 ? outside : few;
     }
     REQUIRE(view.status == status && view.which == which);
     for (uint32_t i = 0; status == COMMONWARE_OK && i < parts[0].count; i++) {

@@ -16,8 +16,8 @@ fn main() -> Result<(), Box<dyn Error>> {
     let quorum = committee.quorum(model).ok_or("no members")?;
     println!("of {members} members {faults} may be faulty, and {quorum} are a quorum");
 
-    let first = Certificate::encode(b"block 1", &[0, 1, 2])?;
-    let second = Certificate::encode(b"block 2", &[1, 2, 3])?;
+    let first = Certificate::encode(b"view 7: A", &[0, 1, 2])?;
+    let second = Certificate::encode(b"view 7: B", &[1, 2, 3])?;
     println!("{:?} signed both", conflict(model, 4, &first, &second)?);
     Ok(())
 }

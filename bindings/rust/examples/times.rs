@@ -2,6 +2,7 @@
 //! to one core (taskset).
 
 use commonware_proved::{Certificate, Committee, FaultModel, Member, conflict};
+use std::cmp::Ordering;
 use std::hint::black_box;
 use std::time::Instant;
 
@@ -191,10 +192,16 @@ fn main() {
     }
 }
 
-/// Compares the conflict of two certificates that all of n members signed.
+/// Compares the conflict of two certificates that all of n members signed, and the reading of one.
 fn conflicts(n: u32, rounds: u32) {
     let signers: Vec<u32> = (0..n).collect();
     let inputs = [b"a", b"b"].map(|value| Certificate::encode(value, &signers).unwrap());
+    compare(
+        &format!("certificate of {n}"),
+        rounds,
+        || drop(black_box(Certificate::try_from(black_box(&inputs[0][..]))).unwrap()),
+        || drop(black_box(plain_certificate(black_box(&inputs[0]))).unwrap()),
+    );
     compare(
         &format!("conflict of {n}"),
         rounds,
@@ -203,37 +210,73 @@ fn conflicts(n: u32, rounds: u32) {
     );
 }
 
-/// Returns the value and the signers of an input that is exactly one certificate.
-fn plain_parts(input: &[u8]) -> Option<(&[u8], Vec<u32>)> {
+/// The signers of a certificate in its bytes: where they begin, how many there are, and the number
+/// after the last.
+struct Signers<'a> {
+    bytes: &'a [u8],
+    count: u32,
+    past: u64,
+}
+
+impl Iterator for Signers<'_> {
+    type Item = u32;
+
+    fn next(&mut self) -> Option<u32> {
+        self.count = self.count.checked_sub(1)?;
+        let (signer, size) = varint(self.bytes)?;
+        self.bytes = &self.bytes[size..];
+        Some(signer)
+    }
+}
+
+/// Returns the value and the signers of an input that is exactly one certificate, in place.
+fn plain_parts(input: &[u8]) -> Option<(&[u8], Signers<'_>)> {
     let (length, start) = varint(input)?;
     let (value, rest) = input[start..].split_at_checked(length as usize)?;
     let (count, start) = varint(rest)?;
-    let mut rest = &rest[start..];
-    let mut signers = Vec::with_capacity((count as usize).min(rest.len()));
+    let bytes = &rest[start..];
+    let (mut rest, mut past, mut is_strict) = (bytes, 0, true);
     for _ in 0..count {
         let (signer, size) = varint(rest)?;
-        signers.push(signer);
+        is_strict &= past <= u64::from(signer);
+        past = u64::from(signer) + 1;
         rest = &rest[size..];
     }
-    let strict = signers.windows(2).all(|w| w[0] < w[1]);
-    (strict && rest.is_empty()).then_some((value, signers))
+    let signers = Signers { bytes, count, past };
+    (is_strict && rest.is_empty()).then_some((value, signers))
+}
+
+#[inline(never)]
+fn plain_certificate(input: &[u8]) -> Option<(&[u8], Vec<u32>)> {
+    let (value, signers) = plain_parts(input)?;
+    let mut list = vec![0; input.len()];
+    let count = signers.count as usize;
+    for (place, signer) in list.iter_mut().zip(signers) {
+        *place = signer;
+    }
+    list.truncate(count);
+    Some((value, list))
 }
 
 #[inline(never)]
 fn plain_conflict(n: u32, first: &[u8], second: &[u8]) -> Option<Vec<u32>> {
-    let (x, a) = plain_parts(first)?;
-    let (y, b) = plain_parts(second)?;
-    let quorum = plain_quorum(3, n) as usize;
-    let outside = a.iter().chain(&b).any(|i| *i >= n);
-    if x == y || outside || a.len() < quorum || b.len() < quorum {
+    let (x, mut one) = plain_parts(first)?;
+    let (y, mut two) = plain_parts(second)?;
+    let quorum = plain_quorum(3, n);
+    let is_outside = one.past.max(two.past) > u64::from(n);
+    if x == y || is_outside || one.count < quorum || two.count < quorum {
         return None;
     }
-    let mut others = b.iter().peekable();
-    let mut both = Vec::with_capacity(a.len().min(b.len()));
-    for i in a {
-        while others.next_if(|j| **j < i).is_some() {}
-        if others.peek() == Some(&&i) {
-            both.push(i);
+    let mut both = Vec::with_capacity(one.count.min(two.count) as usize);
+    let (mut a, mut b) = (one.next(), two.next());
+    while let (Some(i), Some(j)) = (a, b) {
+        match i.cmp(&j) {
+            Ordering::Less => a = one.next(),
+            Ordering::Greater => b = two.next(),
+            Ordering::Equal => {
+                both.push(i);
+                (a, b) = (one.next(), two.next());
+            }
         }
     }
     Some(both)

@@ -1,4 +1,4 @@
-//! The members that signed two certificates for different values (equivocation).
+//! The members that signed both of two certificates for different values.
 
 use crate::room::zeros;
 use crate::{FaultModel, Refusal, raw, status};
@@ -10,8 +10,8 @@ use std::fmt;
 /// ```
 /// use commonware_proved::{Certificate, ConflictError, FaultModel, conflict};
 ///
-/// let first = Certificate::encode(b"block 1", &[0, 1])?;
-/// let second = Certificate::encode(b"block 2", &[1, 2, 3])?;
+/// let first = Certificate::encode(b"view 7: A", &[0, 1])?;
+/// let second = Certificate::encode(b"view 7: B", &[1, 2, 3])?;
 /// assert_eq!(conflict(FaultModel::N3F1, 4, &first, &second), Err(ConflictError::TooFew));
 /// assert_eq!(ConflictError::TooFew.to_string(), "fewer signers than a quorum");
 /// # Ok::<(), commonware_proved::EncodeError>(())
@@ -57,19 +57,26 @@ impl Error for ConflictError {
     }
 }
 
-/// Returns the indices, in order, of the members that signed two certificates for different values, in
-/// a committee of `members`. With f of them faulty at most, they are at least (k - 2)f + 1; where the k
-/// of the model is 3 or more, at least one of them is outside every set of f members.
+/// Returns the indices, in order, of the members that signed both of two certificates for different
+/// values, in a committee of `members`. With f of them faulty at most, they are at least (k - 2)f + 1;
+/// where the k of the model is 3 or more, at least one of them is outside every set of f members.
+///
+/// To sign two values is a fault only where both are for one slot (a height and a view, say): honest
+/// members sign many values, one a slot.
+///
+/// # Warning
+///
+/// No signature is looked at. Whoever doesn't verify them first may accuse an innocent member.
 ///
 /// # Errors
 ///
-/// Why no one is named. Whether a signature is genuine isn't tested.
+/// Why no one is named.
 ///
 /// ```
 /// use commonware_proved::{Certificate, FaultModel, conflict};
 ///
-/// let first = Certificate::encode(b"block 1", &[0, 1, 2])?;
-/// let second = Certificate::encode(b"block 2", &[1, 2, 3])?;
+/// let first = Certificate::encode(b"view 7: A", &[0, 1, 2])?;
+/// let second = Certificate::encode(b"view 7: B", &[1, 2, 3])?;
 /// assert_eq!(conflict(FaultModel::N3F1, 4, &first, &second)?, [1, 2]);
 /// # Ok::<(), Box<dyn std::error::Error>>(())
 /// ```
@@ -100,13 +107,12 @@ pub fn conflict(
             accused.truncate(view.count);
             return Ok(accused);
         }
-        (status, 1) => ConflictError::First(Refusal::of(status, view.number)),
-        (status, 2) => ConflictError::Second(Refusal::of(status, view.number)),
-        (status::MEMORY, _) => ConflictError::Memory,
         (status::NO_MEMBERS, _) => ConflictError::NoMembers,
         (status::SAME_VALUE, _) => ConflictError::SameValue,
         (status::OUTSIDE, _) => ConflictError::Outside,
         (status::TOO_FEW, _) => ConflictError::TooFew,
+        (status, 1) => ConflictError::First(Refusal::of(status, view.number)),
+        (status, 2) => ConflictError::Second(Refusal::of(status, view.number)),
         (status, _) => unreachable!("with enough space no conflict returns status {status}"),
     })
 }

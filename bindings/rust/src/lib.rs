@@ -1,6 +1,6 @@
 //! Committees, certificates and quorums of consensus nodes: how many of n participants may be
-//! faulty, the encodings of committees and of certificates, and which members signed two different
-//! values (equivocation).
+//! faulty, the encodings of committees and of certificates, and which members signed both of
+//! two different values.
 //!
 //! Each call is one call of the static library `commonware_c`, which is written in Rattle and whose
 //! contracts are proved; nothing is decided here. No call panics or aborts: an allocation failure is
@@ -14,8 +14,8 @@
 //! assert_eq!(committee.index_of(&[7; 32]), Some(3));
 //! assert_eq!(committee.quorum(FaultModel::N3F1), Some(3));
 //!
-//! let first = Certificate::encode(b"block 1", &[0, 1, 2])?;
-//! let second = Certificate::encode(b"block 2", &[1, 2, 3])?;
+//! let first = Certificate::encode(b"view 7: A", &[0, 1, 2])?;
+//! let second = Certificate::encode(b"view 7: B", &[1, 2, 3])?;
 //! assert_eq!(conflict(FaultModel::N3F1, 4, &first, &second)?, [1, 2]);
 //! # Ok::<(), Box<dyn std::error::Error>>(())
 //! ```

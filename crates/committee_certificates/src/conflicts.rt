@@ -1,5 +1,4 @@
-//! Accountability: the members that signed both of two certificates for different values, which is
-//! equivocation.
+//! Accountability: the members that signed both of two certificates for different values.
 ghost use Rattle.std.specs.Prelude.{◌≡◌, ◌≢◌, ◌+◌, ◌*◌, ◌<◌, ◌≤◌, ◌⊎◌, ◌↔◌, ℕ, IfOk, IsErrOf, IsFalse, IsTrue, OnOk, length, pos};
 ghost use Rattle.committee_certificates.specs.declared.conflicts.ConflictError.TheVariants.{Memory, Outside, TooFew};
 ghost use Rattle.committee_certificates.specs.Signers.{AreInBoth, AreMembers, AreQuorum, AreTooFew};
@@ -14,7 +13,7 @@ use commonware_faults::Faults;
 use commonware_ordered::{Quorum, Set};
 use std::alloc::{AllocError, Allocator};
 
-/// Why two certificates prove no equivocation.
+/// Why two certificates name no one.
 ///
 /// In a committee of 4 under `N3f1`, whose quorum is 3, the signers 0, 1, 2 and 2, 3 give `TooFew`,
 /// and 0, 1, 2 and 4294967295 give `Outside`.
@@ -40,9 +39,14 @@ impl From<AllocError> for ConflictError {
 }
 
 /// Returns the members that signed both of two certificates for different values: exactly the
-/// signers of both. Signing two values is equivocation, and naming those that did is what makes a
-/// protocol accountable. It requires that the values differ, and that the committee has 1 to
-/// `u32::MAX` members.
+/// signers of both. It requires that the values differ, and that the committee has 1 to `u32::MAX`
+/// members.
+///
+/// To sign two values is a fault only where both are for one slot (a height and a view, say), of
+/// which nothing is said here: honest members sign many values, one a slot.
+///
+/// **Warning.** No signature is looked at. Whoever doesn't verify them first may accuse an innocent
+/// member.
 ///
 /// A signer at or past the committee's length gives the error `Outside`; else, where every signer
 /// is a member, a certificate with fewer signers than a quorum of the fault model gives `TooFew`.
@@ -50,10 +54,9 @@ impl From<AllocError> for ConflictError {
 ///
 /// With f the model's number of faults, at least n - 2f of n members are returned, in every model,
 /// by quorum intersection; and where 3f + 1 is at most n, whichever f members are faulty
-/// (Byzantine), one that is returned isn't among them. So where f is the greatest for which any two
-/// quorums share f + 1 members, at least f + 1 are returned; where it is the greatest for which
-/// they share 3f + 1, at least 3f + 1 are. Nothing is said of whether those who are named did sign,
-/// or are honest.
+/// (Byzantine), one that is returned isn't among them. So at every k of 3 or more, where f is the
+/// greatest for which any two quorums share (k - 2)f + 1 members, at least (k - 2)f + 1 are
+/// returned, and one of them is outside any f: f + 1 at a k of 3, 3f + 1 at a k of 5.
 ///
 /// It walks the signers of each certificate at most once, and makes at most one allocation, for as
 /// many indices as the certificate with fewer signers has.

@@ -1,5 +1,5 @@
 //! Certificates, which are values with the members of a committee that signed them, and
-//! accountability: the members that signed two different ones (equivocation).
+//! accountability: the members that signed both of two different ones.
 #![tactic(auto)]
 
 mod certificate;

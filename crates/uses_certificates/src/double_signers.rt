@@ -1,4 +1,4 @@
-//! Accountability: the members that signed two different values, which is equivocation.
+//! Accountability: the members that signed both of two different values.
 ghost use Rattle.std.specs.Prelude.{◌≡◌, ◌≢◌, ◌+◌, ◌-◌, ◌*◌, ◌/◌, ◌≤◌, ◌⊎◌, ◌↔◌, ℕ, List, IfOk, IsErrOf, Ok, length, pos};
 ghost use Rattle.committee_certificates.specs.declared.conflicts.ConflictError.TheVariants.{Outside, TooFew};
 ghost use Rattle.committee_certificates.specs.Signers.{AreInBoth, AreMembers, AreTooFew};
@@ -32,8 +32,8 @@ pub fn conflict_under<M: Resilience>(
     conflict::<M, _, _>(alloc, members, first, second)
 }
 
-/// Returns how many members signed two different values (equivocation), under `N3f1`: 0 where the
-/// values are the same. It requires that the committee has 1 to `u32::MAX` members.
+/// Returns how many members signed both of two different values, under `N3f1`: 0 where the values
+/// are the same. It requires that the committee has 1 to `u32::MAX` members.
 pub fn accused(
     alloc: Global,
     members: &Set<u32, Global>,
