@@ -1,5 +1,6 @@
 //! A list of strictly increasing items.
-ghost use Rattle.std.specs.Prelude.{◌≡◌, ◌↔◌, ◌<◌, ◌≤◌, ◌^◌, ◌==◌, [], IsTrue, Some, length, slice_index_or, slice_range, take, ℕ};
+ghost use Rattle.std.specs.Prelude.{◌≡◌, ◌↔◌, ◌<◌, ◌≤◌, ◌^◌, ◌==◌, [], IsTrue, Some, length, slice_index_or, slice_range, take, is_some, ℕ};
+ghost use Rattle.std.specs.List.{list_any};
 ghost use Rattle.std.specs.Iterator.Adapters.{IterYieldsInOrder, IterYieldsInReverse};
 ghost use Rattle.std.specs.Slice.{IsItemAt};
 ghost use Rattle.std.specs.Slice.Iter.{iter_rest};
@@ -108,8 +109,17 @@ impl<T: Ord, A: Allocator> Set<T, A> {
     pub fn position(&self, item: &T) -> Option<usize>
         ensures place { IsPlaceOf T.eq self.now item.now result }
         ensures only { (p : ℕ) → (result ≡ Some p) ↔ HasEqualAt T.eq self.now item.now p }
+        ensures found { is_some result ≡ list_any (λ y. T.eq y item.now) self.now }
     {
         place_of(self.as_slice(), item)
+    }
+
+    /// Whether an item equals the given one. It takes O(log n) comparisons.
+    #[inline(always)]
+    pub fn contains(&self, item: &T) -> bool
+        ensures { result ≡ list_any (λ y. T.eq y item.now) self.now }
+    {
+        self.position(item).is_some()
     }
 
     /// Returns the set of the items. It requires that they are strictly increasing: each is less
