@@ -1,6 +1,6 @@
 -- The place of an item in a list, and whether an equal item is in the list at all.
 use Rattle.std.specs.Prelude.{◌≡◌, ◌↔◌, ℕ, Bool, IsSome, List, None, Option, Some, is_some, nat_eq, true}
-use Rattle.std.specs.List.{Contains, list_any}
+use Rattle.std.specs.List.{Contains, IsAnyAnswer, list_any}
 use Rattle.std.proofs.Common.{◌∙◌, eq-eqb, subst, sym}
 use Rattle.std.proofs.lemmas.Bool.{eqb-true}
 use Rattle.std.proofs.lemmas.List.Folds.{Any-from_list_any, list_any_at, list_any_none}
@@ -12,6 +12,12 @@ pub found-place : {T : Type 0} (eq : T → T → Bool) (xs : List T) (x : T) (pl
     → is_some place ≡ list_any (λ y. eq y x) xs
 found-place eq xs x None none = sym (list_any_none (λ y. eq y x) xs none)
 found-place eq xs x (Some i) (inside, equal) = sym (list_any_at (λ y. eq y x) xs i x inside (equal x))
+
+-- the same in the words of std's tests of a list
+pub answer-place : {T : Type 0} (eq : T → T → Bool) (xs : List T) (x : T) (place : Option ℕ) → IsPlaceOf eq xs x place
+    → IsAnyAnswer (λ y b. eq y x ≡ b) xs (is_some place)
+answer-place eq xs x None none = λ k d low high. none k d high
+answer-place eq xs x (Some i) (inside, equal) = (i, inside, equal)
 
 -- a participant that is among others is contained in them
 pub among_iff : (xs : List ℕ) (p : ℕ) → (is_among xs p ≡ true) ↔ Contains xs p

@@ -1,7 +1,7 @@
 use Rattle.std.proofs.Common.{subst}
 use Rattle.commonware_ordered.specs.Strict.{IsPlaceOf}
 use Rattle.commonware_ordered.proofs.Places.{place_only}
-use Rattle.commonware_ordered.specs.laws.PlaceLaws.{found-place}
+use Rattle.commonware_ordered.specs.laws.PlaceLaws.{answer-place}
 use Rattle.commonware_ordered.proofs.set.Set.position.Goals as goal
 
 pub returns-clause-only : goal.returns-clause-only
@@ -12,4 +12,4 @@ returns-clause-only g c =
 pub returns-clause-found : goal.returns-clause-found
 returns-clause-found g c =
     let found = subst (λ xs. IsPlaceOf g.T.PartialEq.eq xs c.args.item.now c.place_of.result) c.as_slice.ensures.items c.place_of.ensures in
-    found-place g.T.PartialEq.eq _ c.args.item.now _ found
+    answer-place g.T.PartialEq.eq _ c.args.item.now _ found
