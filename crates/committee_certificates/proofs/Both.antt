@@ -16,7 +16,7 @@ use Rattle.commonware_ordered.specs.Voters.{is_among}
 use Rattle.commonware_ordered.specs.laws.PlaceLaws.{among_iff}
 use Rattle.commonware_ordered.specs.laws.PositionLaws.{RisesFrom, among_after, among_first, not_among_below}
 use Rattle.commonware_ordered.specs.laws.PositionLaws.{rises_from_strict, rises_lower}
-use Rattle.committee_certificates.proofs.Members.{tells_both}
+use Rattle.committee_certificates.specs.laws.SignerLaws.{tells_both}
 use Rattle.committee_certificates.specs.Signers.{AreInBoth}
 
 -- `and` with a test that fails

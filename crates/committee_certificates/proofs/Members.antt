@@ -1,59 +1,18 @@
 -- Signers as subsets of positions: what two of them share, and what is outside.
-use Rattle.std.proofs.Common.{◌≡◌, ℕ, ◌+◌, ◌-◌, ◌*◌, ◌<◌, ◌≤◌, Bool, true, false, ◌&&◌, List, length, get_or, Some}
-use Rattle.std.proofs.Common.{slice_get, ◌⊎◌, Decides, refl, ap, sym, ◌∙◌, arith, inl, inr}
-use Rattle.std.specs.List.{Contains, range_with_len}
+use Rattle.std.proofs.Common.{◌≡◌, ℕ, ◌+◌, ◌-◌, ◌*◌, ◌<◌, ◌≤◌, Bool, List, length, get_or}
+use Rattle.std.proofs.Common.{◌⊎◌, sym, ◌∙◌, arith, inl, inr}
+use Rattle.std.specs.List.{Contains}
 use Rattle.std.specs.Ordering.{nat_cmp}
-use Rattle.std.proofs.lemmas.Bool.Decides.{same_from_decides}
 use Rattle.std.proofs.lemmas.List.Elements.{All-from_get_or, All-contains, Contains-get_or}
-use Rattle.std.proofs.lemmas.List.FromFn.{get_or-map-range_with_len}
-use Rattle.std.proofs.lemmas.Option.{slice_get-get_or, slice_get_within}
-use Rattle.commonware_faults.specs.Subsets.{size, shared, passing, IsIn, IsOutside, Overlap, Greatest3, Greatest5}
+use Rattle.commonware_faults.specs.Subsets.{size, IsOutside, Overlap, Greatest3, Greatest5}
 use Rattle.commonware_faults.specs.laws.SubsetLaws.{Overlap-at_ends, beyond}
 use Rattle.commonware_faults.specs.laws.ToleranceLaws.{quorums_share, Greatest-fit, Greatest-three}
-use Rattle.commonware_faults.specs.laws.SubsetSizeLaws.{shared-map, size-agree, length-passing}
+use Rattle.commonware_faults.specs.laws.SubsetSizeLaws.{length-passing}
 use Rattle.commonware_ordered.specs.Strict.{IsStrict}
-use Rattle.commonware_ordered.specs.Voters.{is_among, subset_of}
-use Rattle.commonware_ordered.specs.laws.PlaceLaws.{among_iff}
+use Rattle.commonware_ordered.specs.Voters.{subset_of}
 use Rattle.commonware_ordered.specs.laws.PositionLaws.{size-subset_of_members}
+use Rattle.committee_certificates.specs.laws.SignerLaws.{Contains-from_subset, outside_not_listed, shared-subsets}
 use Rattle.committee_certificates.specs.Signers.{AreInBoth, AreMembers, LeavesOneOutside}
-
--- two tests at once tell both
-pub tells_both : (a b : Bool) (P Q : Type 0) → Decides a P → Decides b Q → Decides (a && b) (P × Q)
-tells_both true true P Q h k = (λ e. (h.0 refl, k.0 refl), λ w. refl)
-tells_both true false P Q h k = (λ e. absurd (cc), λ w. k.1 w.1)
-tells_both false b P Q h k = (λ e. absurd (cc), λ w. h.1 w.0)
-
--- what a subset of positions says of one
-slice_get-passing : (test : ℕ → Bool) (n p : ℕ) → p < n → slice_get (passing test n) p ≡ Some (test p)
-slice_get-passing test n p h =
-    let inside : p < length (passing test n) = omega (arith, length-passing test n) in
-    slice_get-get_or (passing test n) p false inside
-    ∙ ap (λ (b : Bool). Some b) (get_or-map-range_with_len test 0 n p p false h (omega arith))
-
--- a position of the signers is one of them
-Contains-from_subset : (n : ℕ) (xs : List ℕ) (p : ℕ) → IsIn (subset_of n xs) p → Contains xs p
-Contains-from_subset n xs p h =
-    let inside : p < n = omega (arith, slice_get_within (subset_of n xs) p true h, length-passing (is_among xs) n) in
-    let e = slice_get-passing (is_among xs) n p inside in
-    (among_iff xs p).0 (cc)
-
--- a position outside isn't
-outside_not_listed : (n : ℕ) (xs : List ℕ) (p : ℕ) → IsOutside (subset_of n xs) p → ¬ Contains xs p
-outside_not_listed n xs p h w =
-    let inside : p < n = omega (arith, slice_get_within (subset_of n xs) p false h, length-passing (is_among xs) n) in
-    let e = slice_get-passing (is_among xs) n p inside in
-    let t = (among_iff xs p).1 w in
-    cc
-
--- the signers in both are the positions that are shared
-shared-subsets : (n : ℕ) (xs ys zs : List ℕ) → AreInBoth xs ys zs
-    → shared (subset_of n xs) (subset_of n ys) ≡ size (subset_of n zs)
-shared-subsets n xs ys zs h =
-    let agree = λ (p : ℕ).
-    same_from_decides (is_among xs p && is_among ys p) (is_among zs p)
-    (tells_both _ _ _ _ (among_iff xs p) (among_iff ys p))
-    (λ e. (h.exactly p).0 ((among_iff zs p).0 e), λ w. (among_iff zs p).1 ((h.exactly p).1 w)) in
-    shared-map (is_among xs) (is_among ys) (range_with_len 0 n) ∙ size-agree _ _ agree (range_with_len 0 n)
 
 -- Two strictly increasing lists of at least n - f members, and those in both.
 pub record AreQuorumsAndBoth (n f : ℕ) (xs ys zs : List ℕ) : Type 0 where

@@ -4,6 +4,8 @@
 
 mod certificate;
 mod conflicts;
+mod voters;
 
 pub use certificate::{Certificate, certificate_fault_law};
 pub use conflicts::{ConflictError, conflict, conflict_among};
+pub use voters::first_new;

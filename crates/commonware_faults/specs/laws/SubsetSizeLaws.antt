@@ -1,6 +1,6 @@
 -- The sizes of subsets, and how many places two of them share.
-use Rattle.std.proofs.Common.{◌≡◌, ℕ, zero, suc, ◌+◌, ◌-◌, ◌<◌, ◌≤◌, min, max, Bool, true, false, cond, ◌&&◌, leb, ltb, List}
-use Rattle.std.proofs.Common.{[], ◌∷◌, ◌++◌, get_or, length, map, take, refl, ap, sym, ◌∙◌, arith}
+use Rattle.std.proofs.Common.{◌≡◌, ℕ, zero, suc, ◌+◌, ◌-◌, ◌<◌, ◌≤◌, min, max, Bool, true, false, cond, ◌&&◌, leb, ltb}
+use Rattle.std.proofs.Common.{List, [], ◌∷◌, ◌++◌, get_or, length, map, take, refl, ap, sym, ◌∙◌, arith}
 use Rattle.std.specs.List.{count_by, range_with_len}
 use Rattle.std.proofs.lemmas.List.Sums.{count_by-le-length, sum_by-append, sum_by-cons, sum_by_more}
 use Rattle.std.proofs.lemmas.List.FromFn.{length-map-range_with_len, map-range_with_len_more}
@@ -61,7 +61,8 @@ shared-map p q (k ∷ ks) =
     ∙ sym (size-cons (p k && q k) (map (λ j. p j && q j) ks))
 
 -- one position more, which is in the subset or not
-pub size-passing_more : (test : ℕ → Bool) (n : ℕ) → size (passing test (n + 1)) ≡ size (passing test n) + cond (test n) 1 0
+pub size-passing_more : (test : ℕ → Bool) (n : ℕ)
+    → size (passing test (n + 1)) ≡ size (passing test n) + cond (test n) 1 0
 size-passing_more test n =
     ap size (map-range_with_len_more test 0 n n (omega arith)) ∙ size-append (passing test n) (test n ∷ [])
     ∙ omega (arith, size-cons (test n) [])

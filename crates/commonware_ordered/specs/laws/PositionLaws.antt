@@ -1,7 +1,7 @@
 -- Strictly increasing participants, and how many of n positions they are.
-use Rattle.std.proofs.Common.{◌≡◌, ℕ, zero, suc, ◌+◌, ◌<◌, ◌≤◌, Bool, true, false, cond, List, [], ◌∷◌, length, map}
-use Rattle.std.proofs.Common.{get_or, refl, ap, subst, sym, ◌∙◌, arith, inl, inr, add-one}
-use Rattle.std.specs.Prelude.{nat_lt}
+use Rattle.std.proofs.Common.{◌≡◌, ℕ, zero, suc, ◌+◌, ◌<◌, ◌≤◌, ◌||◌, Bool, true, false, cond, List, [], ◌∷◌, length}
+use Rattle.std.proofs.Common.{map, get_or, refl, ap, subst, sym, ◌∙◌, arith, inl, inr, add-one}
+use Rattle.std.specs.Prelude.{nat_eq, nat_lt}
 use Rattle.std.proofs.Math.Nat.{eq-or-lt_of_le}
 use Rattle.std.specs.List.{All, count_by, range_with_len}
 use Rattle.std.specs.List.Sorted.{IsStrictlyIncreasing}
@@ -11,8 +11,8 @@ use Rattle.std.proofs.lemmas.Cmp.{nat_cmp_total}
 use Rattle.std.proofs.lemmas.List.Elements.{All-cons, All-head, All-tail}
 use Rattle.std.proofs.lemmas.List.Sums.{sum_by-cons}
 use Rattle.std.proofs.lemmas.Map.Keys.{IsStrictlyIncreasing-from_sorted}
-use Rattle.commonware_faults.specs.Subsets.{size}
-use Rattle.commonware_faults.specs.laws.SubsetSizeLaws.{size-cons}
+use Rattle.commonware_faults.specs.Subsets.{is_between, passing, size}
+use Rattle.commonware_faults.specs.laws.SubsetSizeLaws.{size-agree, size-cons, size-places}
 use Rattle.commonware_ordered.specs.Strict.{IsStrict}
 use Rattle.commonware_ordered.specs.laws.StrictLaws.{sorted_from_strict}
 use Rattle.commonware_ordered.specs.Voters.{is_among, subset_of}
@@ -116,7 +116,8 @@ listed_here : (x : ℕ) (xs : List ℕ) (low n : ℕ) → low ≡ x
     ≡ suc (size (map (is_among xs) (range_with_len (low + 1) n)))
 listed_here x xs low n same =
     let here : is_among (x ∷ xs) low ≡ true = subst (λ y. is_among (x ∷ xs) y ≡ true) (sym same) (among_first x xs) in
-    let later = size_agree_from (is_among (x ∷ xs)) (is_among xs) (low + 1) n (λ k h. among_after x xs k (omega arith)) in
+    let later =
+    size_agree_from (is_among (x ∷ xs)) (is_among xs) (low + 1) n (λ k h. among_after x xs k (omega arith)) in
     let all = size-cons (is_among (x ∷ xs) low) (map (is_among (x ∷ xs)) (range_with_len (low + 1) n)) in
     omega (arith, all, ap (λ (b : Bool). cond {A = ℕ} b 1 0) here, later)
 
@@ -185,3 +186,36 @@ pub size-subset_of_members : (n : ℕ) (xs : List ℕ) → IsStrict nat_cmp xs �
     → size (subset_of n xs) ≡ length xs
 size-subset_of_members n xs strict members =
     size-subset_of n xs strict ∙ all_below n xs (below_from_members n xs members)
+
+-- what passes one of two tests is no more than what passes the one and what passes the other
+size-or : (p q : ℕ → Bool) (ks : List ℕ) → size (map (λ k. p k || q k) ks) ≤ size (map p ks) + size (map q ks)
+size-or p q [] = omega arith
+size-or p q (k ∷ ks) =
+    omega (
+      arith,
+      size-or p q ks,
+      size-cons (p k || q k) (map (λ j. p j || q j) ks),
+      size-cons (p k) (map p ks),
+      size-cons (q k) (map q ks),
+      cond_or (p k) (q k),
+    )
+  where
+    cond_or : (a b : Bool) → cond (a || b) 1 0 ≤ cond a 1 0 + cond b 1 0
+    cond_or true b = omega arith
+    cond_or false b = omega arith
+
+-- one number is at most one of n positions
+size-one : (x n : ℕ) → size (passing (λ p. nat_eq x p) n) ≤ 1
+size-one x n =
+    let same = size-agree (λ p. nat_eq x p) (is_between x (x + 1)) (one_place x) (range_with_len 0 n) in
+    omega (arith, same, size-places n x (x + 1))
+  where
+    one_place : (x p : ℕ) → nat_eq x p ≡ is_between x (x + 1) p
+    one_place x p = grind (arith, nat_tests)
+
+-- no more positions are among the participants than are listed, members or not, and however often
+pub size-subset_of-le : (n : ℕ) (xs : List ℕ) → size (subset_of n xs) ≤ length xs
+size-subset_of-le n [] = omega (arith, size_none 0 n)
+size-subset_of-le n (x ∷ xs) =
+    let either = size-or (λ p. nat_eq x p) (is_among xs) (range_with_len 0 n) in
+    omega (arith, either, size-one x n, size-subset_of-le n xs)
