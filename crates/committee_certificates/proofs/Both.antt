@@ -12,9 +12,11 @@ use Rattle.std.proofs.lemmas.Map.Keys.{sorted_from_strictly_increasing}
 use Rattle.std.specs.Ordering.{nat_cmp}
 use Rattle.commonware_ordered.specs.Strict.{IsStrict}
 use Rattle.commonware_ordered.specs.laws.StrictLaws.{sorted_from_strict}
-use Rattle.committee_certificates.proofs.Members.{has_tells, tells_both}
-use Rattle.committee_certificates.proofs.IncreasingPositions.{has, has_after, has_first, has_not_below}
-use Rattle.committee_certificates.proofs.IncreasingPositions.{RisesFrom, rises_from_strict, rises_lower}
+use Rattle.commonware_ordered.specs.Voters.{is_among}
+use Rattle.commonware_ordered.specs.laws.PlaceLaws.{among_iff}
+use Rattle.commonware_ordered.specs.laws.PositionLaws.{RisesFrom, among_after, among_first, not_among_below}
+use Rattle.commonware_ordered.specs.laws.PositionLaws.{rises_from_strict, rises_lower}
+use Rattle.committee_certificates.specs.laws.SignerLaws.{tells_both}
 use Rattle.committee_certificates.specs.Signers.{AreInBoth}
 
 -- `and` with a test that fails
@@ -24,7 +26,7 @@ and_false false = refl
 
 -- those of the first that are among the second
 abbrev pub common : List ℕ → List ℕ → List ℕ
-common xs ys = filter (has ys) xs
+common xs ys = filter (is_among ys) xs
 
 -- tests that agree from low on keep the same of numbers that strictly increase from low on
 filter_agree : (p q : ℕ → Bool) (low : ℕ) (xs : List ℕ) → RisesFrom low xs → ((k : ℕ) → low ≤ k → p k ≡ q k)
@@ -38,21 +40,21 @@ filter_agree p q low (x ∷ xs) r same =
 -- a first number below the first of the others is in none of them
 pub common_less : (x y : ℕ) (xs ys : List ℕ) → x < y → RisesFrom 0 (y ∷ ys) → common (x ∷ xs) (y ∷ ys) ≡ common xs (y ∷ ys)
 common_less x y xs ys h r =
-    let none : has (y ∷ ys) x ≡ false = has_not_below y (y ∷ ys) x h (omega arith, r.1) in
+    let none : is_among (y ∷ ys) x ≡ false = not_among_below y (y ∷ ys) x h (omega arith, r.1) in
     rw none refl
 
 -- the first of the others is in none where it is below the first number
 pub common_greater : (x y : ℕ) (xs ys : List ℕ) → y < x → RisesFrom 0 (x ∷ xs)
     → common (x ∷ xs) (y ∷ ys) ≡ common (x ∷ xs) ys
 common_greater x y xs ys h r =
-    filter_agree (has (y ∷ ys)) (has ys) x (x ∷ xs) (omega arith, r.1) (λ k above. has_after y ys k (omega arith))
+    filter_agree (is_among (y ∷ ys)) (is_among ys) x (x ∷ xs) (omega arith, r.1) (λ k above. among_after y ys k (omega arith))
 
 -- a first number that both have
 pub common_equal : (x : ℕ) (xs ys : List ℕ) → RisesFrom 0 (x ∷ xs) → common (x ∷ xs) (x ∷ ys) ≡ x ∷ common xs ys
 common_equal x xs ys r =
-    let here = has_first x ys in
-    let rest : filter (has (x ∷ ys)) xs ≡ filter (has ys) xs =
-    filter_agree (has (x ∷ ys)) (has ys) (x + 1) xs r.1 (λ k above. has_after x ys k (omega arith)) in
+    let here = among_first x ys in
+    let rest : filter (is_among (x ∷ ys)) xs ≡ filter (is_among ys) xs =
+    filter_agree (is_among (x ∷ ys)) (is_among ys) (x + 1) xs r.1 (λ k above. among_after x ys k (omega arith)) in
     rw (here, rest) refl
 
 -- nothing is in an empty list
@@ -154,16 +156,16 @@ module _ {first second kept : List ℕ} {i j x y : ℕ} (x_in : i < length first
   }
 
 -- whether a position is among those that pass a test
-has-filter : (test : ℕ → Bool) (xs : List ℕ) (p : ℕ) → has (filter test xs) p ≡ (has xs p && test p)
-has-filter test [] p = refl
-has-filter test (x ∷ xs) p = step (test x) refl (eqb_tells p x) (has-filter test xs p)
+among-filter : (test : ℕ → Bool) (xs : List ℕ) (p : ℕ) → is_among (filter test xs) p ≡ (is_among xs p && test p)
+among-filter test [] p = refl
+among-filter test (x ∷ xs) p = step (test x) refl (eqb_tells x p) (among-filter test xs p)
   where
-    step : (b : Bool) → test x ≡ b → ((eqb p x ≡ true) × (p ≡ x)) ⊎ ((eqb p x ≡ false) × (p ≢ x))
-        → has (filter test xs) p ≡ (has xs p && test p)
-        → has (cond b (x ∷ filter test xs) (filter test xs)) p ≡ ((eqb p x || has xs p) && test p)
-    step true e (inl same) h = let t = subst (λ y. test y ≡ true) (sym same.1) e in simp (same.0, t)
+    step : (b : Bool) → test x ≡ b → ((eqb x p ≡ true) × (x ≡ p)) ⊎ ((eqb x p ≡ false) × (x ≢ p))
+        → is_among (filter test xs) p ≡ (is_among xs p && test p)
+        → is_among (cond b (x ∷ filter test xs) (filter test xs)) p ≡ ((eqb x p || is_among xs p) && test p)
+    step true e (inl same) h = let t = subst (λ y. test y ≡ true) same.1 e in simp (same.0, t)
     step true e (inr other) h = simp other.0 h
-    step false e (inl same) h = let t = subst (λ y. test y ≡ false) (sym same.1) e in simp (h, t, and_false)
+    step false e (inl same) h = let t = subst (λ y. test y ≡ false) same.1 e in simp (h, t, and_false)
     step false e (inr other) h = simp other.0 h
 
 -- what both of two strictly increasing lists have is strictly increasing, and exactly what is in both
@@ -171,12 +173,12 @@ pub AreInBoth-common : (first second : List ℕ) → IsStrict nat_cmp first → 
 AreInBoth-common first second strict = record {
   strict =
       let rising = IsStrictlyIncreasing-from_sorted first (sorted_from_strict nat_cmp_total first strict) in
-      let kept_rising = IsStrictlyIncreasing-filter (has second) first rising in
+      let kept_rising = IsStrictlyIncreasing-filter (is_among second) first rising in
       let sorted = sorted_from_strictly_increasing (common first second) kept_rising in
       λ k d high. Less-from_sorted nat_cmp (common first second) k (k + 1) d sorted (omega arith) high;
   exactly = λ p.
-      let e = has-filter (has second) first p in
-      let tells = has_tells (common first second) p in
-      let both = tells_both _ _ _ _ (has_tells first p) (has_tells second p) in
+      let e = among-filter (is_among second) first p in
+      let tells = among_iff (common first second) p in
+      let both = tells_both _ _ _ _ (among_iff first p) (among_iff second p) in
       (λ w. both.0 (sym e ∙ tells.1 w), λ w. tells.0 (e ∙ both.1 w));
 }

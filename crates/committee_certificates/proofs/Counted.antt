@@ -25,7 +25,7 @@ use Rattle.commonware_ordered.specs.Strict.{IsStrict}
 use Rattle.committee_certificates.specs.Certificates.{AreAllowedSigners, SignersFault}
 use Rattle.committee_certificates.specs.InPlace.{AreSignersAt}
 use Rattle.committee_certificates.specs.Signers.{AreMembers, HasOutsider}
-use Rattle.committee_certificates.proofs.IncreasingPositions.{RisesFrom, rises_from_strict}
+use Rattle.commonware_ordered.specs.laws.PositionLaws.{RisesFrom, rises_from_strict}
 
 -- the number after the last one, or low where there is none
 abbrev pub end_of : ℕ → List ℕ → ℕ

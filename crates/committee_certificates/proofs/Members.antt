@@ -1,65 +1,19 @@
 -- Signers as subsets of positions: what two of them share, and what is outside.
-use Rattle.std.proofs.Common.{◌≡◌, ℕ, ◌+◌, ◌-◌, ◌*◌, ◌<◌, ◌≤◌, Bool, true, false, ◌&&◌, List, length, get_or, Some}
-use Rattle.std.proofs.Common.{slice_get, ◌⊎◌, Decides, refl, ap, sym, ◌∙◌, arith, inl, inr}
+use Rattle.std.proofs.Common.{◌≡◌, ℕ, ◌+◌, ◌-◌, ◌*◌, ◌<◌, ◌≤◌, Bool, List, length, get_or}
+use Rattle.std.proofs.Common.{◌⊎◌, sym, ◌∙◌, arith, inl, inr}
 use Rattle.std.proofs.Math.Nat.{mul-le-mul_right}
-use Rattle.std.specs.Cmp.{nat_eq_equiv}
-use Rattle.std.specs.List.{Contains, range_with_len}
+use Rattle.std.specs.List.{Contains}
 use Rattle.std.specs.Ordering.{nat_cmp}
-use Rattle.std.proofs.lemmas.Bool.{eqb-true}
-use Rattle.std.proofs.lemmas.Bool.Decides.{same_from_decides}
 use Rattle.std.proofs.lemmas.List.Elements.{All-from_get_or, All-contains, Contains-get_or}
-use Rattle.std.proofs.lemmas.List.FromFn.{get_or-map-range_with_len}
-use Rattle.std.proofs.lemmas.Map.Views.{Contains-from_any, list_any-from_Contains}
-use Rattle.std.proofs.lemmas.Option.{slice_get-get_or, slice_get_within}
-use Rattle.commonware_faults.specs.Subsets.{size, shared, passing, IsIn, IsOutside, Overlap, Greatest, Greatest3, Greatest5}
+use Rattle.commonware_faults.specs.Subsets.{size, IsOutside, Overlap, Greatest, Greatest3, Greatest5}
 use Rattle.commonware_faults.specs.laws.SubsetLaws.{Overlap-at_ends, beyond}
 use Rattle.commonware_faults.specs.laws.ToleranceLaws.{quorums_share, Greatest-fit, Greatest-three}
-use Rattle.commonware_faults.specs.laws.SubsetSizeLaws.{shared-map, size-agree, length-passing}
+use Rattle.commonware_faults.specs.laws.SubsetSizeLaws.{length-passing}
 use Rattle.commonware_ordered.specs.Strict.{IsStrict}
+use Rattle.commonware_ordered.specs.Voters.{subset_of}
+use Rattle.commonware_ordered.specs.laws.PositionLaws.{size-subset_of_members}
+use Rattle.committee_certificates.specs.laws.SignerLaws.{Contains-from_subset, outside_not_listed, shared-subsets}
 use Rattle.committee_certificates.specs.Signers.{AreInBoth, AreMembers, LeavesOneOutside}
-use Rattle.committee_certificates.proofs.IncreasingPositions.{has, truths, size-truths}
-
--- the test tells whether a position is among the signers
-pub has_tells : (xs : List ℕ) (p : ℕ) → Decides (has xs p) (Contains xs p)
-has_tells xs p = (Contains-from_any eqb-true p xs, list_any-from_Contains nat_eq_equiv p xs)
-
--- two tests at once tell both
-pub tells_both : (a b : Bool) (P Q : Type 0) → Decides a P → Decides b Q → Decides (a && b) (P × Q)
-tells_both true true P Q h k = (λ e. (h.0 refl, k.0 refl), λ w. refl)
-tells_both true false P Q h k = (λ e. absurd (cc), λ w. k.1 w.1)
-tells_both false b P Q h k = (λ e. absurd (cc), λ w. h.1 w.0)
-
--- what a subset of positions says of one
-slice_get-passing : (test : ℕ → Bool) (n p : ℕ) → p < n → slice_get (passing test n) p ≡ Some (test p)
-slice_get-passing test n p h =
-    let inside : p < length (passing test n) = omega (arith, length-passing test n) in
-    slice_get-get_or (passing test n) p false inside
-    ∙ ap (λ (b : Bool). Some b) (get_or-map-range_with_len test 0 n p p false h (omega arith))
-
--- a position of the signers is one of them
-Contains-from_truths : (n : ℕ) (xs : List ℕ) (p : ℕ) → IsIn (truths n xs) p → Contains xs p
-Contains-from_truths n xs p h =
-    let inside : p < n = omega (arith, slice_get_within (truths n xs) p true h, length-passing (has xs) n) in
-    let e = slice_get-passing (has xs) n p inside in
-    (has_tells xs p).0 (cc)
-
--- a position outside isn't
-outside_not_listed : (n : ℕ) (xs : List ℕ) (p : ℕ) → IsOutside (truths n xs) p → ¬ Contains xs p
-outside_not_listed n xs p h w =
-    let inside : p < n = omega (arith, slice_get_within (truths n xs) p false h, length-passing (has xs) n) in
-    let e = slice_get-passing (has xs) n p inside in
-    let t = (has_tells xs p).1 w in
-    cc
-
--- the signers in both are the positions that are shared
-shared-truths : (n : ℕ) (xs ys zs : List ℕ) → AreInBoth xs ys zs
-    → shared (truths n xs) (truths n ys) ≡ size (truths n zs)
-shared-truths n xs ys zs h =
-    let agree = λ (p : ℕ).
-    same_from_decides (has xs p && has ys p) (has zs p)
-    (tells_both _ _ _ _ (has_tells xs p) (has_tells ys p))
-    (λ e. (h.exactly p).0 ((has_tells zs p).0 e), λ w. (has_tells zs p).1 ((h.exactly p).1 w)) in
-    shared-map (has xs) (has ys) (range_with_len 0 n) ∙ size-agree _ _ agree (range_with_len 0 n)
 
 -- Two strictly increasing lists of at least n - f members, and those in both.
 pub record AreQuorumsAndBoth (n f : ℕ) (xs ys zs : List ℕ) : Type 0 where
@@ -81,29 +35,29 @@ module _ {n f : ℕ} {xs ys zs : List ℕ} (c : AreQuorumsAndBoth n f xs ys zs) 
   -- at least n - 2f are in both, whatever f is
   pub both-many : n ≤ 2 * f + length zs
   both-many =
-      let size_xs = size-truths n xs c.first_strict c.first_members in
-      let size_ys = size-truths n ys c.second_strict c.second_members in
-      let size_zs = size-truths n zs c.both.strict members in
+      let size_xs = size-subset_of_members n xs c.first_strict c.first_members in
+      let size_ys = size-subset_of_members n ys c.second_strict c.second_members in
+      let size_zs = size-subset_of_members n zs c.both.strict members in
       let share =
-      (quorums_share n f).shares (truths n xs) (truths n ys) (length-passing _ n) (length-passing _ n)
+      (quorums_share n f).shares (subset_of n xs) (subset_of n ys) (length-passing _ n) (length-passing _ n)
       (omega (arith, size_xs, c.first_enough)) (omega (arith, size_ys, c.second_enough)) in
-      omega (arith, shared-truths n xs ys zs c.both, size_zs, share)
+      omega (arith, shared-subsets n xs ys zs c.both, size_zs, share)
 
-  -- more members than a subset has include one outside it
+  -- more members than a subset is_among include one outside it
   outside : (faulty : List Bool) → length faulty ≡ n → size faulty < length zs
       → (p : ℕ) × Contains zs p × IsOutside faulty p
   outside faulty l h =
-      let more : size faulty < size (truths n zs) = omega (arith, h, size-truths n zs c.both.strict members) in
-      let r = beyond (truths n zs) faulty (length-passing _ n ∙ sym l) more in
-      (r.0, Contains-from_truths n zs r.0 r.1, r.2)
+      let more : size faulty < size (subset_of n zs) = omega (arith, h, size-subset_of_members n zs c.both.strict members) in
+      let r = beyond (subset_of n zs) faulty (length-passing _ n ∙ sym l) more in
+      (r.0, Contains-from_subset n zs r.0 r.1, r.2)
 
   -- more than f members leave one outside any f
   leaves_one : f < length zs → LeavesOneOutside n f zs
   leaves_one h = record {
     of_positions = λ faulty l u. outside faulty l (omega (arith, h, u));
     of_participants = λ faulty strict below u.
-        let fewer : size (truths n faulty) < length zs = omega (arith, size-truths n faulty strict below, h, u) in
-        let r = outside (truths n faulty) (length-passing _ n) fewer in
+        let fewer : size (subset_of n faulty) < length zs = omega (arith, size-subset_of_members n faulty strict below, h, u) in
+        let r = outside (subset_of n faulty) (length-passing _ n) fewer in
         (r.0, r.1, outside_not_listed n faulty r.0 r.2);
   }
 

@@ -13,7 +13,7 @@ use Rattle.commonware_base.specs.Varint.{varint, varint_fault}
 use Rattle.commonware_base.specs.laws.RefusalLaws.{fault_of_refusal}
 use Rattle.commonware_base.specs.laws.VarintLaws.{varint_no_fault, varint_split}
 use Rattle.committee_certificates.proofs.Both.{AreInBoth-common, common, common_equal, common_greater, common_less, common_none}
-use Rattle.committee_certificates.proofs.IncreasingPositions.{RisesFrom, rises_from_strict, rises_lower}
+use Rattle.commonware_ordered.specs.laws.PositionLaws.{RisesFrom, rises_from_strict, rises_lower}
 use Rattle.committee_certificates.specs.Cursors.{GoesOnWith, IsAt}
 use Rattle.committee_certificates.specs.InPlace.{AreWrittenBoth, written}
 use Rattle.committee_certificates.specs.declared.walk.Cursor.{Cursor}

@@ -1,1 +1,2 @@
 pub mod CertificateLaws
+pub mod SignerLaws

@@ -1,4 +1,6 @@
 pub mod EqualItemLaws
+pub mod PlaceLaws
+pub mod PositionLaws
 pub mod SetLaws
 pub mod SetPrefixLaws
 pub mod StrictLaws

@@ -1,5 +1,6 @@
 //! A list of strictly increasing items.
-ghost use Rattle.std.specs.Prelude.{◌≡◌, ◌↔◌, ◌<◌, ◌≤◌, ◌^◌, ◌==◌, [], IsTrue, Some, length, slice_index_or, slice_range, take, ℕ};
+ghost use Rattle.std.specs.Prelude.{◌≡◌, ◌↔◌, ◌<◌, ◌≤◌, ◌^◌, ◌==◌, [], IsTrue, Some, length, slice_index_or, slice_range, take, is_some, ℕ};
+ghost use Rattle.std.specs.List.{IsAnyAnswer, list_any};
 ghost use Rattle.std.specs.Iterator.Adapters.{IterYieldsInOrder, IterYieldsInReverse};
 ghost use Rattle.std.specs.Slice.{IsItemAt};
 ghost use Rattle.std.specs.Slice.Iter.{iter_rest};
@@ -108,8 +109,18 @@ impl<T: Ord, A: Allocator> Set<T, A> {
     pub fn position(&self, item: &T) -> Option<usize>
         ensures place { IsPlaceOf T.eq self.now item.now result }
         ensures only { (p : ℕ) → (result ≡ Some p) ↔ HasEqualAt T.eq self.now item.now p }
+        ensures found { IsAnyAnswer (λ y b. T.eq y item.now ≡ b) self.now (is_some result) }
     {
         place_of(self.as_slice(), item)
+    }
+
+    /// Whether an item equals the given one. It takes O(log n) comparisons.
+    #[inline(always)]
+    pub fn contains(&self, item: &T) -> bool
+        ensures value { result ≡ list_any (λ y. T.eq y item.now) self.now }
+        ensures cases { IsAnyAnswer (λ y b. T.eq y item.now ≡ b) self.now result }
+    {
+        self.position(item).is_some()
     }
 
     /// Returns the set of the items. It requires that they are strictly increasing: each is less

@@ -1,8 +1,9 @@
 -- The sizes of subsets, and how many places two of them share.
-use Rattle.std.proofs.Common.{◌≡◌, ℕ, zero, suc, ◌+◌, ◌-◌, ◌≤◌, min, max, Bool, true, false, cond, ◌&&◌, leb, ltb, List}
-use Rattle.std.proofs.Common.{[], ◌∷◌, length, map, refl, ap, sym, ◌∙◌, arith}
-use Rattle.std.specs.List.{range_with_len}
-use Rattle.std.proofs.lemmas.List.FromFn.{length-map-range_with_len}
+use Rattle.std.proofs.Common.{◌≡◌, ℕ, zero, suc, ◌+◌, ◌-◌, ◌<◌, ◌≤◌, min, max, Bool, true, false, cond, ◌&&◌, leb, ltb}
+use Rattle.std.proofs.Common.{List, [], ◌∷◌, ◌++◌, get_or, length, map, take, refl, ap, sym, ◌∙◌, arith}
+use Rattle.std.specs.List.{count_by, range_with_len}
+use Rattle.std.proofs.lemmas.List.Sums.{count_by-le-length, sum_by-append, sum_by-cons, sum_by_more}
+use Rattle.std.proofs.lemmas.List.FromFn.{length-map-range_with_len, map-range_with_len_more}
 use Rattle.std.proofs.lemmas.Bool.Decides.{nat_tests}
 use Rattle.commonware_faults.specs.Subsets.{size, shared, passing, is_between, places}
 
@@ -22,6 +23,29 @@ pub size-cons : (a : Bool) (xs : List Bool) → size (a ∷ xs) ≡ cond a 1 0 +
 size-cons true xs = omega arith
 size-cons false xs = omega arith
 
+-- the size counts the values that are true, so that std's laws of `count_by` are those of sizes
+pub size-count_by : (xs : List Bool) → size xs ≡ count_by (λ b. b) xs
+size-count_by [] = refl
+size-count_by (x ∷ xs) =
+    size-cons x xs ∙ ap (λ n. cond x 1 0 + n) (size-count_by xs) ∙ sym (sum_by-cons (λ b. cond b 1 0) x xs)
+
+-- the size of two lists of values, one after the other
+pub size-append : (xs ys : List Bool) → size (xs ++ ys) ≡ size xs + size ys
+size-append xs ys =
+    size-count_by (xs ++ ys) ∙ sum_by-append (λ b. cond b 1 0) xs ys
+    ∙ omega (arith, size-count_by xs, size-count_by ys)
+
+-- the first i values and one more
+pub size-take_more : (xs : List Bool) (i : ℕ) (d : Bool) → i < length xs
+    → size (take (i + 1) xs) ≡ size (take i xs) + cond (get_or xs i d) 1 0
+size-take_more xs i d h =
+    size-count_by (take (i + 1) xs) ∙ sum_by_more (λ b. cond b 1 0) xs i d h
+    ∙ omega (arith, size-count_by (take i xs))
+
+-- no more values are true than there are
+pub size-le-length : (xs : List Bool) → size xs ≤ length xs
+size-le-length xs = omega (arith, size-count_by xs, count_by-le-length (λ (b : Bool). b) xs)
+
 -- one place more of two subsets
 shared-cons : (a b : Bool) (xs ys : List Bool) → shared (a ∷ xs) (b ∷ ys) ≡ cond (a && b) 1 0 + shared xs ys
 shared-cons true true xs ys = omega arith
@@ -35,6 +59,13 @@ shared-map p q [] = refl
 shared-map p q (k ∷ ks) =
     shared-cons (p k) (q k) (map p ks) (map q ks) ∙ ap (λ n. cond (p k && q k) 1 0 + n) (shared-map p q ks)
     ∙ sym (size-cons (p k && q k) (map (λ j. p j && q j) ks))
+
+-- one position more, which is in the subset or not
+pub size-passing_more : (test : ℕ → Bool) (n : ℕ)
+    → size (passing test (n + 1)) ≡ size (passing test n) + cond (test n) 1 0
+size-passing_more test n =
+    ap size (map-range_with_len_more test 0 n n (omega arith)) ∙ size-append (passing test n) (test n ∷ [])
+    ∙ omega (arith, size-cons (test n) [])
 
 -- equal tests give subsets of one size
 pub size-agree : (p q : ℕ → Bool) → ((k : ℕ) → p k ≡ q k) → (ks : List ℕ) → size (map p ks) ≡ size (map q ks)

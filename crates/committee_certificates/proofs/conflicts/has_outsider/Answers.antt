@@ -1,5 +1,5 @@
 use Rattle.std.proofs.Common.{◌-◌, ◌<◌, arith, length, rules}
-use Rattle.committee_certificates.proofs.IncreasingPositions.{members_from_last}
+use Rattle.commonware_ordered.specs.laws.PositionLaws.{members_from_last}
 use Rattle.committee_certificates.proofs.conflicts.has_outsider.Goals as goal
 
 pub returns-in-Some-clause-is_false : goal.returns-in-Some-clause-is_false
