@@ -10,6 +10,8 @@ mod builders;
 #[cfg(test)]
 mod certificates;
 #[cfg(test)]
+mod certificates_in_place;
+#[cfg(test)]
 mod conflicts;
 #[cfg(test)]
 mod drawn;
