@@ -7,8 +7,11 @@ statements trade places, those between them alone see another order. Goals have 
 import re
 
 TOKEN = re.compile(
-    r"""\s+|//[^\n]*|(b?"(?:\\.|[^"\\])*"|b?'(?:\\[^']*|[^\\'])'|'?[A-Za-z_]\w*|\d\w*|=>|->|&&|\|\||::|\.\.=?|[-+*/%&|^<>=!]=|.)""", re.S
+    r"""\s+|//[^\n]*|(b?"(?:\\.|[^"\\])*"|b?'(?:\\[^']*|[^\\'])'|'?[A-Za-z_]\w*|\d\w*"""
+    r"""|=>|->|&&|\|\||::|\.\.=?|[-+*/%&|^<>=!]=|.)""",
+    re.S,
 )
+BRANCHES = ("if", "match", "loop", "while", "for")
 CLOSING = {"(": ")", "[": "]", "{": "}"}
 CLAUSES = ("requires", "ensures", "ghost")
 # How the paths to a place stand to the change: none leads there, none has passed it, one has.
@@ -119,12 +122,12 @@ class Arm:
         kind, _, rest = label.partition("-")
         if kind != self.kind:
             return False
-        words = [re.sub(r"^(?:lt|le|gt|ge|eq|ne)?(?=\w)", "", it) if it not in self.names else it for it in re.split(r"[-+]", rest)]
-        return all(it in self.names or it.isdigit() or it in ("", "own", "not", "up", "empty") for it in words)
+        words = [it for it in re.split(r"[-+]", rest) if it not in self.names]
+        return all(re.fullmatch(r"(lt|le|gt|ge|eq|ne)?(\d+|[A-Z_]+)?|not|own|up|empty", it) for it in words)
 
 
 class Change:
-    """A change of a function: its text before and after, and the file that was checked, with the line on which the text begins."""
+    """A change of a function: its text before and after, and where that stands: a file that was checked, and a line of it."""
 
     def __init__(self, was, now, file, first_line):
         self.text, self.file, self.first_line = now, file, first_line
@@ -200,7 +203,7 @@ class Change:
                 ends = at + 1 + next((n for n, it in enumerate(rest) if it.text in (";", ",")), len(rest))
                 state = self.leave(item, items[at + 1 : ends], state)
                 at = ends
-            elif item.text in ("if", "match", "loop", "while", "for") and any(it.text == "{" for it in rest):
+            elif item.text in BRANCHES and any(it.text == "{" for it in rest):
                 at, state = self.branch(items, at, state)
             elif item.text == "else" and rest and rest[0].text == "{":
                 # The block of a `let .. else` leaves.
@@ -217,16 +220,17 @@ class Change:
                 if item.text == "?":
                     self.exits.append(Exit(item, state, self.inside, self.called(items, at)))
                 at += 1
-            if is_block and at < len(items) and items[at - 1].text in (";", "}") or is_block and self.is_statement(items, before, at):
+            if is_block and self.is_statement(items, before, at):
                 self.number += 1
                 self.open[-1] = self.number
         return state
 
     @staticmethod
     def is_statement(items, begins, ends):
-        """Tells whether a statement that needs no semicolon has ended."""
+        """Tells whether a statement ends there: at a semicolon, or what needs none."""
         starts = begins == 0 or items[begins - 1].text in (";", "{")
-        return starts and items[begins].text in ("if", "match", "loop", "while", "for") and ends < len(items) and items[ends].text not in (".", "?")
+        is_whole = starts and items[begins].text in BRANCHES and ends < len(items) and items[ends].text not in (".", "?")
+        return is_whole or items[ends - 1].text == ";"
 
     @staticmethod
     def called(items, at):

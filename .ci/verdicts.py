@@ -3,9 +3,10 @@
 The prover has its verdicts and goals as text alone; no command of the kit gives them in another form.
 """
 import re
+import typing
 
 # An open goal, with its place; an error in a file; how an item was judged.
-GOAL = re.compile(r"note: (src/\S+):(\d+):(\d+): (.*?) \(`(\S+?)`\)")
+GOAL = re.compile(r"note: (src/\S+):(\d+):(\d+): (.*?) \(`(\S+?)`\)(.*)")
 ERROR = re.compile(r"(?:\./)?(\S+?):(\d+):\d+: error: (?:`([^`]*)`: )?(.*)")
 JUDGED = re.compile(r"(?:fn|impl|struct|enum|trait|const|static) (\S+): (.*)")
 # The prover goes on with what it says on lines that begin with spaces.
@@ -19,6 +20,17 @@ BESIDE = "only goals that the change does not reach are open: "
 # An error in the answers of a function that a round changes. The prover offers answers for goals that are left open, for which
 # it starts a second time, but not for a function whose answers have an error; its goals it judges all the same.
 UNASKED = "unasked"
+# What the prover says of a goal that it has found to be false.
+FALSE = "allow values at which this goal is false"
+
+
+class Verdict(typing.NamedTuple):
+    """Whether a mutation is refused as it has to be, why, by which goal, and by which goals' answers alone, if that is so."""
+
+    is_refused: bool
+    why: str
+    goal: str = ""
+    by_answers: frozenset = frozenset()
 
 
 class Refusal:
@@ -34,7 +46,7 @@ class Refusal:
         return f"{kind}: {self.words}"
 
     def rank(self, is_reached):
-        """Puts a clause before anything else, and what counts for nothing last: the shape of a proof, and what is beside the change."""
+        """Puts a clause before anything else, and last what counts for nothing: a proof's shape, and what is beside the change."""
         return [not is_reached, self.is_shape, not self.goal.startswith("returns"), not self.goal]
 
 
@@ -46,7 +58,7 @@ class Said:
         for line in CONTINUED.sub(" ", text).splitlines():
             if found := GOAL.match(line):
                 place = found[1], int(found[2]), int(found[3])
-                goals.append(Refusal(found[5], place, f"{found[1]}:{found[2]}: {found[4]}"))
+                goals.append(Refusal(found[5], place, f"{found[1]}:{found[2]}: {found[4]}{found[6]}"))
             elif found := ERROR.match(line):
                 errors.append(found.groups())
             elif found := JUDGED.match(line):
@@ -82,19 +94,21 @@ class Said:
         return sorted(self.refused.keys() - {it.function for it in edits})
 
     def verdict(self, function, change=None):
-        """Returns whether a function was refused by a goal that the change of its body reaches, and by what it was refused."""
+        """Returns the verdict on a function: a goal that the change of its body reaches has to refuse it."""
         if self.trouble:
-            return False, self.trouble
+            return Verdict(False, self.trouble)
         if not function:
             found = [it for some in self.refused.values() for it in some if not it.is_shape]
-            return bool(found), found[0].says() if found else PROVED
+            return Verdict(bool(found), found[0].says() if found else PROVED)
         words = self.words.get(function, "the check has no line for this function")
         if words.startswith("proved"):
-            return False, PROVED
+            return Verdict(False, PROVED)
         if function not in self.refused:
-            return False, CALLEES + words
+            return Verdict(False, CALLEES + words)
         reached = lambda it: not change or not it.goal or change.reaches(it.goal, it.place, it.is_inner)
         ranked = sorted(((it.rank(reached(it)), it) for it in self.refused[function]), key=lambda it: it[0])
         (is_beside, is_shape, *_), refusal = ranked[0]
-        said = refusal.says()
-        return not (is_beside or is_shape), SHAPE + said if is_shape else BESIDE + said if is_beside else said
+        counted = [it for (beside, shape, *_), it in ranked if not beside and (is_shape or not shape)]
+        by_answers = frozenset(it.goal for it in counted if it.goal) if not any(it.place for it in counted) else frozenset()
+        why = (SHAPE if is_shape else BESIDE if is_beside else "") + refusal.says()
+        return Verdict(not (is_beside or is_shape), why, refusal.goal, by_answers)
