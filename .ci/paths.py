@@ -115,7 +115,7 @@ class Arm:
     """One way that an `if` or a `match` goes: its number among them, and how the names of goals call it."""
 
     def __init__(self, branch, number, kind, names):
-        self.branch, self.number, self.kind, self.names, self.holds_change = branch, number, kind, names, False
+        self.branch, self.number, self.kind, self.names, self.holds_change, self.after = branch, number, kind, names, False, CLEAN
 
     def is_named(self, label):
         """Tells whether a goal's name, without its clause, says that the path goes this way."""
@@ -248,9 +248,9 @@ class Change:
         self.arms.append(arm)
         self.inside.append(arm)
         state = self.token(group.opening, state)
-        state = self.end(group, self.block(group.items, state))
+        arm.after = self.end(group, self.block(group.items, state))
         self.inside.pop()
-        return state
+        return arm.after
 
     def end(self, group, state):
         """The end of a block, which is no part of the statement that the block belongs to."""
@@ -331,7 +331,8 @@ class Change:
                 ends = next((n for n in range(arrow + 1, len(items)) if items[n].text == ","), len(items))
                 self.arms.append(arm)
                 self.inside.append(arm)
-                after = max(after, self.block(items[arrow + 1 : ends], state))
+                arm.after = self.block(items[arrow + 1 : ends], state)
+                after = max(after, arm.after)
                 self.inside.pop()
                 at = ends
             self.open.pop()
@@ -408,14 +409,16 @@ class Change:
             beside = [it for it in self.arms if it.branch is arm.branch and it is not arm]
             if not arm.is_named(label) and any(it.is_named(label) for it in beside):
                 return False
+        # A `return` that is in no arm is the function's end.
+        end = max([self.tail, *(it.state for it in self.exits if it.token.text == "return" and not it.arms)])
         named = [it for it in self.arms if it.is_named(label)]
-        left = [it.state for it in self.exits if it.arms and it.arms[-1] in named]
-        if left and self.tail != TOUCHED:
+        left = [it.state for it in self.exits if it.arms and it.arms[-1] in named and it.arms[-1].after == DEAD]
+        if left:
             return max(left) == TOUCHED
         if inside and not label and self.is_tail(inside[0]):
             # The way that has no name is the last.
             return all(arm.number == max(it.number for it in self.arms if it.branch is arm.branch) for arm in inside)
-        return self.tail == TOUCHED
+        return end == TOUCHED
 
     def is_tail(self, arm):
         """Tells whether an arm's value is the function's."""
