@@ -278,6 +278,64 @@ static void test_long(void) {
     CHECK(munmap(zeros, 4 * limit) == 0);
 }
 
+/* Writes a committee of this many keys, with room for it and for one byte less. */
+static void write_keys(uint32_t count) {
+    static uint8_t keys[300][32], bytes[COMMONWARE_COMMITTEE_SIZE(300)];
+    for (uint32_t i = 0; i < count; i++) {
+        keys[i][30] = (uint8_t)(i / 256);
+        keys[i][31] = (uint8_t)i;
+    }
+    const uint8_t(*members)[32] = (const uint8_t(*)[32])keys;
+    const size_t size = (count < 128 ? 1 : 2) + 32 * (size_t)count;
+    commonware_written_view written = commonware_committee_write(members, count, bytes, size);
+    CHECK(written.status == COMMONWARE_OK && written.count == count && written.size == size);
+    CHECK(memcmp(bytes + size - 32 * (size_t)count, keys, 32 * (size_t)count) == 0);
+    written = commonware_committee_write(members, count, bytes, size - 1);
+    CHECK(written.status == COMMONWARE_ROOM && written.count == count && written.size == size);
+}
+
+/* Writes and reads certificates that this many members signed, and finds that all of them signed both, with
+ * room for the result and for one element less. */
+static void use_signers(uint32_t count) {
+    static uint8_t value[400], bytes[2][COMMONWARE_CERTIFICATE_SIZE(400, 300)];
+    static uint32_t signers[300], out[300];
+    for (uint32_t i = 0; i < count; i++) {
+        signers[i] = i;
+    }
+    /* The length of the value and the value, a number of one or two bytes, and one or two for each index. */
+    const size_t size = 402 + (count < 128 ? 1 : 2) + count + (count < 128 ? 0 : count - 128);
+    for (uint8_t i = 0; i < 2; i++) {
+        value[399] = i;
+        commonware_written_view written =
+            commonware_certificate_write(OF(value), signers, count, bytes[i], size - 1);
+        CHECK(written.status == COMMONWARE_ROOM && written.count == count && written.size == size);
+        written = commonware_certificate_write(OF(value), signers, count, bytes[i], size);
+        CHECK(written.status == COMMONWARE_OK && written.count == count && written.size == size);
+    }
+    for (uint32_t less = 0; less < 2 && less <= count; less++) {
+        memset(out, 0xee, sizeof out);
+        const uint32_t status = less == 0 ? COMMONWARE_OK : COMMONWARE_ROOM;
+        const commonware_certificate_view view =
+            commonware_certificate_read(bytes[1], size, 400, count, out, count - less);
+        CHECK(view.status == status && view.signers == count && view.left == 0);
+        CHECK(view.value_start == 2 && view.value_length == 400);
+        CHECK(count == 0 || less == 1 || memcmp(out, signers, count * sizeof *out) == 0);
+        const commonware_conflict_view both =
+            commonware_conflict(3, count, bytes[0], size, bytes[1], size, out, count - less);
+        CHECK(both.status == (count == 0 ? COMMONWARE_NO_MEMBERS : status) && both.count == count);
+        CHECK(both.which == 0 && both.number == 0);
+        CHECK(less == 0 || out[0] == 0xeeeeeeee);
+    }
+}
+
+/* Each number of keys and of signers up to 300. */
+static void test_sizes(void) {
+    for (uint32_t count = 0; count <= 300; count++) {
+        write_keys(count);
+        use_signers(count);
+    }
+}
+
 /* Each request refused in turn, with all after it, until a run has none refused. */
 static void test_memory(void) {
     uint8_t keys[5][32] = {{5}, {4}, {3}, {2}, {1}};
@@ -317,6 +375,7 @@ int main(void) {
     test_conflict();
     test_pages();
     test_long();
+    test_sizes();
     test_memory();
     printf("%d failed\n", failed);
     return failed != 0;
