@@ -2,6 +2,7 @@
 use Rattle.std.proofs.Common.{◌≡◌, ℕ, ◌+◌, ◌-◌, ◌*◌, ◌<◌, ◌≤◌, Bool, List, length, get_or}
 use Rattle.std.proofs.Common.{◌⊎◌, sym, ◌∙◌, arith, inl, inr}
 use Rattle.std.proofs.Math.Nat.{mul-le-mul_right}
+use Rattle.std.specs.Prelude.{Err, IfOk, Ok, Result}
 use Rattle.std.specs.List.{Contains}
 use Rattle.std.specs.Ordering.{nat_cmp}
 use Rattle.std.proofs.lemmas.List.Elements.{All-from_get_or, All-contains, Contains-get_or}
@@ -13,7 +14,7 @@ use Rattle.commonware_ordered.specs.Strict.{IsStrict}
 use Rattle.commonware_ordered.specs.Voters.{subset_of}
 use Rattle.commonware_ordered.specs.laws.PositionLaws.{size-subset_of_members}
 use Rattle.committee_certificates.specs.laws.SignerLaws.{Contains-from_subset, outside_not_listed, shared-subsets}
-use Rattle.committee_certificates.specs.Signers.{AreInBoth, AreMembers, LeavesOneOutside}
+use Rattle.committee_certificates.specs.Signers.{AreInBoth, AreMembers, LeavesOneOutside, OutnumberFaults}
 
 -- Two strictly increasing lists of at least n - f members, and those in both.
 pub record AreQuorumsAndBoth (n f : ℕ) (xs ys zs : List ℕ) : Type 0 where
@@ -75,5 +76,15 @@ thirds-fit n f (inl h) = (Greatest-fit 3 n f (omega arith) (Greatest-three n f h
 thirds-fit n f (inr h) = omega (arith, (Greatest-fit 5 n f (omega arith) h).fits)
 
 -- and where it is at any k of 3 and more
-pub resilient-fit : (k n f : ℕ) → 3 ≤ k → Greatest k n f → 3 * f + 1 ≤ n
+resilient-fit : (k n f : ℕ) → 3 ≤ k → Greatest k n f → 3 * f + 1 ≤ n
 resilient-fit k n f three h = omega (arith, (Greatest-fit k n f (omega (arith, three)) h).fits, mul-le-mul_right f three)
+
+-- so what a call returns outnumbers the faults
+pub outnumber : {E : Type 0} (k n f : ℕ) → 3 ≤ k → Greatest k n f → (result : Result (List ℕ) E)
+    → IfOk result (λ both. n ≤ 2 * f + length both) → (3 * f + 1 ≤ n → IfOk result (LeavesOneOutside n f))
+    → IfOk result (OutnumberFaults k n f)
+outnumber k n f three h (Ok both) many leaves = record {
+  many = overlap-many n f _ (length both) many h.overlaps;
+  leaves = leaves (resilient-fit k n f three h);
+}
+outnumber k n f three h (Err error) many leaves = tt

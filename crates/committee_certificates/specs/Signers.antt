@@ -39,8 +39,8 @@ pub record LeavesOneOutside (n f : ℕ) (signers : List ℕ) : Type 0 where
   pub of_participants : (faulty : List ℕ) → IsStrict nat_cmp faulty → AreMembers n faulty → length faulty ≤ f
       → (index : ℕ) × Contains signers index × (¬ Contains faulty index)
 
--- What the signers of both of two certificates are at a resilience k of 3 and more: at least (k - 2)f + 1, of whom one is
--- outside any f of the n members.
+-- What the signers of both of two certificates are at a resilience k of 3 and more: at least (k - 2)f + 1, of whom one
+-- is outside any f of the n members.
 pub record OutnumberFaults (k n f : ℕ) (signers : List ℕ) : Type 0 where
   pub many : (k - 2) * f + 1 ≤ length signers
   pub leaves : LeavesOneOutside n f signers

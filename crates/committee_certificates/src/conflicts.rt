@@ -1,5 +1,5 @@
 //! Accountability: the members that signed both of two certificates for different values.
-ghost use Rattle.std.specs.Prelude.{◌≡◌, ◌≢◌, ◌+◌, ◌*◌, ◌<◌, ◌≤◌, ◌⊎◌, ◌↔◌, ℕ, IfOk, IsErrOf, IsFalse, IsTrue, OnOk, length, pos};
+ghost use Rattle.std.specs.Prelude.{◌≡◌, ◌≢◌, ◌+◌, ◌*◌, ◌<◌, ◌≤◌, ◌⊎◌, ◌↔◌, ℕ, IfErr, IfOk, IsErrOf, IsFalse, IsTrue, OnOk, length, pos};
 ghost use Rattle.committee_certificates.specs.declared.conflicts.ConflictError.TheVariants.{Memory, Outside, TooFew};
 ghost use Rattle.committee_certificates.specs.Signers.{AreInBoth, AreMembers, AreQuorum, AreTooFew};
 ghost use Rattle.committee_certificates.specs.Signers.{HasOutsider, LeavesOneOutside, OutnumberFaults};
@@ -42,8 +42,8 @@ impl From<AllocError> for ConflictError {
 /// signers of both. It requires that the values differ, and that the committee has 1 to `u32::MAX`
 /// members.
 ///
-/// To sign two values is a fault only where both are for one slot (a height and a view, say), of
-/// which nothing is said here: honest members sign many values, one a slot.
+/// To sign two values is a fault only where both are for one slot (a height and a view, say), which
+/// `equivocation` asks: honest members sign many values, one a slot.
 ///
 /// **Warning.** No signature is looked at. Whoever doesn't verify them first may accuse an innocent
 /// member.
@@ -115,6 +115,8 @@ pub fn conflict_among<A: Allocator>(
         ↔ (AreMembers members first.now.signers × AreMembers members second.now.signers
         × (AreTooFew (λ _. faults) members first.now.signers
         ⊎ AreTooFew (λ _. faults) members second.now.signers)) }
+    ensures memory { IsErrOf result Memory → (AreQuorum (λ _. faults) members first.now.signers
+        × AreQuorum (λ _. faults) members second.now.signers) }
     ensures quorums { OnOk result
         (AreQuorum (λ _. faults) members first.now.signers
         × AreQuorum (λ _. faults) members second.now.signers) }
@@ -148,6 +150,7 @@ fn check_signers(
         × ((length first.now < quorum) ⊎ (length second.now < quorum))) }
     ensures members { OnOk result (AreMembers members first.now × AreMembers members second.now) }
     ensures enough { OnOk result ((quorum ≤ length first.now) × (quorum ≤ length second.now)) }
+    ensures only { IfErr result (λ error. (error ≡ Outside) ⊎ (error ≡ TooFew)) }
 {
     if has_outsider(members, first) || has_outsider(members, second) {
         return Err(ConflictError::Outside);
@@ -160,7 +163,7 @@ fn check_signers(
 
 /// Whether a signer is at or past the committee's length, which is the number of its members. The
 /// signers are strictly increasing, so the last one decides.
-fn has_outsider(members: usize, signers: &[Participant]) -> bool
+pub(crate) fn has_outsider(members: usize, signers: &[Participant]) -> bool
     requires { IsStrict ⟦<Participant as Ord>⟧.cmp signers.now }
     ensures is_true { IsTrue result → HasOutsider members signers.now }
     ensures is_false { IsFalse result → AreMembers members signers.now }

@@ -1,15 +1,24 @@
 //! Certificates, which are values with the members of a committee that signed them, and
-//! accountability: the members that signed both of two different ones.
+//! accountability: the members that signed both of two different ones, and those that equivocated,
+//! by signing two decisions for one slot.
 #![tactic(auto)]
 
+mod accountability;
 mod certificate;
 mod conflicts;
+mod equivocations;
 mod in_place;
+mod quorums;
+mod slots;
 mod voters;
 mod walk;
 
+pub use accountability::{Signing, accountability_law, accountability_of};
 pub use certificate::{Certificate, certificate_fault_law};
 pub use conflicts::{ConflictError, conflict, conflict_among};
+pub use equivocations::{EquivocationError, equivocation, equivocation_among};
 pub use in_place::{CertificateAt, SignersAt, find_certificate, find_signers};
+pub use quorums::{QuorumError, check_quorum, check_quorum_among};
+pub use slots::slot_of;
 pub use voters::first_new;
 pub use walk::write_both;

@@ -64,6 +64,8 @@ mod scripted_devices;
 #[cfg(test)]
 mod signers;
 #[cfg(test)]
+mod slots;
+#[cfg(test)]
 mod sorted_pairs;
 #[cfg(test)]
 mod stated_lengths;

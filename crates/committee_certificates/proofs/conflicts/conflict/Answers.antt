@@ -1,8 +1,8 @@
 -- What the members and the faults of a committee are, in the clauses of their numbers.
 use Rattle.std.proofs.Common.{◌*◌, ◌+◌, ◌≤◌, length}
-use Rattle.std.specs.Prelude.{Err, IfOk, Ok, Result}
+use Rattle.std.specs.Prelude.{IfOk}
 use Rattle.std.proofs.lemmas.Result.{IfOk-weaker}
-use Rattle.committee_certificates.proofs.Members.{overlap-many, resilient-fit, thirds-fit}
+use Rattle.committee_certificates.proofs.Members.{outnumber, overlap-many, thirds-fit}
 use Rattle.committee_certificates.proofs.conflicts.conflict.Goals as goal
 use Rattle.committee_certificates.proofs.conflicts.conflict.Given.{Over}
 
@@ -11,17 +11,10 @@ shared : (g : Over) (c : goal.After-conflict_among g) → IfOk c.conflict_among.
     (λ both. length c.args.committee.now ≤ 2 * g.M.Faults.faults (length c.args.committee.now) + length both)
 shared g c = rw (c.max_faults.ensures.faults, c.len-members.ensures) at c.conflict_among.ensures.shared
 
--- what holds of a result in two ways
-with_both : {T E : Type 0} (P Q R : T → Type 0) → ((x : T) → P x → Q x → R x) → (r : Result T E) → IfOk r P → IfOk r Q
-    → IfOk r R
-with_both P Q R join (Ok x) p q = join x p q
-with_both P Q R join (Err e) p q = tt
-
 pub returns-clause-accountable : goal.returns-clause-accountable
 returns-clause-accountable g c = λ k three h.
     let leaves = rw (c.max_faults.ensures.faults, c.len-members.ensures) at c.conflict_among.ensures.leaves in
-    with_both _ _ _ (λ both many left. record { many = overlap-many _ _ _ _ many h.overlaps; leaves = left })
-    c.conflict_among.result (shared g c) (leaves (resilient-fit k _ _ three h))
+    outnumber k _ _ three h c.conflict_among.result (shared g c) leaves
 
 pub returns-clause-thirds : goal.returns-clause-thirds
 returns-clause-thirds g c = λ h.
