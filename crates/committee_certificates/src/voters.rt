@@ -1,7 +1,6 @@
 //! Participants that are accused for the first time.
-ghost use Rattle.std.specs.Prelude.{◌≡◌, ◌<◌, ◌≤◌, ℕ, Contains, IfNone, IfSome, IsSome, List, length};
-ghost use Rattle.committee_certificates.specs.Signers.{AreInBoth, LeavesOneOutside};
-ghost use Rattle.committee_certificates.specs.Voters.{IsInBoth};
+ghost use Rattle.std.specs.Prelude.{◌≡◌, ◌<◌, ◌≤◌, ℕ, Contains, IfNone, IfSome, IsSome, length};
+ghost use Rattle.committee_certificates.specs.Signers.{LeavesOneOutside};
 
 use commonware_base::Participant;
 use commonware_ordered::Set;
@@ -11,8 +10,7 @@ use std::alloc::Allocator;
 /// where all of them are: of 1, 2 and 3, where 1 and 3 are known, it is 2.
 ///
 /// Where any f members leave one of the participants outside, as `conflict` says of those it
-/// names, and at most f are known, it returns one. Where they are those in two lists, as the
-/// signers of both certificates are, the one is in both.
+/// names, and at most f are known, it returns one.
 pub fn first_new<A: Allocator, B: Allocator>(
     accused: &Set<Participant, A>,
     known: &Set<Participant, B>,
@@ -22,8 +20,6 @@ pub fn first_new<A: Allocator, B: Allocator>(
         → Contains accused.now earlier → Contains known.now earlier) }
     ensures none { IfNone result ((participant : ℕ) → Contains accused.now participant
         → Contains known.now participant) }
-    ensures both { (first second : List ℕ) → AreInBoth first second accused.now
-        → IfSome result (IsInBoth first second) }
     ensures outlasts { (n f : ℕ) → LeavesOneOutside n f accused.now → length known.now ≤ f
         → IsSome result }
 {

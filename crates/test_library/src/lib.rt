@@ -65,3 +65,5 @@ mod signers;
 mod sorted_pairs;
 #[cfg(test)]
 mod stated_lengths;
+#[cfg(test)]
+mod voters;

@@ -71,12 +71,3 @@ pub returns-clause-outlasts : goal.returns-clause-outlasts
 returns-clause-outlasts g c = λ n f leaves few.
     let one = one-outside n f c.args.accused.now leaves c.args.known.now few in
     absurd (one.2 (all_known g c one.0 one.1))
-
-pub returns-then-not-contains-clause-both : goal.returns-then-not-contains-clause-both
-returns-then-not-contains-clause-both g c = λ first second h.
-    let here = at_place _ c.args.accused.now _ _ c.as_slice-participant-items.ensures.items c.participant-item.is in
-    let inside = ap length c.as_slice-participant-items.ensures.items in
-    let among : Contains c.args.accused.now c.participant-item.result =
-    (c.loop-participant.participant-index, omega (arith, inside), sym here) in
-    let w = (h.exactly c.participant-item.result).0 among in
-    record { in_first = w.0; in_second = w.1 }
