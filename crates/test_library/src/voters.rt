@@ -1,7 +1,7 @@
 //! Voters of a message as a quorum, and accused participants that aren't known yet.
 use crate::signers::certificate;
 use committee_certificates::{Certificate, first_new};
-use commonware_utils::codec::{RangeCfg, Write};
+use commonware_utils::codec::{EncodeSize, RangeCfg, Write};
 use commonware_utils::ordered::Set;
 use commonware_utils::{N3f1, N5f1, Participant};
 use std::alloc::Global;
