@@ -11,8 +11,8 @@ use Rattle.commonware_faults.specs.laws.SubsetLaws.{Overlap-at_ends, beyond}
 use Rattle.commonware_faults.specs.laws.ToleranceLaws.{quorums_share, Greatest-fit, Greatest-three}
 use Rattle.commonware_faults.specs.laws.SubsetSizeLaws.{length-passing}
 use Rattle.commonware_ordered.specs.Strict.{IsStrict}
-use Rattle.commonware_ordered.specs.Voters.{subset_of}
-use Rattle.commonware_ordered.specs.laws.PositionLaws.{size-subset_of_members}
+use Rattle.commonware_ordered.specs.Voters.{members_among}
+use Rattle.commonware_ordered.specs.laws.PositionLaws.{size-members_among-all}
 use Rattle.committee_certificates.specs.laws.SignerLaws.{Contains-from_subset, outside_not_listed, shared-subsets}
 use Rattle.committee_certificates.specs.Signers.{AreInBoth, AreMembers, LeavesOneOutside, OutnumberFaults}
 
@@ -36,11 +36,11 @@ module _ {n f : ℕ} {xs ys zs : List ℕ} (c : AreQuorumsAndBoth n f xs ys zs) 
   -- at least n - 2f are in both, whatever f is
   pub both-many : n ≤ 2 * f + length zs
   both-many =
-      let size_xs = size-subset_of_members n xs c.first_strict c.first_members in
-      let size_ys = size-subset_of_members n ys c.second_strict c.second_members in
-      let size_zs = size-subset_of_members n zs c.both.strict members in
+      let size_xs = size-members_among-all n xs c.first_strict c.first_members in
+      let size_ys = size-members_among-all n ys c.second_strict c.second_members in
+      let size_zs = size-members_among-all n zs c.both.strict members in
       let share =
-      (quorums_share n f).shares (subset_of n xs) (subset_of n ys) (length-passing _ n) (length-passing _ n)
+      (quorums_share n f).shares (members_among n xs) (members_among n ys) (length-passing _ n) (length-passing _ n)
       (omega (arith, size_xs, c.first_enough)) (omega (arith, size_ys, c.second_enough)) in
       omega (arith, shared-subsets n xs ys zs c.both, size_zs, share)
 
@@ -48,8 +48,9 @@ module _ {n f : ℕ} {xs ys zs : List ℕ} (c : AreQuorumsAndBoth n f xs ys zs) 
   outside : (faulty : List Bool) → length faulty ≡ n → size faulty < length zs
       → (p : ℕ) × Contains zs p × IsOutside faulty p
   outside faulty l h =
-      let more : size faulty < size (subset_of n zs) = omega (arith, h, size-subset_of_members n zs c.both.strict members) in
-      let r = beyond (subset_of n zs) faulty (length-passing _ n ∙ sym l) more in
+      let all = size-members_among-all n zs c.both.strict members in
+      let more : size faulty < size (members_among n zs) = omega (arith, h, all) in
+      let r = beyond (members_among n zs) faulty (length-passing _ n ∙ sym l) more in
       (r.0, Contains-from_subset n zs r.0 r.1, r.2)
 
   -- more than f members leave one outside any f
@@ -57,8 +58,9 @@ module _ {n f : ℕ} {xs ys zs : List ℕ} (c : AreQuorumsAndBoth n f xs ys zs) 
   leaves_one h = record {
     of_positions = λ faulty l u. outside faulty l (omega (arith, h, u));
     of_participants = λ faulty strict below u.
-        let fewer : size (subset_of n faulty) < length zs = omega (arith, size-subset_of_members n faulty strict below, h, u) in
-        let r = outside (subset_of n faulty) (length-passing _ n) fewer in
+        let all = size-members_among-all n faulty strict below in
+        let fewer : size (members_among n faulty) < length zs = omega (arith, all, h, u) in
+        let r = outside (members_among n faulty) (length-passing _ n) fewer in
         (r.0, r.1, outside_not_listed n faulty r.0 r.2);
   }
 

@@ -8,5 +8,5 @@ abbrev pub is_among : List ℕ → ℕ → Bool
 is_among participants p = list_any (λ x. nat_eq x p) participants
 
 -- the subset of the n positions that participants are: at each position, whether it is among them
-abbrev pub subset_of : ℕ → List ℕ → List Bool
-subset_of n participants = passing (is_among participants) n
+abbrev pub members_among : ℕ → List ℕ → List Bool
+members_among n participants = passing (is_among participants) n

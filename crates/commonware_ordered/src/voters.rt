@@ -1,7 +1,7 @@
 //! Sets of participants as voters of a committee.
 ghost use Rattle.std.specs.Prelude.{◌≡◌, ◌<◌, ◌≤◌, All, length};
 ghost use Rattle.commonware_faults.specs.Subsets.{size};
-ghost use Rattle.commonware_ordered.specs.Voters.{subset_of};
+ghost use Rattle.commonware_ordered.specs.Voters.{members_among};
 
 use crate::set::Set;
 use commonware_base::Participant;
@@ -13,7 +13,7 @@ use std::alloc::Allocator;
 ///
 /// Of the voters 0, 2, 3 and 7 three are members of a committee of 4.
 pub fn count_members<A: Allocator>(members: usize, voters: &Set<Participant, A>) -> usize
-    ensures counted { result ≡ size (subset_of members voters.now) }
+    ensures counted { result ≡ size (members_among members voters.now) }
     ensures all { All (λ voter. voter < members) voters.now → result ≡ length voters.now }
     ensures at_most { (result ≤ members) × (result ≤ length voters.now) }
 {

@@ -1,5 +1,5 @@
--- The definitions of `ordered`: strictly increasing lists, places, what the builders return, faults and their error
--- cases, mutable borrows and value maps.
+-- The definitions of `ordered`: strictly increasing lists, places, voters as subsets, what the builders return, faults
+-- and their error cases, mutable borrows and value maps.
 pub use Rattle.commonware_bimap.specs.BiMaps.{BeginsRepeated, IsWritableBiMap, repeated_fault}
 pub use Rattle.commonware_bimap.specs.BiMaps.{BiMapFault, bad_map, bad_values}
 pub use Rattle.commonware_bimap.specs.BiMaps.{BiMapCase, at_map, at_values, bimap_case}
@@ -24,6 +24,10 @@ pub use Rattle.commonware_ordered.specs.Sets.{BeginsUnsorted, IsWritableSet, uns
 pub use Rattle.commonware_ordered.specs.Sets.{SetFault, bad_list, bad_order}
 pub use Rattle.commonware_ordered.specs.Sets.{SetCase, at_list, at_order, set_case}
 pub use Rattle.commonware_ordered.specs.Strict.{HasEqualAt, IsPlaceOf, IsStrict}
+pub use Rattle.commonware_ordered.specs.Voters.{is_among, members_among}
+pub use Rattle.commonware_ordered.specs.laws.PlaceLaws.{among_iff, found-place, place_iff}
+pub use Rattle.commonware_ordered.specs.laws.PositionLaws.{size-members_among, size-members_among-all}
+pub use Rattle.commonware_ordered.specs.laws.PositionLaws.{size-members_among-le}
 pub use Rattle.commonware_map.specs.ValueMaps.{CalledAtPair, CalledAtRefs, IfClosure, IsFirstError}
 pub use Rattle.commonware_map.specs.ValueMaps.{Succeeds, TakesPair, TakesRefs}
 pub use Rattle.commonware_ordered.specs.Whole.{HasEqualItems, IsRefusedFor, IsSetOfAll}

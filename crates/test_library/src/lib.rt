@@ -69,3 +69,5 @@ mod slots;
 mod sorted_pairs;
 #[cfg(test)]
 mod stated_lengths;
+#[cfg(test)]
+mod voters;

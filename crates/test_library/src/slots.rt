@@ -33,6 +33,9 @@ fn values_have_slots(rt: HostRuntime) {
 
 /// Whether the slot and the decision of which `union_unique` makes a value are found in it.
 fn is_found(alloc: Global, slot: &[u8], decision: &[u8]) -> Result<bool, AllocError> {
+    if slot.len() > u32::MAX as usize {
+        return Ok(false);
+    }
     let value = union_unique(alloc, slot, decision)?;
     Ok(slot_of(&value) == Some((slot, decision)))
 }

@@ -9,6 +9,7 @@ mod queues;
 mod ranges;
 mod registries;
 mod roots;
+mod voters;
 
 pub use committees::{is_member, signatures_needed};
 pub use messages::{read_members, write_members};
@@ -18,3 +19,4 @@ pub use queues::{doubled, keep_the_first, latest, remember};
 pub use ranges::{only, only_one_above_zero};
 pub use registries::{owner, powers, registry, registry_of};
 pub use roots::{first, is_before, room, signed_text};
+pub use voters::has_quorum;

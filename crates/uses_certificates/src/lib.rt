@@ -2,6 +2,8 @@
 //! the members that signed two different values, under any fault model of a resilience.
 #![tactic(auto)]
 
+mod accusations;
 mod double_signers;
 
+pub use accusations::new_accused;
 pub use double_signers::{accused, conflict_under};

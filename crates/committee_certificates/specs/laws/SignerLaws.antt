@@ -9,9 +9,9 @@ use Rattle.std.proofs.lemmas.Option.{slice_get-get_or, slice_get_within}
 use Rattle.commonware_faults.specs.Subsets.{size, shared, passing, IsIn, IsOutside}
 use Rattle.commonware_faults.specs.laws.SubsetSizeLaws.{shared-map, size-agree, length-passing}
 use Rattle.commonware_ordered.specs.Strict.{IsPlaceOf}
-use Rattle.commonware_ordered.specs.Voters.{is_among, subset_of}
+use Rattle.commonware_ordered.specs.Voters.{is_among, members_among}
 use Rattle.commonware_ordered.specs.laws.PlaceLaws.{among_iff, place_iff}
-use Rattle.commonware_ordered.specs.laws.PositionLaws.{size-subset_of-le}
+use Rattle.commonware_ordered.specs.laws.PositionLaws.{size-members_among-le}
 use Rattle.committee_certificates.specs.Signers.{AreInBoth, LeavesOneOutside}
 
 -- two tests at once tell both
@@ -28,23 +28,25 @@ slice_get-passing test n p h =
     ∙ ap (λ (b : Bool). Some b) (get_or-map-range_with_len test 0 n p p false h (omega arith))
 
 -- a position of the signers is one of them
-pub Contains-from_subset : (n : ℕ) (xs : List ℕ) (p : ℕ) → IsIn (subset_of n xs) p → Contains xs p
+pub Contains-from_subset : (n : ℕ) (xs : List ℕ) (p : ℕ) → IsIn (members_among n xs) p → Contains xs p
 Contains-from_subset n xs p h =
-    let inside : p < n = omega (arith, slice_get_within (subset_of n xs) p true h, length-passing (is_among xs) n) in
+    let within = slice_get_within (members_among n xs) p true h in
+    let inside : p < n = omega (arith, within, length-passing (is_among xs) n) in
     let e = slice_get-passing (is_among xs) n p inside in
     (among_iff xs p).0 (cc)
 
 -- a position outside isn't
-pub outside_not_listed : (n : ℕ) (xs : List ℕ) (p : ℕ) → IsOutside (subset_of n xs) p → ¬ Contains xs p
+pub outside_not_listed : (n : ℕ) (xs : List ℕ) (p : ℕ) → IsOutside (members_among n xs) p → ¬ Contains xs p
 outside_not_listed n xs p h w =
-    let inside : p < n = omega (arith, slice_get_within (subset_of n xs) p false h, length-passing (is_among xs) n) in
+    let within = slice_get_within (members_among n xs) p false h in
+    let inside : p < n = omega (arith, within, length-passing (is_among xs) n) in
     let e = slice_get-passing (is_among xs) n p inside in
     let t = (among_iff xs p).1 w in
     cc
 
 -- the signers in both are the positions that are shared
 pub shared-subsets : (n : ℕ) (xs ys zs : List ℕ) → AreInBoth xs ys zs
-    → shared (subset_of n xs) (subset_of n ys) ≡ size (subset_of n zs)
+    → shared (members_among n xs) (members_among n ys) ≡ size (members_among n zs)
 shared-subsets n xs ys zs h =
     let agree = λ (p : ℕ).
     same_from_decides (is_among xs p && is_among ys p) (is_among zs p)
@@ -69,5 +71,5 @@ pub one-outside : (n f : ℕ) (signers : List ℕ) → LeavesOneOutside n f sign
     → (p : ℕ) × Contains signers p × (¬ Contains known p)
 one-outside n f signers h known few =
     let all = length-passing (is_among known) n in
-    let r = h.of_positions (subset_of n known) all (omega (arith, size-subset_of-le n known)) in
+    let r = h.of_positions (members_among n known) all (omega (arith, size-members_among-le n known)) in
     (r.0, r.1, outside_not_listed n known r.0 r.2)

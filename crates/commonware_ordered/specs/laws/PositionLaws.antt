@@ -15,7 +15,7 @@ use Rattle.commonware_faults.specs.Subsets.{is_between, passing, size}
 use Rattle.commonware_faults.specs.laws.SubsetSizeLaws.{size-agree, size-cons, size-places}
 use Rattle.commonware_ordered.specs.Strict.{IsStrict}
 use Rattle.commonware_ordered.specs.laws.StrictLaws.{sorted_from_strict}
-use Rattle.commonware_ordered.specs.Voters.{is_among, subset_of}
+use Rattle.commonware_ordered.specs.Voters.{is_among, members_among}
 
 -- the numbers rise, from low on
 abbrev pub RisesFrom : ℕ → List ℕ → Type 0
@@ -168,8 +168,9 @@ size_listed (x ∷ xs) low (suc n) r =
     ]
 
 -- as many of the n positions are participants as participants are below n
-pub size-subset_of : (n : ℕ) (xs : List ℕ) → IsStrict nat_cmp xs → size (subset_of n xs) ≡ count_by (λ x. nat_lt x n) xs
-size-subset_of n xs strict =
+pub size-members_among : (n : ℕ) (xs : List ℕ) → IsStrict nat_cmp xs
+    → size (members_among n xs) ≡ count_by (λ x. nat_lt x n) xs
+size-members_among n xs strict =
     size_listed xs 0 n (rises_from_strict xs strict) ∙ ap (λ m. count_below m xs) (omega arith)
 
 -- numbers below n are all counted
@@ -182,10 +183,10 @@ all_below n (x ∷ xs) b =
     count_below-cons n x xs ∙ omega (arith, rest, ap (λ (b : Bool). cond {A = ℕ} b 1 0) here)
 
 -- participants that are members are as many as their positions
-pub size-subset_of_members : (n : ℕ) (xs : List ℕ) → IsStrict nat_cmp xs → All (λ p. p < n) xs
-    → size (subset_of n xs) ≡ length xs
-size-subset_of_members n xs strict members =
-    size-subset_of n xs strict ∙ all_below n xs (below_from_members n xs members)
+pub size-members_among-all : (n : ℕ) (xs : List ℕ) → IsStrict nat_cmp xs → All (λ p. p < n) xs
+    → size (members_among n xs) ≡ length xs
+size-members_among-all n xs strict members =
+    size-members_among n xs strict ∙ all_below n xs (below_from_members n xs members)
 
 -- what passes one of two tests is no more than what passes the one and what passes the other
 size-or : (p q : ℕ → Bool) (ks : List ℕ) → size (map (λ k. p k || q k) ks) ≤ size (map p ks) + size (map q ks)
@@ -214,8 +215,8 @@ size-one x n =
     one_place x p = grind (arith, nat_tests)
 
 -- no more positions are among the participants than are listed, members or not, and however often
-pub size-subset_of-le : (n : ℕ) (xs : List ℕ) → size (subset_of n xs) ≤ length xs
-size-subset_of-le n [] = omega (arith, size_none 0 n)
-size-subset_of-le n (x ∷ xs) =
+pub size-members_among-le : (n : ℕ) (xs : List ℕ) → size (members_among n xs) ≤ length xs
+size-members_among-le n [] = omega (arith, size_none 0 n)
+size-members_among-le n (x ∷ xs) =
     let either = size-or (λ p. nat_eq x p) (is_among xs) (range_with_len 0 n) in
-    omega (arith, either, size-one x n, size-subset_of-le n xs)
+    omega (arith, either, size-one x n, size-members_among-le n xs)

@@ -5,8 +5,8 @@ use Rattle.std.specs.Prelude.{nat_lt}
 use Rattle.std.proofs.lemmas.List.{take_all}
 use Rattle.std.proofs.lemmas.List.Sums.{count_by-le-length}
 use Rattle.commonware_faults.specs.laws.SubsetSizeLaws.{length-passing, size-le-length}
-use Rattle.commonware_ordered.specs.Voters.{is_among, subset_of}
-use Rattle.commonware_ordered.specs.laws.PositionLaws.{size-subset_of, size-subset_of_members}
+use Rattle.commonware_ordered.specs.Voters.{is_among, members_among}
+use Rattle.commonware_ordered.specs.laws.PositionLaws.{size-members_among, size-members_among-all}
 use Rattle.commonware_ordered.proofs.voters.count_members.Goals as goal
 use Rattle.commonware_ordered.proofs.voters.count_members.Given.{Over}
 
@@ -20,16 +20,16 @@ counted g c =
 
 pub returns-clause-counted : goal.returns-clause-counted
 returns-clause-counted g c =
-    counted g c ∙ sym (size-subset_of c.args.members c.args.voters.now c.as_slice-voter-items.ensures.strict)
+    counted g c ∙ sym (size-members_among c.args.members c.args.voters.now c.as_slice-voter-items.ensures.strict)
 
 pub returns-clause-all : goal.returns-clause-all
 returns-clause-all g c = λ members.
     returns-clause-counted g c
-    ∙ size-subset_of_members c.args.members c.args.voters.now c.as_slice-voter-items.ensures.strict members
+    ∙ size-members_among-all c.args.members c.args.voters.now c.as_slice-voter-items.ensures.strict members
 
 pub returns-clause-at_most : goal.returns-clause-at_most
 returns-clause-at_most g c =
-    let positions = size-le-length (subset_of c.args.members c.args.voters.now) in
+    let positions = size-le-length (members_among c.args.members c.args.voters.now) in
     let all = length-passing (is_among c.args.voters.now) c.args.members in
     let voters = count_by-le-length (λ x. nat_lt x c.args.members) c.args.voters.now in
     (omega (arith, returns-clause-counted g c, positions, all), omega (arith, counted g c, voters))

@@ -1,5 +1,5 @@
 //! Sets as committees: the indices of members, and the numbers of the fault models.
-use crate::ordered::{Quorum, Set};
+use crate::ordered::{Quorum, Set, count_members};
 use crate::{N3f1, N5f1, Participant};
 use std::alloc::Global;
 
@@ -57,4 +57,26 @@ fn a_set_has_the_numbers_of_its_length(rt: HostRuntime) {
         let committee = Set::from_iter_dedup(rt.alloc(), 0..=*last).expect(&rt, "memory");
         assert!(rt; has_numbers(&committee, *thirds, *fifths));
     }
+}
+
+/// How many members a committee has, and how many of them are among the voters 0, 2, 3, 7 and 300.
+static COUNTS: [(usize, usize); 8] = [
+    (0, 0),
+    (1, 1),
+    (2, 1),
+    (4, 3),
+    (7, 3),
+    (8, 4),
+    (300, 4),
+    (301, 5),
+];
+
+#[test]
+fn members_among_voters_are_counted(rt: HostRuntime) {
+    let indices = [300u32, 7, 0, 3, 2].map(Participant::new);
+    let voters = Set::from_iter_dedup(rt.alloc(), indices).expect(&rt, "memory");
+    for (members, count) in &COUNTS {
+        assert!(rt; count_members(*members, &voters) == *count);
+    }
+    assert!(rt; count_members(4, &Set::empty(rt.alloc())) == 0);
 }

@@ -26,10 +26,10 @@ fn odds(rt: &impl Abort, alloc: Global) -> Set<u8, Global> {
 fn equal_items_are_found(rt: HostRuntime) {
     let set = odds(&rt, rt.alloc());
     for (item, place) in &PLACES {
-        assert!(rt; set.position(item) == *place);
+        assert!(rt; set.position(item) == *place && set.contains(item) == place.is_some());
     }
     let none: Set<u8, Global> = Set::empty(rt.alloc());
-    assert!(rt; none.position(&0) == None);
+    assert!(rt; none.position(&0) == None && !none.contains(&0));
 }
 
 /// Whether the set is {1, 3, 5, 9} by its ranges and its positions.
