@@ -1,4 +1,5 @@
-//! Accountability over time: one more member that equivocated, beside those that are known to.
+//! Accountability over time: one more member that signed both of two values, beside those that are
+//! known to be faulty.
 ghost use Rattle.std.specs.Prelude.{◌≡◌, ◌≢◌, ◌+◌, ◌*◌, ◌<◌, ◌≤◌, ◌⊎◌, ◌↔◌, ℕ, List, Contains, IfOk, IsErrOf, length, pos};
 ghost use Rattle.committee_certificates.specs.declared.conflicts.ConflictError.TheVariants.{Outside, TooFew};
 ghost use Rattle.committee_certificates.specs.Signers.{AreInBoth, AreMembers, AreTooFew, HasOutsider};
@@ -10,10 +11,10 @@ use commonware_utils::faults::{Faults, N3f1};
 use commonware_utils::ordered::Set;
 use std::alloc::Global;
 
-/// Returns a member that signed both of two certificates for different values (equivocation) and
-/// isn't among those that are known already to be faulty, under `N3f1`. It requires that the values
-/// differ, that the committee has 1 to `u32::MAX` members, and that three times the known ones and
-/// one more are at most as many.
+/// Returns a member that signed both of two certificates for different values and isn't among those
+/// that are known already to be faulty, under `N3f1`. It requires that the values differ, that the
+/// committee has 1 to `u32::MAX` members, and that three times the known ones and one more are at
+/// most as many.
 pub fn new_accused(
     alloc: Global,
     members: &Set<u32, Global>,
