@@ -1,5 +1,6 @@
-//! Builders and `conflict` at inputs that are longer than every buffer and every first room of the
-//! library, in an order that is neither increasing nor decreasing: with ample memory they succeed.
+//! Builders and `conflict` at each small number of items, and at inputs that are longer than every
+//! buffer and every first room of the library, in an order that is neither increasing nor
+//! decreasing: with ample memory they succeed.
 use crate::conflicts::conflict_of;
 use committee_certificates::Certificate;
 use commonware_utils::faults::N3f1;
@@ -11,58 +12,64 @@ use std::ops::Range;
 /// How many items there are: more than 65,536.
 pub(super) const COUNT: u32 = 70_000;
 
-/// The number at a position: 27,449 has no divisor in common with 70,000, so each number below
-/// 70,000 is at one position.
-fn number(position: u32) -> u32 {
-    (u64::from(position) * 27_449 % u64::from(COUNT)) as u32
+/// The greatest of the numbers of entries that are tried one by one, from 0 on.
+pub(super) const EACH: u32 = 300;
+
+/// The number at a position of `count`: 27,449 is prime and no divisor of `count`, so each number
+/// below `count` is at one position.
+fn number(position: u32, count: u32) -> u32 {
+    (u64::from(position) * 27_449 % u64::from(count.max(1))) as u32
 }
 
-/// The numbers below 70,000 in a mixed order, each with its position.
-pub(super) fn pairs(alloc: Global) -> Result<Vec<(u32, u32)>, AllocError> {
+/// The numbers below `count` in a mixed order, each with its position.
+pub(super) fn pairs(alloc: Global, count: u32) -> Result<Vec<(u32, u32)>, AllocError> {
     let mut pairs = Vec::new(alloc);
-    for position in 0..COUNT {
-        pairs.push((number(position), position))?;
+    for position in 0..count {
+        pairs.push((number(position, count), position))?;
     }
     Ok(pairs)
 }
 
-/// Whether these are the numbers below 70,000, in order.
-pub(super) fn are_all(keys: &[u32]) -> bool {
-    keys.iter().copied().eq(0..COUNT)
+/// Whether these are the numbers below `count`, in order.
+pub(super) fn are_all(keys: &[u32], count: u32) -> bool {
+    keys.iter().copied().eq(0..count)
 }
 
-/// Whether the number of each key is at the position that is its value.
-pub(super) fn are_at(keys: &[u32], values: &[u32]) -> bool {
+/// Whether these are the numbers below `count`, and each is at the position that is its value.
+pub(super) fn are_at(keys: &[u32], values: &[u32], count: u32) -> bool {
     for (key, position) in keys.iter().zip(values) {
-        if number(*position) != *key {
+        if number(*position, count) != *key {
             return false;
         }
     }
-    keys.len() == values.len()
+    are_all(keys, count) && keys.len() == values.len()
 }
 
-fn is_whole_set(alloc: Global, pairs: &[(u32, u32)]) -> Result<bool, Error> {
+fn is_whole_set(alloc: Global, pairs: &[(u32, u32)], count: u32) -> Result<bool, Error> {
     let set = Set::try_from_iter(alloc, pairs.iter().map(|pair| pair.0))?;
     let kept = Set::from_iter_dedup(alloc, pairs.iter().chain(pairs).map(|pair| pair.0))?;
-    Ok(are_all(set.as_slice()) && are_all(kept.as_slice()))
+    Ok(are_all(set.as_slice(), count) && are_all(kept.as_slice(), count))
 }
 
-fn is_whole_map(alloc: Global, pairs: &[(u32, u32)]) -> Result<bool, Error> {
+fn is_whole_map(alloc: Global, pairs: &[(u32, u32)], count: u32) -> Result<bool, Error> {
     let map = Map::try_from_iter(alloc, pairs.iter().copied())?;
-    Ok(are_all(map.keys().as_slice()) && are_at(map.keys().as_slice(), map.values()))
+    Ok(are_at(map.keys().as_slice(), map.values(), count))
 }
 
-fn is_whole_bimap(alloc: Global, pairs: &[(u32, u32)]) -> Result<bool, Error> {
+fn is_whole_bimap(alloc: Global, pairs: &[(u32, u32)], count: u32) -> Result<bool, Error> {
     let bimap = BiMap::try_from_iter(alloc, pairs.iter().copied())?;
-    Ok(are_all(bimap.keys().as_slice()) && are_at(bimap.keys().as_slice(), bimap.values()))
+    Ok(are_at(bimap.keys().as_slice(), bimap.values(), count))
 }
 
 #[test]
-fn many_mixed_items_are_taken(rt: HostRuntime) {
-    let pairs = pairs(rt.alloc()).expect(&rt, "memory");
-    assert!(rt; is_whole_set(rt.alloc(), pairs.as_slice()) == Ok(true));
-    assert!(rt; is_whole_map(rt.alloc(), pairs.as_slice()) == Ok(true));
-    assert!(rt; is_whole_bimap(rt.alloc(), pairs.as_slice()) == Ok(true));
+fn mixed_items_are_taken(rt: HostRuntime) {
+    let alloc = rt.alloc();
+    for count in (0..=EACH).chain([5_000, COUNT]) {
+        let pairs = pairs(alloc, count).expect(&rt, "memory");
+        assert!(rt; is_whole_set(alloc, &pairs, count) == Ok(true), "{count}");
+        assert!(rt; is_whole_map(alloc, &pairs, count) == Ok(true), "{count}");
+        assert!(rt; is_whole_bimap(alloc, &pairs, count) == Ok(true), "{count}");
+    }
 }
 
 /// A certificate of a value of one byte that the members in a range of indices signed.

@@ -30,6 +30,10 @@ mod many_at_once;
 #[cfg(test)]
 mod memory_free_inputs;
 #[cfg(test)]
+mod own_model;
+#[cfg(test)]
+mod own_model_calls;
+#[cfg(test)]
 mod readings;
 #[cfg(test)]
 mod refused_bimaps;

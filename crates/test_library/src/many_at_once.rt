@@ -1,7 +1,7 @@
 //! Bytes, words of four bytes and members of a committee, of which many are written and read at
 //! once: more of them than any list has room for at first, with each allocation failing in turn,
-//! and inputs that end before the last of them.
-use crate::readings::{are_after_three, outcome, read_refused, read_whole};
+//! and inputs that end before the last of them. And some of them written after 0 to 100 bytes.
+use crate::readings::{are_after, full_sink, outcome, read_refused, read_whole};
 use crate::refused_codec::{ACTS, Act, Trial};
 use committee_core::Member;
 use commonware_utils::codec::{EncodeSize, Error, RangeCfg, Read, Source, Write};
@@ -133,7 +133,7 @@ impl<'r> Refusable for AtOnce<'r> {
 
 /// The items written at once after three bytes, which a refusal leaves as they were.
 fn written<H: Heap, T: Write<H>>(heap: H, granted: u64, row: &Row<T>) -> Outcome {
-    match vec![in heap; 0xaau8, 0xbb, 0xcc] {
+    match full_sink(heap, 3) {
         Ok(mut sink) => written_after(heap, granted, row, &mut sink),
         Err(_) => Outcome::Wrong,
     }
@@ -151,8 +151,8 @@ fn written_after<H: Heap, T: Write<H>>(
     }
     heap.restart(granted);
     match T::write_at_once(row.items.as_slice(), sink) {
-        Some(Ok(())) => full(are_after_three(sink, &row.bytes)),
-        Some(Err(_)) => refused(are_after_three(sink, b"")),
+        Some(Ok(())) => full(are_after(sink, 3, &row.bytes)),
+        Some(Err(_)) => refused(are_after(sink, 3, b"")),
         None => Outcome::Wrong,
     }
 }
@@ -186,6 +186,53 @@ fn many_take_one_request(rt: HostRuntime) {
             };
             assert!(rt; requests(rt.alloc(), &call) == Some(1));
         }
+    }
+}
+
+/// Whether the items are written at once as these bytes, into a sink of `held` bytes.
+fn are_appended<T: Write<Global>>(
+    alloc: Global,
+    items: &Vec<T>,
+    bytes: &[u8],
+    held: usize,
+) -> Result<bool, AllocError> {
+    let mut sink = full_sink(alloc, held)?;
+    if !items.is_writable() {
+        return Ok(false);
+    }
+    match T::write_at_once(items.as_slice(), &mut sink) {
+        Some(written) => written.map(|()| are_after(&sink, held, bytes)),
+        None => Ok(false),
+    }
+}
+
+/// Whether the first items of a row are written at once, `count` of `size` bytes each, into a sink
+/// of 0 to 100 bytes.
+fn are_appended_to_each<T: Write<Global> + Copy + Drop>(
+    alloc: Global,
+    row: &Row<T>,
+    count: usize,
+    size: usize,
+) -> Result<bool, AllocError> {
+    let items = Vec::from_slice(alloc, &row.items[..count.min(row.items.len())])?;
+    let bytes = &row.bytes[..count.saturating_mul(size).min(row.bytes.len())];
+    for held in 0..=100 {
+        if !are_appended(alloc, &items, bytes, held)? {
+            return Ok(false);
+        }
+    }
+    Ok(true)
+}
+
+#[test]
+fn many_are_written_after_others(rt: HostRuntime) {
+    let alloc = rt.alloc();
+    let rows = many_of_each(&rt, alloc);
+    for count in [0, 1, 2, 3, 31, 32, 33, 256, 300, MANY as usize] {
+        let bytes = are_appended_to_each(alloc, &rows.bytes, count, 1);
+        let words = are_appended_to_each(alloc, &rows.words, count, 4);
+        let members = are_appended_to_each(alloc, &rows.members, count, 32);
+        assert!(rt; [bytes, words, members] == [Ok(true); 3], "{count}");
     }
 }
 

@@ -1,6 +1,6 @@
 //! What is said of an input that is decoded, and of bytes that are written.
 use commonware_utils::codec::{Error, Read, Source};
-use std::alloc::Allocator;
+use std::alloc::{AllocError, Allocator};
 use test_equipment::walk::{Outcome, full, refused};
 
 /// What is said of a reading: the error, if there is one, and how many bytes were read.
@@ -24,7 +24,15 @@ pub(super) fn read_refused(error: Error, src: &Source<'_>) -> Outcome {
     refused(error == Error::Memory && src.position() == 0)
 }
 
-/// Whether a sink holds `aa`, `bb`, `cc` and then these bytes.
-pub(super) fn are_after_three(sink: &[u8], bytes: &[u8]) -> bool {
-    sink.strip_prefix(b"\xaa\xbb\xcc") == Some(bytes)
+/// A sink of `held` bytes, with no room for more.
+pub(super) fn full_sink<A: Allocator>(alloc: A, held: usize) -> Result<Vec<u8, A>, AllocError> {
+    vec![in alloc; 0xaa; held]
+}
+
+/// Whether a sink holds the bytes that it held before, and then these.
+pub(super) fn are_after(sink: &[u8], held: usize, bytes: &[u8]) -> bool {
+    match sink.split_at_checked(held) {
+        Some((before, added)) => before.iter().all(|byte| *byte == 0xaa) && added == bytes,
+        None => false,
+    }
 }

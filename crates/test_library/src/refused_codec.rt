@@ -1,8 +1,8 @@
 //! Values of each encoding written, read, cloned and written to be read again, with each allocation
-//! failing in turn: what was borrowed is as it was.
+//! failing in turn: what was borrowed is as it was. And each written after 0 to 100 bytes.
 ghost use Rattle.std.specs.Prelude.{IfOk};
 
-use crate::readings::{are_after_three, read_refused, read_whole};
+use crate::readings::{are_after, full_sink, read_refused, read_whole};
 use committee_certificates::Certificate;
 use commonware_utils::Participant;
 use commonware_utils::codec::{
@@ -48,11 +48,19 @@ enum Form {
     NonEmptyNest,
     /// A value of one byte and three signers.
     Certificate,
+    EmptyList,
+    EmptySet,
+    EmptyMap,
+    EmptyBiMap,
+    /// No value, and no signers.
+    EmptyCertificate,
+    /// No value, and three signers.
+    SignedNothing,
 }
 
 /// Each form, and at least how many allocations it takes to write it, to read it, to clone it, and
 /// to write it and read it again. Where that is 0, it takes none.
-static FORMS: [(Form, [u64; 4]); 13] = [
+static FORMS: [(Form, [u64; 4]); 19] = [
     (Form::Byte, [1, 0, 0, 1]),
     (Form::Word, [1, 0, 0, 1]),
     (Form::Varint, [1, 0, 0, 1]),
@@ -66,6 +74,12 @@ static FORMS: [(Form, [u64; 4]); 13] = [
     (Form::NonEmpty, [1, 1, 1, 2]),
     (Form::NonEmptyNest, [1, 3, 3, 4]),
     (Form::Certificate, [1, 2, 2, 3]),
+    (Form::EmptyList, [1, 0, 0, 1]),
+    (Form::EmptySet, [1, 0, 0, 1]),
+    (Form::EmptyMap, [1, 0, 0, 1]),
+    (Form::EmptyBiMap, [1, 0, 0, 1]),
+    (Form::EmptyCertificate, [1, 0, 0, 1]),
+    (Form::SignedNothing, [1, 1, 1, 2]),
 ];
 
 pub(super) static ACTS: [Act; 4] = [Act::Write, Act::Read, Act::Clone, Act::RoundTrip];
@@ -119,6 +133,14 @@ impl Form {
             Form::Certificate => {
                 trial.on::<Certificate<_>>(b"\x01\xaa\x03\x00\x01\x02", &(any, any))
             }
+            Form::EmptyList => trial.on::<Vec<u32, _>>(b"\x00", &(any, ())),
+            Form::EmptySet => trial.on::<Set<u32, _>>(b"\x00", &(any, ())),
+            Form::EmptyMap => trial.on::<Map<u8, u32, _>>(b"\x00\x00", &(any, (), ())),
+            Form::EmptyBiMap => trial.on::<BiMap<u8, u32, _>>(b"\x00\x00", &(any, (), ())),
+            Form::EmptyCertificate => trial.on::<Certificate<_>>(b"\x00\x00", &(any, any)),
+            Form::SignedNothing => {
+                trial.on::<Certificate<_>>(b"\x00\x03\x00\x01\x02", &(any, any))
+            }
         }
     }
 }
@@ -129,6 +151,8 @@ pub(super) struct Trial<H: Heap> {
     act: Act,
     heap: H,
     granted: u64,
+    /// How many bytes a sink holds before a value is written.
+    held: usize,
 }
 
 /// The value that the bytes begin with.
@@ -142,7 +166,22 @@ fn read<T: Read<A>, A: Allocator>(alloc: A, bytes: &[u8], cfg: &T::Cfg) -> Resul
 impl<H: Heap> Trial<H> {
     /// The act, with the allocation after `granted` granted ones failing.
     pub(super) fn new(act: Act, heap: H, granted: u64) -> Self {
-        Trial { act, heap, granted }
+        Trial {
+            act,
+            heap,
+            granted,
+            held: 3,
+        }
+    }
+
+    /// The value written into a sink of `held` bytes, with ample memory.
+    fn after(heap: H, held: usize) -> Self {
+        Trial {
+            act: Act::Write,
+            heap,
+            granted: u64::MAX,
+            held,
+        }
     }
 
     /// What the act returns on the value that the bytes encode. The value has to stay as it is.
@@ -172,22 +211,27 @@ impl<H: Heap> Trial<H> {
 
     /// The value written into a sink, which a refusal leaves as it was. Its size allocates nothing.
     fn write<T: Write<H>>(&self, value: &T, bytes: &[u8]) -> Outcome {
-        match vec![in self.heap; 0xaau8, 0xbb, 0xcc] {
+        match full_sink(self.heap, self.held) {
             Ok(mut sink) => self.write_after(value, &mut sink, bytes),
             Err(_) => Outcome::Wrong,
         }
     }
 
-    /// The value written into this sink, of three bytes.
+    /// The value written into this sink.
     fn write_after<T: Write<H>>(&self, value: &T, sink: &mut Vec<u8, H>, bytes: &[u8]) -> Outcome {
         if !value.is_writable() {
             return Outcome::Wrong;
         }
         self.heap.restart(self.granted);
         match value.write(sink) {
-            Ok(()) => full(are_after_three(sink, bytes) && value.encode_size() == bytes.len()),
-            Err(_) => refused(are_after_three(sink, b"")),
+            Ok(()) => full(self.has_added(sink, bytes) && value.encode_size() == bytes.len()),
+            Err(_) => refused(self.has_added(sink, b"")),
         }
+    }
+
+    /// Whether these bytes are in the sink after those that it held.
+    fn has_added(&self, sink: &[u8], bytes: &[u8]) -> bool {
+        are_after(sink, self.held, bytes)
     }
 
     /// The value read from a source, which a refusal leaves as it was.
@@ -290,6 +334,18 @@ fn each_request_is_refused_in_turn(rt: HostRuntime) {
         assert!(rt; acts_ask_for(rt.alloc(), *form, least), "{at}");
     }
     assert!(rt; makes_requests(rt.alloc(), &ListRead, 3));
+}
+
+/// Each value is written whatever the sink holds.
+#[test]
+fn values_are_written_after_others(rt: HostRuntime) {
+    let heap = Refusing::after(rt.alloc(), u64::MAX);
+    for (at, (form, _)) in FORMS.iter().enumerate() {
+        for held in 0..=100 {
+            let written = form.tried(&Trial::after(&heap, held));
+            assert!(rt; written == Outcome::Full, "{at} {held}");
+        }
+    }
 }
 
 /// A sink of `length` bytes.

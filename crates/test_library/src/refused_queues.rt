@@ -40,18 +40,20 @@ fn pushed<H: Heap>(heap: H, queue: &mut Bounded<u8, H>) -> Outcome {
     }
 }
 
-/// A clone of 2, 3, 4 in a queue for three.
-struct Clones;
+/// A clone of a queue for three, of the last of as many items pushed, which count from 1.
+#[derive(Drop)]
+struct Clones(u8);
 
 impl Refusable for Clones {
     fn outcome<H: Heap>(&self, heap: H, granted: u64) -> Outcome {
         let mut queue = Bounded::new(heap, NZUsize!(3));
-        for item in 1u8..=4 {
+        for item in 1..=self.0 {
             let _ = queue.push(item);
         }
         heap.restart(granted);
         let clone: Result<_, _> = queue.clone();
-        let unchanged = queue.iter().eq([2, 3, 4].iter());
+        let last = self.0.saturating_sub(3)..self.0;
+        let unchanged = queue.iter().copied().eq(last.map(|item| item + 1));
         match clone {
             Ok(clone) => full(unchanged && clone == queue),
             Err(_) => refused(unchanged),
@@ -61,7 +63,7 @@ impl Refusable for Clones {
 
 #[test]
 fn each_request_is_refused_in_turn(rt: HostRuntime) {
-    assert!(rt; makes_requests(rt.alloc(), &Pushes, 1) && makes_requests(rt.alloc(), &Clones, 1));
+    assert!(rt; makes_requests(rt.alloc(), &Pushes, 1));
 }
 
 /// Whether a full queue of 1, 2, 3 takes 4 and 5 for the first two, and gives the third.
@@ -83,6 +85,15 @@ fn a_full_queue_takes_no_memory(rt: HostRuntime) {
     assert!(rt; takes_two(&mut queue));
     let items: VecDeque<u8, _> = queue.into();
     assert!(rt; items.iter().eq([4, 5].iter()) && !heap.has_refused());
+}
+
+/// A queue is cloned whatever it holds, and without memory where it is empty.
+#[test]
+fn queues_are_cloned(rt: HostRuntime) {
+    assert!(rt; makes_requests(rt.alloc(), &Clones(0), 0));
+    for pushed in 1..=100 {
+        assert!(rt; makes_requests(rt.alloc(), &Clones(pushed), 1), "{pushed}");
+    }
 }
 
 #[test]

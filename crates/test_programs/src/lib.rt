@@ -23,6 +23,8 @@ mod judge;
 #[cfg(test)]
 mod judge_memory;
 #[cfg(test)]
+mod long_conflicts;
+#[cfg(test)]
 mod long_inputs;
 #[cfg(test)]
 mod output;
