@@ -122,8 +122,8 @@ class Arm:
         kind, _, rest = label.partition("-")
         if kind != self.kind:
             return False
-        words = [it for it in re.split(r"[-+]", rest) if it not in self.names]
-        return all(re.fullmatch(r"(lt|le|gt|ge|eq|ne)?(\d+|[A-Z_]+)?|not|own|up|empty", it) for it in words)
+        words = [re.sub(r"^(lt|le|gt|ge|eq|ne)(?=[A-Z\d])", "", it) for it in re.split(r"[-+]", rest) if it not in self.names]
+        return all(it in self.names or it in ("", "not", "lt", "le", "gt", "ge", "eq", "ne", "to", "up") for it in words)
 
 
 class Change:
@@ -321,9 +321,7 @@ class Change:
             self.open.append(self.number)
             pattern = [*flat(items[at:arrow])]
             state = self.sequence(items[at : arrow + 1], state)
-            names = {it.text for it in pattern} | {f"len{sum(it.text == ',' for it in pattern)}"}
-            is_rest = texts(pattern) == ["_"]
-            arm = Arm(node, number, "in_default" if is_rest else "in", names)
+            arm = Arm(node, number, "in_default" if texts(pattern) == ["_"] else "in", pattern_names(texts(pattern)))
             if arrow + 1 < len(items) and items[arrow + 1].text == "{":
                 after = max(after, self.within(items[arrow + 1], state, arm))
                 at = arrow + 2
@@ -453,6 +451,13 @@ def changeable(text):
             if outer[named].text == "&" and outer[named - 1].text == ":":
                 inner.add(outer[named - 2].text)
     return inner
+
+
+def pattern_names(words):
+    """Returns the words by which the names of goals call a pattern: a byte or a character by its number, a slice by its length."""
+    numbers = {str(ord(it[-2])) for it in words if re.fullmatch(r"b?'[^\\]'", it)}
+    length = "empty" if words == ["[", "]"] else f"len{words.count(',') + (words[-2:-1] != ['..'])}"
+    return {*words, *numbers, length}
 
 
 def flat(items):
