@@ -454,7 +454,7 @@ def changeable(text):
 
 
 def pattern_names(words):
-    """Returns the words by which the names of goals call a pattern: a byte or a character by its number, a slice by its length."""
+    """Returns the words by which goals' names call a pattern: a byte or a character by its number, a slice by its length."""
     numbers = {str(ord(it[-2])) for it in words if re.fullmatch(r"b?'[^\\]'", it)}
     length = "empty" if words == ["[", "]"] else f"len{words.count(',') + (words[-2:-1] != ['..'])}"
     return {*words, *numbers, length}
