@@ -321,7 +321,8 @@ class Change:
             self.open.append(self.number)
             pattern = [*flat(items[at:arrow])]
             state = self.sequence(items[at : arrow + 1], state)
-            arm = Arm(node, number, "in_default" if texts(pattern) == ["_"] else "in", pattern_names(texts(pattern)))
+            is_rest = re.fullmatch(r"(?!true$|false$)[a-z_]\w*", " ".join(texts(pattern)))
+            arm = Arm(node, number, "in_default" if is_rest else "in", pattern_names(texts(pattern)))
             if arrow + 1 < len(items) and items[arrow + 1].text == "{":
                 after = max(after, self.within(items[arrow + 1], state, arm))
                 at = arrow + 2
