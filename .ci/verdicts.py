@@ -27,7 +27,7 @@ FALSE = "allow values at which this goal is false"
 
 
 class Verdict(typing.NamedTuple):
-    """Whether a mutation is refused as it has to be, why, by which goal, and by which goals' answers alone, if that is so."""
+    """Whether a mutation is refused as it has to be, why, by which goal, and without which goals' answers more may be known."""
 
     is_refused: bool
     why: str
@@ -114,7 +114,10 @@ class Said:
         reached = lambda it: not change or not it.goal or change.reaches(it.goal, it.place, it.is_inner)
         ranked = sorted(((it.rank(reached(it)), it) for it in self.refused[function]), key=lambda it: it[0])
         (is_beside, is_shape, *_), refusal = ranked[0]
-        counted = [it for (beside, shape, *_), it in ranked if not beside and (is_shape or not shape)]
-        by_answers = frozenset(it.goal for it in counted if it.goal) if not any(it.is_tried for it in counted) else frozenset()
+        # With an answer that doesn't fit, the prover may leave a function's other goals untried.
+        is_refused = not (is_beside or is_shape)
+        counted = [it for (beside, shape, *_), it in ranked if not (is_refused and (beside or shape))]
+        untried = frozenset(it.goal for it in counted if it.goal and not it.is_tried)
+        by_answers = frozenset() if is_refused and any(it.is_tried for it in counted) else untried
         why = (SHAPE if is_shape else BESIDE if is_beside else "") + refusal.says()
-        return Verdict(not (is_beside or is_shape), why, refusal.goal, by_answers)
+        return Verdict(is_refused, why, refusal.goal, by_answers)
