@@ -123,7 +123,8 @@ class Arm:
         if kind != self.kind:
             return False
         words = [re.sub(r"^(lt|le|gt|ge|eq|ne)(?=[A-Z\d])", "", it) for it in re.split(r"[-+]", rest) if it not in self.names]
-        return all(it in self.names or it in ("", "not", "lt", "le", "gt", "ge", "eq", "ne", "to", "up") for it in words)
+        known = {"", "not", "lt", "le", "gt", "ge", "eq", "ne", "to", "up", *(["branch"] if "?" in self.names else [])}
+        return all(it in self.names or it in known for it in words)
 
 
 class Change:
@@ -363,7 +364,7 @@ class Change:
             return self.reaches_loop(loop[1], loop[2], token)
         if goal.startswith("returns") and not is_inner:
             label = re.sub(r"-\d+$", "", clause_free.removeprefix("returns").removeprefix("-"))
-            return self.reaches_exit(label, token)
+            return self.reaches_exit(label, token, place is not None)
         if token:
             return self.statement_state(token) == TOUCHED
         words = set(re.split(r"[-_]", goal)) | set(goal.split("-"))
@@ -389,7 +390,7 @@ class Change:
         loops = loops or [it for it in self.loops if words <= it.names] or self.loops
         return any((it.before if kind == "init" else max(it.before, it.after)) == TOUCHED for it in loops)
 
-    def reaches_exit(self, label, token):
+    def reaches_exit(self, label, token, is_at_end):
         """Tells whether it reaches the goals at a return: that at a place, or else at the function's end."""
         if token:
             exits = [it for it in self.exits if it.token.at == token.at]
@@ -399,9 +400,9 @@ class Change:
             found = [it for it in self.exits if set(label.split("-")[1:]) <= it.names]
             if found:
                 return any(it.state == TOUCHED for it in found)
-        return self.reaches_end(label)
+        return self.reaches_end(label, is_at_end)
 
-    def reaches_end(self, label):
+    def reaches_end(self, label, is_at_end):
         """Tells whether it reaches the function's end, by the arms that the goal's name says."""
         inside = [it for it in self.arms if it.holds_change]
         for arm in inside:
@@ -412,6 +413,9 @@ class Change:
         end = max([self.tail, *(it.state for it in self.exits if it.token.text == "return" and not it.arms)])
         named = [it for it in self.arms if it.is_named(label)]
         left = [it.state for it in self.exits if it.arms and it.arms[-1] in named and it.arms[-1].after == DEAD]
+        if not named and not is_at_end:
+            # A test that isn't called by its words: an exit of any such arm.
+            left = [it.state for it in self.exits if it.arms and it.arms[-1].kind == label.partition("-")[0]] + [end]
         if left:
             return max(left) == TOUCHED
         if inside and not label and self.is_tail(inside[0]):
