@@ -122,8 +122,9 @@ class Arm:
         kind, _, rest = label.partition("-")
         if kind != self.kind:
             return False
-        words = [it for it in re.split(r"[-+]", rest) if it not in self.names]
-        return all(re.fullmatch(r"(lt|le|gt|ge|eq|ne)?(\d+|[A-Z_]+)?|not|own|up|empty", it) for it in words)
+        words = [re.sub(r"^(lt|le|gt|ge|eq|ne)(?=[A-Z\d])", "", it) for it in re.split(r"[-+]", rest) if it not in self.names]
+        known = {"", "not", "lt", "le", "gt", "ge", "eq", "ne", "to", "up", *(["branch"] if "?" in self.names else [])}
+        return all(it in self.names or it in known for it in words)
 
 
 class Change:
@@ -321,9 +322,8 @@ class Change:
             self.open.append(self.number)
             pattern = [*flat(items[at:arrow])]
             state = self.sequence(items[at : arrow + 1], state)
-            names = {it.text for it in pattern} | {f"len{sum(it.text == ',' for it in pattern)}"}
-            is_rest = texts(pattern) == ["_"]
-            arm = Arm(node, number, "in_default" if is_rest else "in", names)
+            is_rest = re.fullmatch(r"(?!true$|false$)[a-z_]\w*", " ".join(texts(pattern)))
+            arm = Arm(node, number, "in_default" if is_rest else "in", pattern_names(texts(pattern)))
             if arrow + 1 < len(items) and items[arrow + 1].text == "{":
                 after = max(after, self.within(items[arrow + 1], state, arm))
                 at = arrow + 2
@@ -364,7 +364,7 @@ class Change:
             return self.reaches_loop(loop[1], loop[2], token)
         if goal.startswith("returns") and not is_inner:
             label = re.sub(r"-\d+$", "", clause_free.removeprefix("returns").removeprefix("-"))
-            return self.reaches_exit(label, token)
+            return self.reaches_exit(label, token, place is not None)
         if token:
             return self.statement_state(token) == TOUCHED
         words = set(re.split(r"[-_]", goal)) | set(goal.split("-"))
@@ -390,7 +390,7 @@ class Change:
         loops = loops or [it for it in self.loops if words <= it.names] or self.loops
         return any((it.before if kind == "init" else max(it.before, it.after)) == TOUCHED for it in loops)
 
-    def reaches_exit(self, label, token):
+    def reaches_exit(self, label, token, is_at_end):
         """Tells whether it reaches the goals at a return: that at a place, or else at the function's end."""
         if token:
             exits = [it for it in self.exits if it.token.at == token.at]
@@ -400,9 +400,9 @@ class Change:
             found = [it for it in self.exits if set(label.split("-")[1:]) <= it.names]
             if found:
                 return any(it.state == TOUCHED for it in found)
-        return self.reaches_end(label)
+        return self.reaches_end(label, is_at_end)
 
-    def reaches_end(self, label):
+    def reaches_end(self, label, is_at_end):
         """Tells whether it reaches the function's end, by the arms that the goal's name says."""
         inside = [it for it in self.arms if it.holds_change]
         for arm in inside:
@@ -413,6 +413,9 @@ class Change:
         end = max([self.tail, *(it.state for it in self.exits if it.token.text == "return" and not it.arms)])
         named = [it for it in self.arms if it.is_named(label)]
         left = [it.state for it in self.exits if it.arms and it.arms[-1] in named and it.arms[-1].after == DEAD]
+        if not named and not is_at_end:
+            # A test that isn't called by its words: an exit of any such arm.
+            left = [it.state for it in self.exits if it.arms and it.arms[-1].kind == label.partition("-")[0]] + [end]
         if left:
             return max(left) == TOUCHED
         if inside and not label and self.is_tail(inside[0]):
@@ -453,6 +456,13 @@ def changeable(text):
             if outer[named].text == "&" and outer[named - 1].text == ":":
                 inner.add(outer[named - 2].text)
     return inner
+
+
+def pattern_names(words):
+    """Returns the words by which goals' names call a pattern: a byte or a character by its number, a slice by its length."""
+    numbers = {str(ord(it[-2])) for it in words if re.fullmatch(r"b?'[^\\]'", it)}
+    length = "empty" if words == ["[", "]"] else f"len{words.count(',') + (words[-2:-1] != ['..'])}"
+    return {*words, *numbers, length}
 
 
 def flat(items):

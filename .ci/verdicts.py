@@ -20,12 +20,14 @@ BESIDE = "only goals that the change does not reach are open: "
 # An error in the answers of a function that a round changes. The prover offers answers for goals that are left open, for which
 # it starts a second time, but not for a function whose answers have an error; its goals it judges all the same.
 UNASKED = "unasked"
+# How an error begins where an answer is a tactic, which fails as a search does.
+TACTIC = re.compile(r"`(search|grind|omega)`")
 # What the prover says of a goal that it has found to be false.
 FALSE = "allow values at which this goal is false"
 
 
 class Verdict(typing.NamedTuple):
-    """Whether a mutation is refused as it has to be, why, by which goal, and by which goals' answers alone, if that is so."""
+    """Whether a mutation is refused as it has to be, why, by which goal, and without which goals' answers more may be known."""
 
     is_refused: bool
     why: str
@@ -34,10 +36,14 @@ class Verdict(typing.NamedTuple):
 
 
 class Refusal:
-    """Why a function, or a file, is refused: by a goal, which has a place where the search left it open, or by an error."""
+    """Why a function, or a file, is refused: by a goal, which has a place where the search left it open, or by an error.
 
-    def __init__(self, goal, place, words, is_shape=False, is_inner=False):
-        self.goal, self.place, self.words, self.is_shape, self.is_inner = goal, place, words, is_shape, is_inner
+    A tactic has tried the goal, or else a term that is its answer doesn't fit."""
+
+    def __init__(self, goal, place, words, is_tried=True, is_shape=False):
+        self.goal, self.place, self.words, self.is_tried, self.is_shape = goal, place, words, is_tried, is_shape
+        # Whether it is in a closure.
+        self.is_inner = False
 
     def says(self):
         clause = re.match(r"returns\S*-clause-(\w+)", self.goal)
@@ -46,7 +52,7 @@ class Refusal:
         return f"{kind}: {self.words}"
 
     def rank(self, is_reached):
-        """Puts a clause before anything else, and last what counts for nothing: a proof's shape, and what is beside the change."""
+        """Puts a clause first, and last what counts for nothing: a proof's shape, and what is beside the change."""
         return [not is_reached, self.is_shape, not self.goal.startswith("returns"), not self.goal]
 
 
@@ -69,7 +75,7 @@ class Said:
                 goals = []
         for path, line, goal, words in (it for it in errors if it[2] != UNASKED):
             names = [it for it in self.words if path.startswith(f"proofs/{'/'.join(it.split('::')[1:])}/")]
-            found = Refusal(goal or "", None, f"{path}:{line}: {words}", bool(GONE.search(words)))
+            found = Refusal(goal or "", None, f"{path}:{line}: {words}", bool(TACTIC.match(words)), bool(GONE.search(words)))
             self.refused.setdefault(max(names, key=len, default=path), []).append(found)
         for name in [it for it in self.refused if "::fn::" in it]:
             self.pass_on(name)
@@ -108,7 +114,10 @@ class Said:
         reached = lambda it: not change or not it.goal or change.reaches(it.goal, it.place, it.is_inner)
         ranked = sorted(((it.rank(reached(it)), it) for it in self.refused[function]), key=lambda it: it[0])
         (is_beside, is_shape, *_), refusal = ranked[0]
-        counted = [it for (beside, shape, *_), it in ranked if not beside and (is_shape or not shape)]
-        by_answers = frozenset(it.goal for it in counted if it.goal) if not any(it.place for it in counted) else frozenset()
+        # With an answer that doesn't fit, the prover may leave a function's other goals untried.
+        is_refused = not (is_beside or is_shape)
+        counted = [it for (beside, shape, *_), it in ranked if not (is_refused and (beside or shape))]
+        untried = frozenset(it.goal for it in counted if it.goal and not it.is_tried)
+        by_answers = frozenset() if is_refused and any(it.is_tried for it in counted) else untried
         why = (SHAPE if is_shape else BESIDE if is_beside else "") + refusal.says()
-        return Verdict(not (is_beside or is_shape), why, refusal.goal, by_answers)
+        return Verdict(is_refused, why, refusal.goal, by_answers)
