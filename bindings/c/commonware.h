@@ -68,18 +68,21 @@ enum commonware_status {
     COMMONWARE_TOO_FEW = 10,       /* fewer signers than a quorum */
     COMMONWARE_ROOM = 11,          /* `out` is too short, and the view says what it takes */
     COMMONWARE_ABSENT = 12,        /* the key isn't among the members */
-    COMMONWARE_NO_MODEL = 13       /* k is below 2 */
+    COMMONWARE_NO_MODEL = 13,      /* k is below 2 */
+    COMMONWARE_NO_SLOT = 14,       /* the value is no decision for a slot */
+    COMMONWARE_OTHER_SLOT = 15     /* the values are for two different slots */
 };
 
 /* How many of n participants may be faulty at a resilience n >= kf + 1: the greatest f that fits. It is
  * the greatest for which any two quorums share (k - 2)f + 1 participants. 0 where n is 0 or k below 2. */
 uint32_t commonware_max_faults(uint32_t k, uint32_t n);
 
-/* How many of n participants make a quorum, n - f. 0 where n is 0 or k below 2. */
+/* How many of n participants make a quorum, n - f. 4294967295 where n is 0 or k below 2, so that no number
+ * of signers is taken for a quorum of nothing. */
 uint32_t commonware_quorum(uint32_t k, uint32_t n);
 
-/* The least size whose subsets share f + 1 participants with each quorum, 2f + 1. 0 where n is 0 or k
- * below 2. */
+/* The least size whose subsets share f + 1 participants with each quorum, 2f + 1. 4294967295 where n is 0
+ * or k below 2, for the same reason. */
 uint32_t commonware_smaller_quorum(uint32_t k, uint32_t n);
 
 /* A committee at the start of the input. */
@@ -154,11 +157,41 @@ commonware_written_view commonware_certificate_write(
     const uint8_t *value, size_t value_length, const uint32_t *signers, size_t signers_length,
     uint8_t *out, size_t out_length);
 
+/* Writes the value that a decision for a slot is to the start of `out`: the slot's length, the slot and
+ * the decision. A slot is what a protocol decides once, as bytes of its choice: a height and a view, say.
+ * Members sign this value, and a certificate of it is written by commonware_certificate_write. At OK and
+ * ROOM the view's `size` is told, `count` never. INVALID_LENGTH for the first of the slot, the decision and
+ * the value that is past 4294967295. */
+commonware_written_view commonware_value_write(
+    const uint8_t *slot, size_t slot_length, const uint8_t *decision, size_t decision_length,
+    uint8_t *out, size_t out_length);
+
+/* A certificate that a quorum signed. */
+typedef struct {
+    uint32_t status;        /* OK, or why it is none */
+    uint32_t signers;       /* at OK: how many members signed */
+    size_t number;          /* at INVALID_LENGTH: the stated length; at LEFT_OVER: how many bytes follow */
+    size_t value_start;     /* at OK: the offset of the value */
+    size_t value_length;    /* at OK: how many bytes it has */
+    size_t slot_start;      /* at OK: the offset of the slot, which is never 0; 0 where the value has none */
+    size_t slot_length;     /* at OK, with a slot: how many bytes it has */
+    size_t decision_start;  /* at OK, with a slot: the offset of the decision */
+    size_t decision_length; /* at OK, with a slot: how many bytes it has */
+} commonware_check_view;
+
+/* Whether the input is exactly one certificate whose signers are members of a committee of `members`, and
+ * at least a quorum at a resilience k: OK exactly then. Else the first of these: NO_MODEL, NO_MEMBERS, a
+ * fault of the input (END_OF_INPUT, INVALID_VARINT, NOT_STRICT, LEFT_OVER), OUTSIDE, TOO_FEW.
+ *
+ * Warning: no signature is looked at. Whoever doesn't verify them knows nothing of who signed. */
+commonware_check_view commonware_certificate_check(
+    uint32_t k, uint32_t members, const uint8_t *input, size_t input_length);
+
 /* The result for two certificates. */
 typedef struct {
     uint32_t status; /* each but INVALID_LENGTH, MEMORY and ABSENT */
     uint32_t which;  /* the input that the status is about, 1 or 2; 0 at OK, NO_MODEL, NO_MEMBERS,
-                      * SAME_VALUE and ROOM */
+                      * SAME_VALUE, OTHER_SLOT and ROOM */
     size_t number;   /* at LEFT_OVER: how many bytes follow the certificate */
     size_t count;    /* at OK and ROOM: how many members signed both */
 } commonware_conflict_view;
@@ -167,7 +200,7 @@ typedef struct {
  * a resilience k: their indices go to the start of `out`, in order. With f = commonware_max_faults(k,
  * members) they are at least (k - 2)f + 1, and where k is 3 or more, at least one of them is outside
  * every set of f members. Each input is exactly one certificate. To sign two values is a fault only where
- * both are for one slot (a height and a view, say): honest members sign many values, one a slot.
+ * both are for one slot, which commonware_equivocation asks: honest members sign many values, one a slot.
  *
  * Warning: no signature is looked at. Whoever doesn't verify them first may accuse an innocent member.
  *
@@ -176,6 +209,19 @@ typedef struct {
  * second, TOO_FEW of the first, of the second, ROOM. As many indices as there are members always
  * suffice. Never MEMORY. */
 commonware_conflict_view commonware_conflict(
+    uint32_t k, uint32_t members, const uint8_t *first, size_t first_length,
+    const uint8_t *second, size_t second_length, uint32_t *out, size_t out_length);
+
+/* The members that equivocated: those that signed both of two certificates for different decisions for
+ * one slot. All is as commonware_conflict has it, and no honest member is named where honest members sign
+ * at most one decision a slot.
+ *
+ * Warning: no signature is looked at. Whoever doesn't verify them first may accuse an innocent member.
+ *
+ * The status is the first of these: NO_MODEL, NO_MEMBERS, a fault of the first input, one of the second,
+ * NO_SLOT of the first value, of the second, OTHER_SLOT, SAME_VALUE for one decision, OUTSIDE of the first,
+ * of the second, TOO_FEW of the first, of the second, ROOM. Never MEMORY. */
+commonware_conflict_view commonware_equivocation(
     uint32_t k, uint32_t members, const uint8_t *first, size_t first_length,
     const uint8_t *second, size_t second_length, uint32_t *out, size_t out_length);
 

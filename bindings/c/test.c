@@ -78,13 +78,13 @@ static void test_numbers(void) {
     CHECK(commonware_max_faults(UINT32_MAX, UINT32_MAX) == 0);
     for (uint32_t k = 0; k < 4; k++) {
         CHECK(commonware_max_faults(k, 0) == 0);
-        CHECK(commonware_quorum(k, 0) == 0);
-        CHECK(commonware_smaller_quorum(k, 0) == 0);
+        CHECK(commonware_quorum(k, 0) == UINT32_MAX);
+        CHECK(commonware_smaller_quorum(k, 0) == UINT32_MAX);
     }
     for (uint32_t k = 0; k < 2; k++) {
         CHECK(commonware_max_faults(k, 9) == 0);
-        CHECK(commonware_quorum(k, 9) == 0);
-        CHECK(commonware_smaller_quorum(k, 9) == 0);
+        CHECK(commonware_quorum(k, 9) == UINT32_MAX);
+        CHECK(commonware_smaller_quorum(k, 9) == UINT32_MAX);
     }
 }
 
@@ -224,6 +224,50 @@ static void test_conflict(void) {
     view = commonware_conflict(3, 4, NULL, 0, NULL, 0, NULL, 0);
     CHECK(view.status == COMMONWARE_END_OF_INPUT && view.which == 1);
     CHECK(out[0] == 1 && out[1] == 2 && out[2] == 9);
+}
+
+static void test_slots(void) {
+    const uint8_t slot[] = {7, 1}, a[] = {0xaa}, value[] = {2, 7, 1, 0xaa};
+    uint8_t bytes[8] = {0xee, 0xee, 0xee, 0xee, 0xee};
+    commonware_written_view written = commonware_value_write(OF(slot), OF(a), bytes, 3);
+    CHECK(written.status == COMMONWARE_ROOM && written.size == 4 && bytes[0] == 0xee);
+    written = commonware_value_write(OF(slot), OF(a), OF(bytes));
+    CHECK(written.status == COMMONWARE_OK && written.size == 4 && written.count == 0);
+    CHECK(memcmp(bytes, value, 4) == 0 && bytes[4] == 0xee);
+    CHECK(commonware_value_write(NULL, 0, NULL, 0, bytes, 1).size == 1 && bytes[0] == 0);
+
+    /* Slot 7 1, decisions aa and bb; slot 7 2, decision bb; and no slot. */
+    const uint8_t one[] = {4, 2, 7, 1, 0xaa, 3, 0, 1, 2}, two[] = {4, 2, 7, 1, 0xbb, 3, 1, 2, 3};
+    const uint8_t later[] = {4, 2, 7, 2, 0xbb, 3, 0, 1, 2}, none[] = {2, 2, 7, 3, 0, 1, 2};
+    commonware_check_view seen = commonware_certificate_check(3, 4, OF(one));
+    CHECK(seen.status == COMMONWARE_OK && seen.signers == 3 && seen.number == 0);
+    CHECK(seen.value_start == 1 && seen.value_length == 4);
+    CHECK(seen.slot_start == 2 && seen.slot_length == 2);
+    CHECK(seen.decision_start == 4 && seen.decision_length == 1);
+    seen = commonware_certificate_check(3, 4, OF(none));
+    CHECK(seen.status == COMMONWARE_OK && seen.slot_start == 0 && seen.decision_start == 0);
+    seen = commonware_certificate_check(5, 4, OF(one));
+    CHECK(seen.status == COMMONWARE_TOO_FEW && seen.signers == 0 && seen.value_start == 0);
+    CHECK(commonware_certificate_check(3, 2, OF(one)).status == COMMONWARE_OUTSIDE);
+    CHECK(commonware_certificate_check(1, 0, OF(one)).status == COMMONWARE_NO_MODEL);
+    CHECK(commonware_certificate_check(2, 0, NULL, 0).status == COMMONWARE_NO_MEMBERS);
+    CHECK(commonware_certificate_check(2, 1, NULL, 0).status == COMMONWARE_END_OF_INPUT);
+
+    uint32_t out[4] = {9, 9, 9, 9};
+    commonware_conflict_view view = commonware_equivocation(3, 4, OF(one), OF(two), OF(out));
+    CHECK(view.status == COMMONWARE_OK && view.count == 2 && out[0] == 1 && out[1] == 2 && out[2] == 9);
+    view = commonware_equivocation(3, 4, OF(one), OF(two), out, 1);
+    CHECK(view.status == COMMONWARE_ROOM && view.count == 2 && view.which == 0);
+    view = commonware_equivocation(3, 4, OF(one), OF(later), OF(out));
+    CHECK(view.status == COMMONWARE_OTHER_SLOT && view.count == 0 && view.which == 0);
+    view = commonware_equivocation(3, 4, OF(one), OF(one), OF(out));
+    CHECK(view.status == COMMONWARE_SAME_VALUE && view.which == 0);
+    view = commonware_equivocation(3, 4, OF(none), OF(none), OF(out));
+    CHECK(view.status == COMMONWARE_NO_SLOT && view.which == 1);
+    view = commonware_equivocation(3, 4, OF(one), OF(none), OF(out));
+    CHECK(view.status == COMMONWARE_NO_SLOT && view.which == 2);
+    view = commonware_equivocation(3, 3, OF(one), OF(two), OF(out));
+    CHECK(view.status == COMMONWARE_OUTSIDE && view.which == 2 && out[0] == 1);
 }
 
 /* Every input up to some length ends before a page that can't be read, and each room before one that
@@ -378,6 +422,7 @@ int main(void) {
     test_index();
     test_certificate();
     test_conflict();
+    test_slots();
     test_pages();
     test_long();
     test_sizes();

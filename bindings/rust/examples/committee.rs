@@ -1,7 +1,7 @@
 //! Prints the members of a committee, how many make a quorum, and which members signed two different
 //! values.
 
-use commonware_proved::{Certificate, Committee, FaultModel, conflict};
+use commonware_proved::{Certificate, Committee, FaultModel, equivocation, slot_value};
 use std::error::Error;
 
 fn main() -> Result<(), Box<dyn Error>> {
@@ -16,8 +16,8 @@ fn main() -> Result<(), Box<dyn Error>> {
     let quorum = committee.quorum(model).ok_or("no members")?;
     println!("of {members} members {faults} may be faulty, and {quorum} are a quorum");
 
-    let first = Certificate::encode(b"view 7: A", &[0, 1, 2])?;
-    let second = Certificate::encode(b"view 7: B", &[1, 2, 3])?;
-    println!("{:?} signed both", conflict(model, 4, &first, &second)?);
+    let first = Certificate::encode(&slot_value(b"view 7", b"A")?, &[0, 1, 2])?;
+    let second = Certificate::encode(&slot_value(b"view 7", b"B")?, &[1, 2, 3])?;
+    println!("{:?} signed both", equivocation(model, 4, &first, &second)?);
     Ok(())
 }

@@ -7,22 +7,25 @@
 //! an error, which says nothing of the input.
 //!
 //! ```
-//! use commonware_proved::{Certificate, Committee, FaultModel, conflict};
+//! use commonware_proved::{Certificate, Committee, FaultModel, check, equivocation, slot_value};
 //!
 //! let bytes = Committee::encode(&[[7; 32], [1; 32], [3; 32], [5; 32]])?;
 //! let committee = Committee::try_from(&bytes[..])?;
 //! assert_eq!(committee.index_of(&[7; 32]), Some(3));
 //! assert_eq!(committee.quorum(FaultModel::N3F1), Some(3));
 //!
-//! let first = Certificate::encode(b"view 7: A", &[0, 1, 2])?;
-//! let second = Certificate::encode(b"view 7: B", &[1, 2, 3])?;
-//! assert_eq!(conflict(FaultModel::N3F1, 4, &first, &second)?, [1, 2]);
+//! let first = Certificate::encode(&slot_value(b"view 7", b"A")?, &[0, 1, 2])?;
+//! let second = Certificate::encode(&slot_value(b"view 7", b"B")?, &[1, 2, 3])?;
+//! assert_eq!(check(FaultModel::N3F1, 4, &first)?.decision(), Some(&b"A"[..]));
+//! assert_eq!(equivocation(FaultModel::N3F1, 4, &first, &second)?, [1, 2]);
 //! # Ok::<(), Box<dyn std::error::Error>>(())
 //! ```
 
 mod certificate;
+mod check;
 mod committee;
 mod conflict;
+mod equivocation;
 mod error;
 mod faults;
 mod raw;
@@ -30,7 +33,9 @@ mod room;
 mod status;
 
 pub use certificate::Certificate;
+pub use check::{CheckError, Checked, check};
 pub use committee::{Committee, MEMBER_SIZE, Member};
 pub use conflict::{ConflictError, conflict};
+pub use equivocation::{EquivocationError, equivocation, slot_value};
 pub use error::{EncodeError, Refusal};
 pub use faults::FaultModel;

@@ -49,6 +49,20 @@ pub struct ConflictView {
     pub count: usize,
 }
 
+#[repr(C)]
+#[derive(Clone, Copy)]
+pub struct CheckView {
+    pub status: u32,
+    pub signers: u32,
+    pub number: usize,
+    pub value_start: usize,
+    pub value_length: usize,
+    pub slot_start: usize,
+    pub slot_length: usize,
+    pub decision_start: usize,
+    pub decision_length: usize,
+}
+
 unsafe extern "C" {
     // These take numbers only, and return a number for each.
     pub safe fn commonware_max_faults(k: u32, n: u32) -> u32;
@@ -89,6 +103,30 @@ unsafe extern "C" {
         out: *mut u8,
         out_length: usize,
     ) -> WrittenView;
+    pub fn commonware_value_write(
+        slot: *const u8,
+        slot_length: usize,
+        decision: *const u8,
+        decision_length: usize,
+        out: *mut u8,
+        out_length: usize,
+    ) -> WrittenView;
+    pub fn commonware_certificate_check(
+        k: u32,
+        members: u32,
+        input: *const u8,
+        input_length: usize,
+    ) -> CheckView;
+    pub fn commonware_equivocation(
+        k: u32,
+        members: u32,
+        first: *const u8,
+        first_length: usize,
+        second: *const u8,
+        second_length: usize,
+        out: *mut u32,
+        out_length: usize,
+    ) -> ConflictView;
     pub fn commonware_conflict(
         k: u32,
         members: u32,

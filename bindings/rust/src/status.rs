@@ -11,3 +11,5 @@ pub const NO_MEMBERS: u32 = 7;
 pub const SAME_VALUE: u32 = 8;
 pub const OUTSIDE: u32 = 9;
 pub const TOO_FEW: u32 = 10;
+pub const NO_SLOT: u32 = 14;
+pub const OTHER_SLOT: u32 = 15;

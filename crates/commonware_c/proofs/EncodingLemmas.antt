@@ -34,7 +34,7 @@ module _ (value signers : List ℕ) where
       ap length encoded_as ∙ omega (arith, all, counted, valued)
 
 -- a varint has a byte
-varint_some : (n : ℕ) → 0 < length (varint n)
+pub varint_some : (n : ℕ) → 0 < length (varint n)
 unfolding varint
 varint_some n = groups_not_empty 4 n
 

@@ -1,3 +1,4 @@
+pub mod Certified
 pub mod Chunks
 pub mod Exact
 pub mod Fewer

@@ -11,12 +11,15 @@ use Rattle.std.proofs.lemmas.Map.Keys.{Less-from_sorted}
 use Rattle.std.proofs.lemmas.Map.Views.{length-le_from_below}
 use Rattle.commonware_ordered.specs.Strict.{IsStrict}
 use Rattle.commonware_ordered.specs.laws.StrictLaws.{sorted_from_strict}
+use Rattle.committee_certificates.specs.Accountability.{InLog}
 use Rattle.committee_certificates.specs.InPlace.{AreSignersAt}
 use Rattle.committee_certificates.specs.Signers.{AreInBoth, AreMembers}
 use Rattle.committee_certificates.specs.declared.in_place.SignersAt.{SignersAt}
+use Rattle.committee_certificates.proofs.Accountable.{each_guilty}
 use Rattle.committee_certificates.proofs.Members.{AreQuorumsAndBoth, both-many, both-leave}
-use Rattle.commonware_c.specs.Certificates.{AreAccused, LacksRoom}
-use Rattle.commonware_c.specs.Conflicting.{AreConflicting, IsViewOfBoth}
+use Rattle.commonware_c.specs.Certificates.{AreAccused}
+use Rattle.commonware_c.specs.Conflicting.{AreConflicting, AreContradicting, IsViewOfBoth}
+use Rattle.commonware_c.specs.Equivocations.{AreEquivocators}
 use Rattle.commonware_c.specs.declared.conflicts.ConflictView.{ConflictView}
 use Rattle.commonware_c.proofs.EncodingLemmas.{signers_fewer}
 use Rattle.commonware_c.proofs.Fewer.{not_longer}
@@ -91,34 +94,33 @@ accused_of k n first second one_at two_at c both in_both =
           );
     }
 
--- what a view tells of the accused, and of the room
-pub record IsToldBy (k n : ℕ) (first second : List ℕ) (view : ConflictView) (old_room new_room : List ℕ) : Type 0 where
+-- what a view tells of those that are named, of whom P is so, and of the room
+pub record IsToldBy (P : List ℕ → Type 0) (view : ConflictView) (old_room new_room : List ℕ) : Type 0 where
   pub fits : view.status ≡ 0 → view.count ≤ length new_room
-  pub accused : view.status ≡ 0 → AreAccused k n first second (take view.count new_room)
+  pub named : view.status ≡ 0 → P (take view.count new_room)
   pub after : view.status ≡ 0 → drop view.count new_room ≡ drop view.count old_room
   pub untouched : view.status ≢ 0 → new_room ≡ old_room
-  pub lacks : view.status ≡ 11 → LacksRoom k n first second (length old_room) view.count
+  pub lacks : view.status ≡ 11
+      → (named : List ℕ) × P named × (view.count ≡ length named) × (length old_room < view.count)
   pub about_none : (view.which ≡ 0) × (view.number ≡ 0)
   pub status : (view.status ≡ 0) ⊎ (view.status ≡ 11)
 
-pub told_by : (k n : ℕ) (first second : List ℕ) (one_at two_at : SignersAt)
-    (c : AreConflicting k n first second one_at two_at) (view : ConflictView) (old_room new_room : List ℕ)
-    → ((one two : List ℕ) → AreSignersAt one_at one → AreSignersAt two_at two
-    → IsViewOfBoth one two view old_room new_room) → IsToldBy k n first second view old_room new_room
-told_by k n first second one_at two_at c view old_room new_room viewed =
-    let v = viewed c.one.1 c.two.1 c.first_at c.second_at in
-    let accused = accused_of k n first second one_at two_at c v.both v.in_both in
+pub told_by : (P : List ℕ → Type 0) (one two : List ℕ) (view : ConflictView) (old_room new_room : List ℕ)
+    → ((both : List ℕ) → AreInBoth one two both → P both) → IsViewOfBoth one two view old_room new_room
+    → IsToldBy P view old_room new_room
+told_by P one two view old_room new_room all v =
+    let named = all v.both v.in_both in
     let rest = drop view.count old_room in
     record {
       fits = λ ok. elim v.room [
         | inl h ↦ let m = length-append v.both rest in omega (arith, m, ap length h.2, v.count_is)
         | inr h ↦ absurd (omega (arith, ok, h.0))
       ];
-      accused = λ ok. elim v.room [
+      named = λ ok. elim v.room [
         | inl h ↦
             let taken : take view.count new_room ≡ v.both =
             ap (take view.count) h.2 ∙ ap (λ m. take m (v.both ++ rest)) v.count_is ∙ take-append_seam v.both rest in
-            subst (AreAccused k n first second) (sym taken) accused
+            subst P (sym taken) named
         | inr h ↦ absurd (omega (arith, ok, h.0))
       ];
       after = λ ok. elim v.room [
@@ -129,8 +131,42 @@ told_by k n first second one_at two_at c view old_room new_room viewed =
       untouched = λ other. elim v.room [ inl h ↦ absurd (other h.0) | inr h ↦ h.2 ];
       lacks = λ lacks. elim v.room [
         | inl h ↦ absurd (omega (arith, lacks, h.0))
-        | inr h ↦ (v.both, accused, v.count_is, h.1)
+        | inr h ↦ (v.both, named, v.count_is, h.1)
       ];
       about_none = (v.which_is, v.number_is);
       status = elim v.room [ inl h ↦ inl h.0 | inr h ↦ inr h.0 ];
     }
+
+-- those that signed both of two certificates for different values
+pub told_of_accused : (k n : ℕ) (first second : List ℕ) (one_at two_at : SignersAt)
+    (c : AreConflicting k n first second one_at two_at) (view : ConflictView) (old_room new_room : List ℕ)
+    → ((one two : List ℕ) → AreSignersAt one_at one → AreSignersAt two_at two
+    → IsViewOfBoth one two view old_room new_room)
+    → IsToldBy (AreAccused k n first second) view old_room new_room
+told_of_accused k n first second one_at two_at c view old_room new_room viewed =
+    told_by (AreAccused k n first second) c.one.1 c.two.1 view old_room new_room
+    (accused_of k n first second one_at two_at c) (viewed c.one.1 c.two.1 c.first_at c.second_at)
+
+-- and of two for different decisions for one slot
+pub told_of_equivocators : (k n : ℕ) (first second : List ℕ) (one_at two_at : SignersAt)
+    (c : AreContradicting k n first second one_at two_at) (view : ConflictView) (old_room new_room : List ℕ)
+    → ((one two : List ℕ) → AreSignersAt one_at one → AreSignersAt two_at two
+    → IsViewOfBoth one two view old_room new_room)
+    → IsToldBy (AreEquivocators k n first second) view old_room new_room
+told_of_equivocators k n first second one_at two_at c view old_room new_room viewed =
+    let d = c.conflicting in
+    told_by (AreEquivocators k n first second) d.one.1 d.two.1 view old_room new_room
+    (λ both in_both. record {
+      accused = accused_of k n first second one_at two_at d both in_both;
+      guilty = (
+        d.one,
+        d.two,
+        d.first_whole,
+        d.second_whole,
+        (
+          c.contradict,
+          λ log h j.
+              each_guilty (InLog log) d.one.1 d.two.1 both d.one.0 d.two.0 h j c.contradict in_both,
+        ),
+      );
+    }) (viewed d.one.1 d.two.1 d.first_at d.second_at)

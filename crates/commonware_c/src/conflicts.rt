@@ -1,9 +1,9 @@
 //! Accountability: the members that signed both of two certificates for different values, from the
 //! certificates' encodings. Nothing is allocated.
 ghost use Rattle.std.specs.Prelude.{◌≡◌, ◌≢◌, ◌<◌, ◌≤◌, ◌⊎◌, ℕ, List, IfErr, IfNone, IfOk, IfSome, OnOk, drop, length, take};
-ghost use Rattle.commonware_c.specs.Certificates.{AreAccused, AreNoQuorums, IsNoWhole, IsStopped};
+ghost use Rattle.commonware_c.specs.Certificates.{AreAccused, AreNoQuorums, AreUnread, IsNoWhole, IsStopped};
 ghost use Rattle.commonware_c.specs.Certificates.{IsWhole, LacksRoom};
-ghost use Rattle.commonware_c.specs.Conflicting.{AreConflicting, IsViewOfBoth};
+ghost use Rattle.commonware_c.specs.Conflicting.{AreBothFound, AreConflicting, IsViewOfBoth};
 ghost use Rattle.committee_certificates.specs.InPlace.{AreSignersAt};
 ghost use Rattle.committee_certificates.specs.Signers.{AreInBoth, AreQuorum};
 ghost use Rattle.commonware_c.specs.Status.{IsOfInput};
@@ -32,10 +32,10 @@ pub struct ConflictView {
 
 /// Why two inputs name no one.
 #[derive(Clone, Copy, Drop)]
-struct Reason {
-    status: u32,
-    which: u32,
-    number: usize,
+pub(crate) struct Reason {
+    pub(crate) status: u32,
+    pub(crate) which: u32,
+    pub(crate) number: usize,
 }
 
 /// Returns the members that signed both of two certificates for different values, in a committee of
@@ -82,6 +82,29 @@ fn signers_of<'a>(
         reason.status reason.which reason.number) }
     ensures status { IfErr result (λ reason. IsOfInput reason.status) }
 {
+    let (one, two) = find_both(k, members, first, second)?;
+    if one.value == two.value {
+        return Err(reason_of_neither(SAME_VALUE));
+    }
+    let faults = tolerated_faults(k, members);
+    check_signers(members, faults, &one.signers, &two.signers)?;
+    Ok((one.signers, two.signers))
+}
+
+/// Returns the two certificates that the inputs encode, with nothing after them, or the first
+/// reason for which they aren't read.
+pub(crate) fn find_both<'a>(
+    k: u32,
+    members: u32,
+    first: &'a [u8],
+    second: &'a [u8],
+) -> Result<(CertificateAt<'a>, CertificateAt<'a>), Reason>
+    ensures found { IfOk result (λ both.
+        AreBothFound k members first.now second.now both.0 both.1) }
+    ensures unread { IfErr result (λ reason. AreUnread k members first.now second.now
+        reason.status reason.which reason.number) }
+    ensures status { IfErr result (λ reason. IsOfInput reason.status) }
+{
     if k < 2 {
         return Err(reason_of_neither(NO_MODEL));
     }
@@ -90,12 +113,7 @@ fn signers_of<'a>(
     }
     let one = find_one_of_two(first, 1)?;
     let two = find_one_of_two(second, 2)?;
-    if one.value == two.value {
-        return Err(reason_of_neither(SAME_VALUE));
-    }
-    let faults = tolerated_faults(k, members);
-    check_signers(members, faults, &one.signers, &two.signers)?;
-    Ok((one.signers, two.signers))
+    Ok((one, two))
 }
 
 /// Returns the certificate that the input encodes, with nothing after it; else the reason, with
@@ -119,7 +137,7 @@ fn find_one_of_two(input: &[u8], which: u32) -> Result<CertificateAt<'_>, Reason
 
 /// Refuses a signer that is no member, of the first and then of the second, and then fewer signers
 /// than a quorum. It requires that `faults` is at most `members`.
-fn check_signers(
+pub(crate) fn check_signers(
     members: u32,
     faults: u32,
     first: &SignersAt<'_>,
@@ -133,6 +151,7 @@ fn check_signers(
         → AreSignersAt second.now two
         → AreNoQuorums members faults one two reason.status reason.which) }
     ensures number { IfErr result (λ reason. reason.number ≡ 0) }
+    ensures status { IfErr result (λ reason. IsOfInput reason.status) }
 {
     let count = members as usize;
     if !first.are_members(count) {
@@ -153,7 +172,11 @@ fn check_signers(
 
 /// Returns the view of the members that signed both, whose indices go to `out` if it is large
 /// enough.
-fn view_of_both(first: &SignersAt<'_>, second: &SignersAt<'_>, out: &mut [u32]) -> ConflictView
+pub(crate) fn view_of_both(
+    first: &SignersAt<'_>,
+    second: &SignersAt<'_>,
+    out: &mut [u32],
+) -> ConflictView
     ensures { (one two : List ℕ) → AreSignersAt first.now one → AreSignersAt second.now two
         → IsViewOfBoth one two result out.old out.new }
 {
@@ -194,14 +217,14 @@ fn view(status: u32, count: usize) -> ConflictView
 }
 
 /// Returns the reason of a status about neither input alone.
-fn reason_of_neither(status: u32) -> Reason
+pub(crate) fn reason_of_neither(status: u32) -> Reason
     ensures { result ≡ record { status = status; which = 0; number = 0 } }
 {
     reason_of(status, 0)
 }
 
 /// Returns the reason of a status about `which` of the inputs.
-fn reason_of(status: u32, which: u32) -> Reason
+pub(crate) fn reason_of(status: u32, which: u32) -> Reason
     ensures { result ≡ record { status = status; which = which; number = 0 } }
 {
     Reason {
@@ -212,7 +235,7 @@ fn reason_of(status: u32, which: u32) -> Reason
 }
 
 /// Returns the view of a reason, for which no one is named.
-fn view_of_reason(reason: Reason) -> ConflictView
+pub(crate) fn view_of_reason(reason: Reason) -> ConflictView
     ensures { result ≡ record {
       status = reason.status;
       which = reason.which;

@@ -5,6 +5,9 @@ ghost use Rattle.commonware_c.specs.Quorums.{IsQuorumSize, IsSmallerQuorumSize};
 
 use commonware_faults::tolerated_faults;
 
+/// What stands for a quorum where there is none: more than any number of signers.
+const NO_QUORUM: u32 = u32::MAX;
+
 /// Returns how many of `n` participants may be faulty at a resilience `n >= kf + 1`: the greatest f
 /// that fits; 0 where `n` is 0 or `k` below 2.
 #[unsafe(no_mangle)]
@@ -20,29 +23,30 @@ pub extern "C" fn commonware_max_faults(k: u32, n: u32) -> u32
 }
 
 /// Returns how many of `n` participants make a quorum, which are all but those that may be faulty;
-/// 0 where `n` is 0 or `k` below 2.
+/// 4294967295 where `n` is 0 or `k` below 2, so that no number of signers is taken for a quorum.
 #[unsafe(no_mangle)]
 pub extern "C" fn commonware_quorum(k: u32, n: u32) -> u32
     ensures quorum { 2 ≤ k → 1 ≤ n → IsQuorumSize k n result }
-    ensures no_model { k < 2 → result ≡ 0 }
-    ensures no_members { n ≡ 0 → result ≡ 0 }
+    ensures no_model { k < 2 → result ≡ 4294967295 }
+    ensures no_members { n ≡ 0 → result ≡ 4294967295 }
 {
     if k < 2 || n == 0 {
-        return 0;
+        return NO_QUORUM;
     }
     n - tolerated_faults(k, n)
 }
 
 /// Returns the least size whose subsets of `n` participants share with each quorum one more than
-/// may be faulty; 0 where `n` is 0 or `k` below 2.
+/// may be faulty; 4294967295 where `n` is 0 or `k` below 2, so that no number of signers is taken
+/// for one.
 #[unsafe(no_mangle)]
 pub extern "C" fn commonware_smaller_quorum(k: u32, n: u32) -> u32
     ensures quorum { 2 ≤ k → 1 ≤ n → IsSmallerQuorumSize k n result }
-    ensures no_model { k < 2 → result ≡ 0 }
-    ensures no_members { n ≡ 0 → result ≡ 0 }
+    ensures no_model { k < 2 → result ≡ 4294967295 }
+    ensures no_members { n ≡ 0 → result ≡ 4294967295 }
 {
     if k < 2 || n == 0 {
-        return 0;
+        return NO_QUORUM;
     }
     2 * tolerated_faults(k, n) + 1
 }

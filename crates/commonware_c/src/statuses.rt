@@ -41,3 +41,9 @@ pub(crate) const ABSENT: u32 = 12;
 
 /// There is no fault model at a k below 2.
 pub(crate) const NO_MODEL: u32 = 13;
+
+/// The value is no decision for a slot.
+pub(crate) const NO_SLOT: u32 = 14;
+
+/// The values are for two different slots.
+pub(crate) const OTHER_SLOT: u32 = 15;

@@ -1,0 +1,182 @@
+//! Slots beside a naive implementation: values, one certificate's quorum, and who equivocated.
+
+#[allow(dead_code, reason = "the other tests use the rest")]
+mod common;
+
+use common::naive::{certificate_bytes, read_parts};
+use common::random::{Random, some_parts, spoil};
+use commonware_proved::{
+    Certificate, CheckError, EquivocationError, FaultModel, Refusal, check, equivocation,
+    slot_value,
+};
+use std::collections::BTreeMap;
+
+const CASES: usize = 100_000;
+
+/// Returns the slot and the decision of a value: a length, as many bytes, and the others.
+fn slot_of(value: &[u8]) -> Option<(&[u8], &[u8])> {
+    let mut length = 0u64;
+    for (place, byte) in value.iter().take(5).enumerate() {
+        length |= u64::from(byte % 128) << (7 * place);
+        if *byte >= 128 {
+            continue;
+        }
+        let is_short = place == 0 || *byte > 0;
+        let rest = &value[place + 1..];
+        let is_length = is_short && length <= u64::from(u32::MAX);
+        return (is_length && length <= rest.len() as u64).then(|| rest.split_at(length as usize));
+    }
+    None
+}
+
+type Parts<'a> = (&'a [u8], Vec<u32>);
+
+fn exactly_one(input: &[u8]) -> Result<Parts<'_>, Refusal> {
+    match read_parts(input, usize::MAX, usize::MAX)? {
+        (value, signers, []) => Ok((value, signers)),
+        (_, _, rest) => Err(Refusal::LeftOver(rest.len())),
+    }
+}
+
+fn quorum(k: u32, members: u32) -> usize {
+    (members - (members - 1) / k) as usize
+}
+
+/// Returns the value and the number of signers, of a certificate of a quorum.
+fn certified(k: u32, members: u32, input: &[u8]) -> Result<(&[u8], usize), CheckError> {
+    if members == 0 {
+        return Err(CheckError::NoMembers);
+    }
+    let (value, signers) = exactly_one(input).map_err(CheckError::Input)?;
+    if signers.iter().any(|signer| *signer >= members) {
+        return Err(CheckError::Outside);
+    }
+    if signers.len() < quorum(k, members) {
+        return Err(CheckError::TooFew);
+    }
+    Ok((value, signers.len()))
+}
+
+/// Returns the members that signed two decisions for one slot.
+fn equivocated(
+    k: u32,
+    members: u32,
+    first: &[u8],
+    second: &[u8],
+) -> Result<Vec<u32>, EquivocationError> {
+    if members == 0 {
+        return Err(EquivocationError::NoMembers);
+    }
+    let (x, a) = exactly_one(first).map_err(EquivocationError::First)?;
+    let (y, b) = exactly_one(second).map_err(EquivocationError::Second)?;
+    let (Some((slot, decision)), Some((other, contrary))) = (slot_of(x), slot_of(y)) else {
+        return Err(EquivocationError::NoSlot);
+    };
+    if slot != other {
+        return Err(EquivocationError::OtherSlot);
+    }
+    if decision == contrary {
+        return Err(EquivocationError::SameDecision);
+    }
+    if a.iter().chain(&b).any(|signer| *signer >= members) {
+        return Err(EquivocationError::Outside);
+    }
+    if a.len().min(b.len()) < quorum(k, members) {
+        return Err(EquivocationError::TooFew);
+    }
+    Ok(a.into_iter().filter(|signer| b.contains(signer)).collect())
+}
+
+/// Returns a certificate of a value that mostly has a slot, and is sometimes spoiled.
+fn some_certificate(random: &mut Random, members: usize) -> Vec<u8> {
+    let (mut value, signers) = some_parts(random, members);
+    if random.below(9) > 0 {
+        let slot = &[1, 7, 7][..random.below(3)];
+        value = slot_value(slot, &value).unwrap();
+    }
+    let mut bytes = certificate_bytes(&value, &signers);
+    if random.below(12) == 0 {
+        spoil(random, &mut bytes);
+    }
+    bytes
+}
+
+#[test]
+fn certificates_are_judged_as_by_the_naive_check() {
+    let mut random = Random(0x51075);
+    let mut seen = BTreeMap::<String, usize>::new();
+    for _ in 0..CASES {
+        let members = random.below(12) as u32;
+        let bytes = some_certificate(&mut random, members as usize);
+        for k in [2, 3, 5, 9] {
+            let model = FaultModel::new(k).unwrap();
+            let ours = check(model, members, &bytes);
+            let plain = certified(k, members, &bytes);
+            let outcome = match (ours, plain) {
+                (Ok(ours), Ok((value, signers))) => {
+                    assert_eq!((ours.value(), ours.signers() as usize), (value, signers));
+                    let parts = slot_of(value);
+                    assert_eq!(ours.slot(), parts.map(|it| it.0), "{bytes:02x?}");
+                    assert_eq!(ours.decision(), parts.map(|it| it.1), "{bytes:02x?}");
+                    if parts.is_some() { "slot" } else { "no slot" }.to_string()
+                }
+                (ours, plain) => {
+                    assert_eq!(ours.err(), plain.err(), "{k} {members} {bytes:02x?}");
+                    format!("{:?}", ours.unwrap_err())
+                        .split('(')
+                        .next()
+                        .unwrap()
+                        .to_string()
+                }
+            };
+            *seen.entry(outcome).or_default() += 1;
+        }
+    }
+    assert_eq!(seen.len(), 6, "{seen:?}");
+    assert!(seen.values().all(|count| *count > 1_000), "{seen:?}");
+}
+
+#[test]
+fn equivocations_are_those_of_the_naive_search() {
+    let mut random = Random(0xE901);
+    let mut seen = BTreeMap::<String, usize>::new();
+    for _ in 0..CASES {
+        let members = random.below(12) as u32;
+        let [first, second] = [0, 1].map(|_| some_certificate(&mut random, members as usize));
+        for k in [2, 3, 5] {
+            let model = FaultModel::new(k).unwrap();
+            let ours = equivocation(model, members, &first, &second);
+            assert_eq!(
+                ours,
+                equivocated(k, members, &first, &second),
+                "{k} {members} {first:02x?} {second:02x?}"
+            );
+            let outcome = ours.map_or_else(|error| format!("{error:?}"), |_| "named".to_string());
+            *seen
+                .entry(outcome.split('(').next().unwrap().to_string())
+                .or_default() += 1;
+        }
+    }
+    assert_eq!(seen.len(), 9, "{seen:?}");
+    assert!(seen.values().all(|count| *count > 500), "{seen:?}");
+}
+
+#[test]
+fn two_heights_name_no_one() {
+    let signers: Vec<u32> = (0..300).collect();
+    for length in [0, 1, 127, 128, 400, 5_000, 70_000, 1_000_000] {
+        let slots = [vec![1; length + 1], vec![2; length + 1]];
+        let [at_one, at_two] =
+            slots.map(|slot| Certificate::encode(&slot_value(&slot, b"A").unwrap(), &signers));
+        let (at_one, at_two) = (at_one.unwrap(), at_two.unwrap());
+        let contrary = slot_value(&vec![1; length + 1], b"B").unwrap();
+        let contrary = Certificate::encode(&contrary, &signers).unwrap();
+        let named = equivocation(FaultModel::N3F1, 300, &at_one, &at_two);
+        assert_eq!(named, Err(EquivocationError::OtherSlot), "{length}");
+        let named = equivocation(FaultModel::N3F1, 300, &at_one, &contrary);
+        assert_eq!(named.as_deref(), Ok(&signers[..]), "{length}");
+        let checked = check(FaultModel::N3F1, 300, &at_two).unwrap();
+        assert_eq!(checked.slot(), Some(&vec![2; length + 1][..]), "{length}");
+        assert_eq!(checked.decision(), Some(&b"A"[..]), "{length}");
+    }
+}
