@@ -1,7 +1,9 @@
 //! Nanoseconds a call, through the static library and by plain Rust that does the same checks. Hold it
 //! to one core (taskset).
 
-use commonware_proved::{Certificate, Committee, FaultModel, Member, conflict};
+use commonware_proved::{
+    Certificate, Committee, FaultModel, Member, check, conflict, equivocation, slot_value,
+};
 use std::cmp::Ordering;
 use std::hint::black_box;
 use std::time::Instant;
@@ -192,15 +194,35 @@ fn main() {
     }
 }
 
-/// Compares the conflict of two certificates that all of n members signed, and the reading of one.
+/// Compares the conflict and the equivocation of two certificates that all of n members signed, the
+/// check of one, and its reading.
 fn conflicts(n: u32, rounds: u32) {
     let signers: Vec<u32> = (0..n).collect();
-    let inputs = [b"a", b"b"].map(|value| Certificate::encode(value, &signers).unwrap());
+    let inputs = [b"a", b"b"].map(|decision| {
+        let value = slot_value(b"view 7", decision).unwrap();
+        Certificate::encode(&value, &signers).unwrap()
+    });
     compare(
         &format!("certificate of {n}"),
         rounds,
         || drop(black_box(Certificate::try_from(black_box(&inputs[0][..]))).unwrap()),
         || drop(black_box(plain_certificate(black_box(&inputs[0]))).unwrap()),
+    );
+    compare(
+        &format!("check of {n}"),
+        rounds,
+        || {
+            black_box(check(FaultModel::N3F1, n, black_box(&inputs[0]))).unwrap();
+        },
+        || {
+            black_box(plain_check(n, black_box(&inputs[0]))).unwrap();
+        },
+    );
+    compare(
+        &format!("equivocation of {n}"),
+        rounds,
+        || drop(black_box(equivocation(FaultModel::N3F1, n, &inputs[0], &inputs[1])).unwrap()),
+        || drop(black_box(plain_equivocation(n, &inputs[0], &inputs[1])).unwrap()),
     );
     compare(
         &format!("conflict of {n}"),
@@ -246,6 +268,33 @@ fn plain_parts(input: &[u8]) -> Option<(&[u8], Signers<'_>)> {
     (is_strict && rest.is_empty()).then_some((value, signers))
 }
 
+/// Returns the slot and the decision of a value.
+fn plain_slot(value: &[u8]) -> Option<(&[u8], &[u8])> {
+    let (length, start) = varint(value)?;
+    value[start..].split_at_checked(length as usize)
+}
+
+/// A value, its slot and its decision, and how many signed it.
+type Checked<'a> = (&'a [u8], Option<(&'a [u8], &'a [u8])>, u32);
+
+#[inline(never)]
+fn plain_check(n: u32, input: &[u8]) -> Option<Checked<'_>> {
+    let (value, signers) = plain_parts(input)?;
+    let is_quorum = signers.past <= u64::from(n) && signers.count >= plain_quorum(3, n);
+    is_quorum.then_some((value, plain_slot(value), signers.count))
+}
+
+#[inline(never)]
+fn plain_equivocation(n: u32, first: &[u8], second: &[u8]) -> Option<Vec<u32>> {
+    let (x, one) = plain_parts(first)?;
+    let (y, two) = plain_parts(second)?;
+    let ((slot, decision), (other, contrary)) = (plain_slot(x)?, plain_slot(y)?);
+    if slot != other || decision == contrary {
+        return None;
+    }
+    plain_both(n, one, two)
+}
+
 #[inline(never)]
 fn plain_certificate(input: &[u8]) -> Option<(&[u8], Vec<u32>)> {
     let (value, signers) = plain_parts(input)?;
@@ -260,11 +309,19 @@ fn plain_certificate(input: &[u8]) -> Option<(&[u8], Vec<u32>)> {
 
 #[inline(never)]
 fn plain_conflict(n: u32, first: &[u8], second: &[u8]) -> Option<Vec<u32>> {
-    let (x, mut one) = plain_parts(first)?;
-    let (y, mut two) = plain_parts(second)?;
+    let (x, one) = plain_parts(first)?;
+    let (y, two) = plain_parts(second)?;
+    if x == y {
+        return None;
+    }
+    plain_both(n, one, two)
+}
+
+/// Returns the signers of both, where each list is a quorum of n members.
+fn plain_both(n: u32, mut one: Signers<'_>, mut two: Signers<'_>) -> Option<Vec<u32>> {
     let quorum = plain_quorum(3, n);
     let is_outside = one.past.max(two.past) > u64::from(n);
-    if x == y || is_outside || one.count < quorum || two.count < quorum {
+    if is_outside || one.count < quorum || two.count < quorum {
         return None;
     }
     let mut both = Vec::with_capacity(one.count.min(two.count) as usize);
