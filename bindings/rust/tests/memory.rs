@@ -3,7 +3,8 @@
 //! The three functions of the heap are defined here, in place of those of the archive.
 
 use commonware_proved::{
-    Certificate, Committee, ConflictError, EncodeError, FaultModel, Refusal, conflict,
+    Certificate, CheckError, Committee, ConflictError, EncodeError, EquivocationError, FaultModel,
+    Refusal, check, conflict, equivocation, slot_value,
 };
 use std::cell::Cell;
 use std::ptr::NonNull;
@@ -143,4 +144,17 @@ fn a_conflict_allocates_nothing() {
     let inputs = [7, 8].map(|byte| Certificate::encode(&[byte; 100_000], &signers).unwrap());
     let call = || conflict(FaultModel::N3F1, 5_000, &inputs[0], &inputs[1]);
     assert_eq!(refuse_each(&ConflictError::Memory, call), 0);
+}
+
+#[test]
+fn slots_are_written_and_judged_without_an_allocation() {
+    let signers: Vec<u32> = (0..5_000).collect();
+    let call = |decision: &[u8]| slot_value(&[7; 100_000], decision);
+    assert_eq!(refuse_each(&EncodeError::Memory, || call(b"A")), 0);
+    let inputs = [b"A", b"B"].map(|decision| call(decision).unwrap());
+    let inputs = inputs.map(|value| Certificate::encode(&value, &signers).unwrap());
+    let call = || equivocation(FaultModel::N3F1, 5_000, &inputs[0], &inputs[1]);
+    assert_eq!(refuse_each(&EquivocationError::Memory, call), 0);
+    let call = || check(FaultModel::N3F1, 5_000, &inputs[0]);
+    assert_eq!(refuse_each(&CheckError::NoMembers, call), 0);
 }
