@@ -237,54 +237,133 @@ static bool has_outsider(const struct parts *parts, uint32_t members) {
     return parts->count > 0 && parts->signers[parts->count - 1] >= members;
 }
 
-/* The conflict of two inputs: the bytes before a place, and those from it on. */
-static void try_conflict(uint32_t k, uint32_t members, const uint8_t *input, size_t length, size_t place) {
-    struct rest rests[2] = {{input, place}, {input + place, length - place}};
+/* A status, and the input that it is about. */
+struct verdict {
+    uint32_t status, which;
+};
+
+/* Finds the slot of a value and the decision after it. */
+static bool find_slot(const struct parts *parts, struct rest *slot, struct rest *decision) {
+    struct rest rest = {parts->value, parts->value_length};
+    uint32_t length = 0;
+    if (decode_varint(&rest, &length) != COMMONWARE_OK || rest.length < length) {
+        return false;
+    }
+    *slot = (struct rest){rest.bytes, length};
+    *decision = (struct rest){rest.bytes + length, rest.length - length};
+    return true;
+}
+
+static bool are_same(struct rest one, struct rest other) {
+    return one.length == other.length && (one.length == 0 || memcmp(one.bytes, other.bytes, one.length) == 0);
+}
+
+/* What two values are to one another: of a conflict, or of an equivocation. */
+static struct verdict judge_values(const struct parts *parts, bool by_slot) {
+    struct rest slots[2], decisions[2];
+    if (!by_slot) {
+        const struct rest values[2] = {{parts[0].value, parts[0].value_length},
+                                       {parts[1].value, parts[1].value_length}};
+        return (struct verdict){are_same(values[0], values[1]) ? COMMONWARE_SAME_VALUE : COMMONWARE_OK, 0};
+    }
+    for (uint32_t i = 0; i < 2; i++) {
+        if (!find_slot(&parts[i], &slots[i], &decisions[i])) {
+            return (struct verdict){COMMONWARE_NO_SLOT, i + 1};
+        }
+    }
+    if (!are_same(slots[0], slots[1])) {
+        return (struct verdict){COMMONWARE_OTHER_SLOT, 0};
+    }
+    return (struct verdict){are_same(decisions[0], decisions[1]) ? COMMONWARE_SAME_VALUE : COMMONWARE_OK, 0};
+}
+
+/* Whether the signers are members, and at least a quorum, one list after the other. */
+static struct verdict judge_signers(const struct parts *parts, uint32_t lists, uint32_t k, uint32_t members) {
+    for (uint32_t i = 0; i < lists; i++) {
+        if (has_outsider(&parts[i], members)) {
+            return (struct verdict){COMMONWARE_OUTSIDE, i + 1};
+        }
+    }
+    for (uint32_t i = 0; i < lists; i++) {
+        if (parts[i].count < members - (members - 1) / k) {
+            return (struct verdict){COMMONWARE_TOO_FEW, i + 1};
+        }
+    }
+    return (struct verdict){COMMONWARE_OK, 0};
+}
+
+/* Decodes an input that is exactly one certificate. */
+static uint32_t decode_whole(struct rest rest, struct parts *parts) {
+    uint32_t stated = 0;
+    const uint32_t status = decode_certificate(&rest, SIZE_MAX, SIZE_MAX, parts, &stated);
+    return status == COMMONWARE_OK && rest.length > 0 ? COMMONWARE_LEFT_OVER : status;
+}
+
+/* The members that signed both of two inputs: the bytes before a place, and those from it on. */
+static void try_both(uint32_t k, uint32_t members, const uint8_t *input, size_t length, size_t place,
+                     bool by_slot) {
+    const struct rest rests[2] = {{input, place}, {input + place, length - place}};
     struct parts parts[2];
-    uint32_t status = COMMONWARE_OK, which = 0;
+    struct verdict wanted = {COMMONWARE_OK, 0};
     for (uint32_t i = 0; i < 2; i++) {
         parts[i].signers = room(length, sizeof(uint32_t));
         parts[i].count = 0;
-        uint32_t stated = 0;
-        if (status == COMMONWARE_OK) {
-            status = decode_certificate(&rests[i], SIZE_MAX, SIZE_MAX, &parts[i], &stated);
-            status = status == COMMONWARE_OK && rests[i].length > 0 ? COMMONWARE_LEFT_OVER : status;
-            which = status == COMMONWARE_OK ? 0 : i + 1;
+        if (wanted.status == COMMONWARE_OK) {
+            wanted.status = decode_whole(rests[i], &parts[i]);
+            wanted.which = wanted.status == COMMONWARE_OK ? 0 : i + 1;
         }
     }
-    const uint32_t quorum = k < 2 || members == 0 ? 0 : members - (members - 1) / k;
+    if (k < 2 || members == 0) {
+        wanted = (struct verdict){k < 2 ? COMMONWARE_NO_MODEL : COMMONWARE_NO_MEMBERS, 0};
+    } else if (wanted.status == COMMONWARE_OK) {
+        wanted = judge_values(parts, by_slot);
+        wanted = wanted.status == COMMONWARE_OK ? judge_signers(parts, 2, k, members) : wanted;
+    }
     size_t both = 0;
     uint32_t *out = room(length, sizeof(uint32_t));
     const commonware_conflict_view view =
-        commonware_conflict(k, members, input, place, input + place, length - place, out, length);
-    if (k < 2 || members == 0) {
-        status = k < 2 ? COMMONWARE_NO_MODEL : COMMONWARE_NO_MEMBERS;
-        which = 0;
-    } else if (status == COMMONWARE_OK) {
-        const bool same = parts[0].value_length == parts[1].value_length &&
-                          memcmp(parts[0].value, parts[1].value, parts[0].value_length) == 0;
-        const uint32_t outside = has_outsider(&parts[0], members) ? 1 : has_outsider(&parts[1], members) ? 2 : 0;
-        const uint32_t few = parts[0].count < quorum ? 1 : parts[1].count < quorum ? 2 : 0;
-        status = same           ? COMMONWARE_SAME_VALUE
-                 : outside != 0 ? COMMONWARE_OUTSIDE
-                 : few != 0     ? COMMONWARE_TOO_FEW
-                                : COMMONWARE_OK;
-        which = same ? 0 : outside != 0 ? outside : few;
-    }
-    REQUIRE(view.status == status && view.which == which);
-    for (uint32_t i = 0; status == COMMONWARE_OK && i < parts[0].count; i++) {
+        by_slot
+            ? commonware_equivocation(k, members, input, place, input + place, length - place, out, length)
+            : commonware_conflict(k, members, input, place, input + place, length - place, out, length);
+    REQUIRE(view.status == wanted.status && view.which == wanted.which);
+    for (uint32_t i = 0; view.status == COMMONWARE_OK && i < parts[0].count; i++) {
         for (uint32_t j = 0; j < parts[1].count; j++) {
             if (parts[0].signers[i] == parts[1].signers[j]) {
                 REQUIRE(out[both++] == parts[0].signers[i]);
             }
         }
     }
-    REQUIRE(status != COMMONWARE_OK || (view.count == both && out[both] == 0xeeeeeeee));
-    REQUIRE(status != COMMONWARE_OK || both >= (k - 2) * ((members - 1) / k) + 1);
-    REQUIRE(status == COMMONWARE_OK || out[0] == 0xeeeeeeee);
+    REQUIRE(view.count == both);
+    REQUIRE(view.status != COMMONWARE_OK || out[both] == 0xeeeeeeee);
+    REQUIRE(view.status != COMMONWARE_OK || both >= (k - 2) * ((members - 1) / k) + 1);
+    REQUIRE(view.status == COMMONWARE_OK || out[0] == 0xeeeeeeee);
     free(parts[0].signers);
     free(parts[1].signers);
     free(out);
+}
+
+/* Whether the input is the certificate of a quorum, and where its parts are. */
+static void try_check(uint32_t k, uint32_t members, const uint8_t *input, size_t length) {
+    struct parts parts = {NULL, 0, 0, room(length, sizeof(uint32_t))};
+    struct rest slot = {NULL, 0}, decision = {NULL, 0};
+    struct verdict wanted = {decode_whole((struct rest){input, length}, &parts), 1};
+    if (k < 2 || members == 0) {
+        wanted.status = k < 2 ? COMMONWARE_NO_MODEL : COMMONWARE_NO_MEMBERS;
+    } else if (wanted.status == COMMONWARE_OK) {
+        wanted = judge_signers(&parts, 1, k, members);
+    }
+    const commonware_check_view view = commonware_certificate_check(k, members, input, length);
+    REQUIRE(view.status == wanted.status);
+    if (view.status == COMMONWARE_OK) {
+        REQUIRE(view.signers == parts.count && input + view.value_start == parts.value);
+        REQUIRE(view.value_length == parts.value_length);
+        const bool has_slot = find_slot(&parts, &slot, &decision);
+        REQUIRE(has_slot == (view.slot_start > 0));
+        REQUIRE(!has_slot || input + view.slot_start == slot.bytes);
+        REQUIRE(!has_slot || input + view.decision_start == decision.bytes);
+        REQUIRE(view.slot_length == slot.length && view.decision_length == decision.length);
+    }
+    free(parts.signers);
 }
 
 int LLVMFuzzerTestOneInput(const uint8_t *data, size_t size) {
@@ -300,7 +379,9 @@ int LLVMFuzzerTestOneInput(const uint8_t *data, size_t size) {
     try_certificate(input, length, low, high);
     try_certificate(input, length, SIZE_MAX, SIZE_MAX);
     try_indices(input, length, low < length ? low : length);
-    try_conflict(k, (uint32_t)high, input, length, low < length ? low : length);
+    try_both(k, (uint32_t)high, input, length, low < length ? low : length, false);
+    try_both(k, (uint32_t)high, input, length, low < length ? low : length, true);
+    try_check(k, (uint32_t)high, input, length);
     free(input);
     return 0;
 }
