@@ -4,7 +4,7 @@
 use committee_certificates::{
     Certificate, CertificateAt, SignersAt, find_certificate, find_signers, write_both,
 };
-use commonware_base::codec::{Error, RangeCfg, Read, Source, read_varint};
+use commonware_base::codec::{Error, RangeCfg, Read, Source, UInt, Write, read_varint};
 use std::alloc::{AllocError, Global};
 use std::process::Abort;
 
@@ -29,21 +29,27 @@ fn has_parts(certificate: &Certificate<Global>, found: &CertificateAt<'_>) -> bo
     let signers = certificate.signers.as_slice();
     let mut room = [9u32; 3];
     found.signers.write_indices(&mut room);
+    let Some((indices, after)) = room.split_at_checked(signers.len()) else {
+        return false;
+    };
     certificate.value.as_slice() == found.value
         && signers.len() == found.signers.count()
         && signers
             .iter()
             .map(|it| it.get())
-            .eq(room[..signers.len()].iter().copied())
-        && room[signers.len()..].iter().all(|it| *it == 9)
+            .eq(indices.iter().copied())
+        && after.iter().all(|it| *it == 9)
 }
 
 static BYTES: [u8; 8] = [0, 1, 2, 3, 15, 127, 128, 255];
 
+/// How many inputs of 0 to 5 of these bytes there are.
+static COUNTS: [u32; 6] = [1, 8, 64, 512, 4096, 32768];
+
 #[test]
 fn certificates_are_found_as_they_are_read(rt: HostRuntime) {
     for length in 0..6usize {
-        for number in 0..8u32.pow(length as u32) {
+        for number in 0..COUNTS[length] {
             let mut bytes = [0u8; 6];
             let mut left = number;
             for i in 0..length {
@@ -56,14 +62,14 @@ fn certificates_are_found_as_they_are_read(rt: HostRuntime) {
     }
 }
 
-/// Returns the signers that an input is, behind one byte of another kind.
+/// Returns the signers that an input is, behind a number of one byte.
 fn signers(rt: &impl Abort, bytes: &'static [u8]) -> SignersAt<'static> {
     let mut source = Source::new(bytes);
-    source.advance(1);
+    assert!(rt; read_varint(&mut source) == Ok(110), "prefix");
     find_signers(&mut source, RangeCfg::from(..)).expect(rt, "signers")
 }
 
-/// Two lists of signers, each behind a byte, those in both, and what a room of three has then.
+/// Two lists of signers, each behind a number, those in both, and what a room of three has then.
 struct Pair {
     first: &'static [u8],
     second: &'static [u8],
@@ -73,32 +79,32 @@ struct Pair {
 
 static PAIRS: [Pair; 5] = [
     Pair {
-        first: b"\xee\x03\x00\x01\x02",
-        second: b"\xee\x03\x01\x02\x03",
+        first: b"\x6e\x03\x00\x01\x02",
+        second: b"\x6e\x03\x01\x02\x03",
         both: 2,
         room: [1, 2, 9],
     },
     Pair {
-        first: b"\xee\x02\x7f\x80\x01",
-        second: b"\xee\x03\x01\x7f\xff\xff\xff\xff\x0f",
+        first: b"\x6e\x02\x7f\x80\x01",
+        second: b"\x6e\x03\x01\x7f\xff\xff\xff\xff\x0f",
         both: 1,
         room: [127, 9, 9],
     },
     Pair {
-        first: b"\xee\x01\xff\xff\xff\xff\x0f",
-        second: b"\xee\x02\x00\xff\xff\xff\xff\x0f",
+        first: b"\x6e\x01\xff\xff\xff\xff\x0f",
+        second: b"\x6e\x02\x00\xff\xff\xff\xff\x0f",
         both: 1,
         room: [4294967295, 9, 9],
     },
     Pair {
-        first: b"\xee\x00",
-        second: b"\xee\x03\x01\x02\x03",
+        first: b"\x6e\x00",
+        second: b"\x6e\x03\x01\x02\x03",
         both: 0,
         room: [9, 9, 9],
     },
     Pair {
-        first: b"\xee\x05\x00\x02\x04\x06\x08",
-        second: b"\xee\x05\x00\x01\x02\x04\x08",
+        first: b"\x6e\x05\x00\x02\x04\x06\x08",
+        second: b"\x6e\x05\x00\x01\x02\x04\x08",
         both: 4,
         room: [0, 2, 4],
     },
@@ -122,32 +128,21 @@ fn signers_of_both_are_written(rt: HostRuntime) {
         );
         assert!(rt; room == pair.room, "{:?}", pair.first);
     }
-    let first = signers(&rt, b"\xee\x03\x00\x01\x02");
+    let first = signers(&rt, b"\x6e\x03\x00\x01\x02");
     assert!(rt; first.are_members(3) && !first.are_members(2), "members");
-}
-
-/// Appends the varint of a number.
-fn push_varint(bytes: &mut Vec<u8>, number: u32) -> Result<(), AllocError> {
-    let mut left = number;
-    while left >= 128 {
-        bytes.push((left % 128) as u8 + 128)?;
-        left /= 128;
-    }
-    bytes.push(left as u8)?;
-    Ok(())
 }
 
 /// Returns the encoding of a certificate of a value of 70,000 bytes and of 70,000 signers, each
 /// `step` from the next.
 fn large_certificate(alloc: Global, step: u32) -> Result<Vec<u8>, AllocError> {
     let mut bytes = Vec::new(alloc);
-    push_varint(&mut bytes, 70_000)?;
+    UInt(70_000).write(&mut bytes)?;
     for i in 0..70_000u32 {
         bytes.push((i % 251) as u8)?;
     }
-    push_varint(&mut bytes, 70_000)?;
+    UInt(70_000).write(&mut bytes)?;
     for i in 0..70_000u32 {
-        push_varint(&mut bytes, step.wrapping_mul(i))?;
+        UInt(step.wrapping_mul(i)).write(&mut bytes)?;
     }
     Ok(bytes)
 }
