@@ -294,22 +294,21 @@ class Change:
         state = self.sequence(head, state)
         if word == "match":
             return block + 1, self.match(items[block], state)
-        node, arms = object(), []
-        after = self.within(items[block], state, Arm(node, 0, "then", names))
+        taken, other = ways(head, names)
+        after = self.within(items[block], state, taken)
         ends, otherwise = block + 1, state
         if ends + 1 < len(items) and items[ends].text == "else":
             state = self.token(items[ends], state)
-            arm = Arm(node, 1, "else", names)
             if items[ends + 1].text == "if":
-                self.arms.append(arm)
-                self.inside.append(arm)
+                self.arms.append(other)
+                self.inside.append(other)
                 ends, otherwise = self.branch(items, ends + 1, state)
                 self.inside.pop()
             else:
-                otherwise = self.within(items[ends + 1], state, arm)
+                otherwise = self.within(items[ends + 1], state, other)
                 ends += 2
         else:
-            self.arms.append(Arm(node, 1, "else", names))
+            self.arms.append(other)
         return ends, max(after, otherwise)
 
     def match(self, group, state):
@@ -434,6 +433,16 @@ class LoopArm(Arm):
     def __init__(self, loop):
         super().__init__(object(), 0, "loop", set())
         self.loop = loop
+
+
+def ways(head, names):
+    """Returns both arms of an `if`: an `if let` is called as a `match` of its pattern and the rest is."""
+    node = object()
+    if not head or head[0].text != "let":
+        return Arm(node, 0, "then", names), Arm(node, 1, "else", names)
+    pattern = texts(flat(head[1:]))
+    pattern = pattern[: pattern.index("=")]
+    return Arm(node, 0, "in", pattern_names(pattern)), Arm(node, 1, "in_default", set())
 
 
 def staying(items):

@@ -1,18 +1,10 @@
 //! Tests of the library with each allocation failing in turn, with a heap that refuses large ones,
-//! and of what allocates nothing: the collections, readers and writers, the
-//! headline and certificates. Beside them are those of the equipment that refuses and fails.
+//! and of what allocates nothing: the collections, readers and writers, and the headline. Beside
+//! them are those of the equipment that refuses and fails.
 #![tactic(auto)]
 
 #[cfg(test)]
-mod accused;
-#[cfg(test)]
 mod builders;
-#[cfg(test)]
-mod certificates;
-#[cfg(test)]
-mod certificates_in_place;
-#[cfg(test)]
-mod conflicts;
 #[cfg(test)]
 mod drawn;
 #[cfg(test)]
@@ -20,19 +12,11 @@ mod held_heaps;
 #[cfg(test)]
 mod keys_found;
 #[cfg(test)]
-mod large_calls;
-#[cfg(test)]
-mod large_inputs;
-#[cfg(test)]
 mod long_displays;
 #[cfg(test)]
 mod many_at_once;
 #[cfg(test)]
 mod memory_free_inputs;
-#[cfg(test)]
-mod own_model;
-#[cfg(test)]
-mod own_model_calls;
 #[cfg(test)]
 mod readings;
 #[cfg(test)]
@@ -66,12 +50,6 @@ mod repeat_or_refusal;
 #[cfg(test)]
 mod scripted_devices;
 #[cfg(test)]
-mod signers;
-#[cfg(test)]
-mod slots;
-#[cfg(test)]
 mod sorted_pairs;
 #[cfg(test)]
 mod stated_lengths;
-#[cfg(test)]
-mod voters;
