@@ -1,11 +1,13 @@
 -- What a line asks for by a verb.
 use Rattle.std.proofs.Common.{◌≡◌, ℕ, List, Bool, true, false, subst, sym}
-use Rattle.judge_questions.specs.Tasks.{AsksForConflict, AsksForFaults, AsksForPosition, AsksToBuild, AsksToRefute}
+use Rattle.judge_questions.specs.Tasks.{AsksForConflict, AsksForFaults, AsksForPosition, AsksForQuorum, AsksToBuild}
+use Rattle.judge_questions.specs.Tasks.{AsksToRefute}
 use Rattle.judge_questions.specs.Tasks.{IsTask, build_verb}
 use Rattle.judge_questions.specs.declared.collection.Collection.{Collection}
 use Rattle.judge_questions.specs.declared.collection.SetForm.{SetForm}
 use Rattle.judge_questions.specs.declared.task.Task.TheVariants as tasks
-use Rattle.judge_questions.specs.declared.verb.Verb.TheVariants.{Build, BuildUnique, Position, Faults, Refute, Conflict}
+use Rattle.judge_questions.specs.declared.verb.Verb.TheVariants.{Build, BuildUnique, Position, Faults, Refute}
+use Rattle.judge_questions.specs.declared.verb.Verb.TheVariants.{Quorum, Conflict, Equivocation}
 use Rattle.judge_core.specs.Answered.{AsksBy}
 
 -- words that ask to build, where equal ones count once or none may be equal
@@ -19,7 +21,9 @@ module _ {A : Type 0} (line : List ℕ) where
   asked_build c unique text (Position, rest, is, h) = absurd h
   asked_build c unique text (Faults, rest, is, h) = absurd h
   asked_build c unique text (Refute, rest, is, h) = absurd h
+  asked_build c unique text (Quorum, rest, is, h) = absurd h
   asked_build c unique text (Conflict, rest, is, h) = absurd h
+  asked_build c unique text (Equivocation, rest, is, h) = absurd h
 
   pub asked_position : (set : SetForm) (text item : List ℕ) → IsTask {A = A} line (tasks.Position set text item) → AsksBy line Position (λ words. AsksForPosition words set text item)
   asked_position set text item (Build, rest, is, h) = absurd h
@@ -27,7 +31,9 @@ module _ {A : Type 0} (line : List ℕ) where
   asked_position set text item (Position, rest, is, h) = (rest, is, h)
   asked_position set text item (Faults, rest, is, h) = absurd h
   asked_position set text item (Refute, rest, is, h) = absurd h
+  asked_position set text item (Quorum, rest, is, h) = absurd h
   asked_position set text item (Conflict, rest, is, h) = absurd h
+  asked_position set text item (Equivocation, rest, is, h) = absurd h
 
   pub asked_faults : (k n : ℕ) → IsTask {A = A} line (tasks.Faults k n) → AsksBy line Faults (λ words. AsksForFaults words k n)
   asked_faults k n (Build, rest, is, h) = absurd h
@@ -35,7 +41,9 @@ module _ {A : Type 0} (line : List ℕ) where
   asked_faults k n (Position, rest, is, h) = absurd h
   asked_faults k n (Faults, rest, is, h) = (rest, is, h)
   asked_faults k n (Refute, rest, is, h) = absurd h
+  asked_faults k n (Quorum, rest, is, h) = absurd h
   asked_faults k n (Conflict, rest, is, h) = absurd h
+  asked_faults k n (Equivocation, rest, is, h) = absurd h
 
   pub asked_refute : (k n f : ℕ) → IsTask {A = A} line (tasks.Refute k n f) → AsksBy line Refute (λ words. AsksToRefute words k n f)
   asked_refute k n f (Build, rest, is, h) = absurd h
@@ -43,7 +51,19 @@ module _ {A : Type 0} (line : List ℕ) where
   asked_refute k n f (Position, rest, is, h) = absurd h
   asked_refute k n f (Faults, rest, is, h) = absurd h
   asked_refute k n f (Refute, rest, is, h) = (rest, is, h)
+  asked_refute k n f (Quorum, rest, is, h) = absurd h
   asked_refute k n f (Conflict, rest, is, h) = absurd h
+  asked_refute k n f (Equivocation, rest, is, h) = absurd h
+
+  pub asked_quorum : (k n : ℕ) (text : List ℕ) → IsTask {A = A} line (tasks.Quorum k n text) → AsksBy line Quorum (λ words. AsksForQuorum words k n text)
+  asked_quorum k n text (Build, rest, is, h) = absurd h
+  asked_quorum k n text (BuildUnique, rest, is, h) = absurd h
+  asked_quorum k n text (Position, rest, is, h) = absurd h
+  asked_quorum k n text (Faults, rest, is, h) = absurd h
+  asked_quorum k n text (Refute, rest, is, h) = absurd h
+  asked_quorum k n text (Quorum, rest, is, h) = (rest, is, h)
+  asked_quorum k n text (Conflict, rest, is, h) = absurd h
+  asked_quorum k n text (Equivocation, rest, is, h) = absurd h
 
   pub asked_conflict : (k n : ℕ) (one other : List ℕ) → IsTask {A = A} line (tasks.Conflict k n one other) → AsksBy line Conflict (λ words. AsksForConflict words k n one other)
   asked_conflict k n one other (Build, rest, is, h) = absurd h
@@ -51,4 +71,16 @@ module _ {A : Type 0} (line : List ℕ) where
   asked_conflict k n one other (Position, rest, is, h) = absurd h
   asked_conflict k n one other (Faults, rest, is, h) = absurd h
   asked_conflict k n one other (Refute, rest, is, h) = absurd h
+  asked_conflict k n one other (Quorum, rest, is, h) = absurd h
   asked_conflict k n one other (Conflict, rest, is, h) = (rest, is, h)
+  asked_conflict k n one other (Equivocation, rest, is, h) = absurd h
+
+  pub asked_equivocation : (k n : ℕ) (one other : List ℕ) → IsTask {A = A} line (tasks.Equivocation k n one other) → AsksBy line Equivocation (λ words. AsksForConflict words k n one other)
+  asked_equivocation k n one other (Build, rest, is, h) = absurd h
+  asked_equivocation k n one other (BuildUnique, rest, is, h) = absurd h
+  asked_equivocation k n one other (Position, rest, is, h) = absurd h
+  asked_equivocation k n one other (Faults, rest, is, h) = absurd h
+  asked_equivocation k n one other (Refute, rest, is, h) = absurd h
+  asked_equivocation k n one other (Quorum, rest, is, h) = absurd h
+  asked_equivocation k n one other (Conflict, rest, is, h) = absurd h
+  asked_equivocation k n one other (Equivocation, rest, is, h) = (rest, is, h)

@@ -9,28 +9,35 @@ use Rattle.judge_questions.specs.Questions.{IsQuestion, IsUnreadable}
 use Rattle.judge_questions.specs.declared.form.Form.{Form}
 use Rattle.judge_questions.specs.declared.limits.Limits.{Limits}
 use Rattle.judge_questions.specs.declared.question.Unreadable.TheVariants.{Bytes, Model, Name, Number, Ranges}
-use Rattle.judge_questions.specs.Tasks.{AsksForConflict, AsksForFaults, AsksForPosition, AsksToBuild, AsksToRefute}
+use Rattle.judge_questions.specs.Tasks.{AsksForConflict, AsksForFaults, AsksForPosition, AsksForQuorum, AsksToBuild}
+use Rattle.judge_questions.specs.Tasks.{AsksToRefute}
 use Rattle.judge_questions.specs.Tasks.{HasNoVerb, IsUnreadableTask, build_verb, verb_name}
 use Rattle.judge_questions.specs.Words.{words_of}
 use Rattle.judge_questions.specs.declared.collection.Collection.{Collection}
 use Rattle.judge_questions.specs.declared.collection.SetForm.{SetForm}
 use Rattle.judge_questions.specs.declared.question.Unreadable.{Unreadable}
 use Rattle.judge_questions.specs.declared.verb.Verb.{Verb}
-use Rattle.judge_questions.specs.declared.verb.Verb.TheVariants.{Conflict, Faults, Position, Refute}
+use Rattle.judge_questions.specs.declared.verb.Verb.TheVariants.{Conflict, Equivocation, Faults, Position, Quorum}
+use Rattle.judge_questions.specs.declared.verb.Verb.TheVariants.{Refute}
 use Rattle.judge_verdicts.specs.Collections.{IsBuilt, IsFoundIn}
 use Rattle.judge_verdicts.specs.Conflicts.{IsConflict}
+use Rattle.judge_verdicts.specs.Equivocations.{IsEquivocation}
 use Rattle.judge_verdicts.specs.Numbers.{AreNumbers}
+use Rattle.judge_verdicts.specs.Quorums.{Certified, IsChecked}
 use Rattle.judge_verdicts.specs.Readings.{IsVerdict, reading_of}
 use Rattle.judge_core.specs.declared.answer.Answer.{Answer}
 use Rattle.judge_core.specs.declared.answer.Answer.TheVariants.{Judged, Unread}
 use Rattle.judge_verdicts.specs.declared.conflict.NoConflict.{NoConflict}
+use Rattle.judge_verdicts.specs.declared.equivocation.NoEquivocation.{NoEquivocation}
 use Rattle.judge_verdicts.specs.declared.numbers.FaultNumbers.{FaultNumbers}
 use Rattle.judge_verdicts.specs.declared.numbers.Refutation.{Refutation}
 use Rattle.judge_verdicts.specs.declared.places.Found.{Found}
+use Rattle.judge_verdicts.specs.declared.quorum.NoQuorum.{NoQuorum}
 use Rattle.judge_verdicts.specs.declared.sets.NotBuilt.{NotBuilt}
 use Rattle.judge_verdicts.specs.declared.verdict.Verdict.TheVariants.{Accepted, Refused}
 use Rattle.judge_core.specs.Faults.{error_text}
-use Rattle.judge_core.specs.Tasks.{IsRefuted, built_line, conflict_line, found_line, numbers_line, refuted_line}
+use Rattle.judge_core.specs.Tasks.{IsRefuted, built_line, conflict_line, equivocation_line, found_line, numbers_line}
+use Rattle.judge_core.specs.Tasks.{quorum_line, refuted_line}
 
 -- the answer is right: the line asks a question and the verdict on its input is right, or what is named of it can't be
 -- read
@@ -90,9 +97,16 @@ pub data IsTold (line : List ℕ) (told : Told) : Type 0 where
       → AreNumbers k n numbers → told.text ≡ numbers_line numbers → told.judged ≡ true → IsTold line told
   refuted : (k n f : ℕ) (why : Option Refutation) → AsksBy line Refute (λ words. AsksToRefute words k n f)
       → IsRefuted k n f why → told.text ≡ refuted_line why → told.judged ≡ true → IsTold line told
+  checked : (k n : ℕ) (text : List ℕ) (found : Result Certified NoQuorum)
+      → AsksBy line Quorum (λ words. AsksForQuorum words k n text)
+      → IsChecked k n text found → told.text ≡ quorum_line found → told.judged ≡ true → IsTold line told
   named : (k n : ℕ) (one other : List ℕ) (members : Result (List ℕ) NoConflict)
       → AsksBy line Conflict (λ words. AsksForConflict words k n one other)
       → IsConflict k n one other members → told.text ≡ conflict_line members → told.judged ≡ true → IsTold line told
+  accused : (k n : ℕ) (one other : List ℕ) (members : Result (List ℕ) NoEquivocation)
+      → AsksBy line Equivocation (λ words. AsksForConflict words k n one other)
+      → IsEquivocation k n one other members → told.text ≡ equivocation_line members → told.judged ≡ true
+      → IsTold line told
   unread : (what : Unreadable) → IsUnreadableTask line what → told.text ≡ answer_line (Unread what)
       → told.judged ≡ false → IsTold line told
   answered : HasNoVerb line → (answer : Answer) → IsAnswer line answer → told.text ≡ answer_line answer

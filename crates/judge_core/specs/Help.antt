@@ -13,13 +13,15 @@ help_lines =
     ∷ codes "judge --help     says this"
     ∷ codes "judge --version  says the version"
     ∷ []
-    ∷ codes "TYPE RANGE.. BYTES            what the bytes are as a value of the type, with a range a length"
-    ∷ codes "build TYPE BYTES              what a builder makes of the listed items, of equal ones the first"
-    ∷ codes "build-unique TYPE BYTES       the same, where equal ones are refused"
-    ∷ codes "position TYPE BYTES ITEM      where the item stands in the set"
-    ∷ codes "faults MODEL N                the numbers of N members: n3f1, n5f1, or k=7 for 7f + 1"
-    ∷ codes "refute MODEL N F              why F of N members can't be faulty"
-    ∷ codes "conflict MODEL N BYTES BYTES  who of N members signed both certificates"
+    ∷ codes "TYPE RANGE.. BYTES                what the bytes are as a value of the type, with a range a length"
+    ∷ codes "build TYPE BYTES                  what a builder makes of the listed items, of equal ones the first"
+    ∷ codes "build-unique TYPE BYTES           the same, where equal ones are refused"
+    ∷ codes "position TYPE BYTES ITEM          where the item stands in the set"
+    ∷ codes "faults MODEL N                    the numbers of N members: n3f1, n5f1, or k=7 for 7f + 1"
+    ∷ codes "refute MODEL N F                  why F of N members can't be faulty"
+    ∷ codes "quorum MODEL N BYTES              whether a quorum of N members signed the certificate"
+    ∷ codes "conflict MODEL N BYTES BYTES      who signed both certificates, for different values"
+    ∷ codes "equivocation MODEL N BYTES BYTES  who signed both, for different decisions of one slot"
     ∷ []
 
 -- each line of them

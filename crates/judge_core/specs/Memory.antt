@@ -3,13 +3,14 @@ use Rattle.std.specs.Prelude.{ℕ, ◌<◌, List, Bool, length}
 use Rattle.std.specs.List.{AllByRecursion}
 use Rattle.std.specs.Str.Lines.{lines}
 use Rattle.judge_questions.specs.Questions.{IsQuestion}
-use Rattle.judge_questions.specs.Tasks.{AsksForConflict, AsksForPosition, AsksToBuild, build_verb}
+use Rattle.judge_questions.specs.Tasks.{AsksForConflict, AsksForPosition, AsksForQuorum, AsksToBuild, both_verb}
+use Rattle.judge_questions.specs.Tasks.{build_verb}
 use Rattle.judge_questions.specs.Words.{AreShort, words_of}
 use Rattle.judge_questions.specs.declared.collection.Collection.{Collection}
 use Rattle.judge_questions.specs.declared.collection.SetForm.{SetForm}
 use Rattle.judge_questions.specs.declared.form.Form.{Form}
 use Rattle.judge_questions.specs.declared.limits.Limits.{Limits}
-use Rattle.judge_questions.specs.declared.verb.Verb.TheVariants.{Conflict, Position}
+use Rattle.judge_questions.specs.declared.verb.Verb.TheVariants.{Position, Quorum}
 use Rattle.judge_verdicts.specs.Builds.{MayFailToAllocateToBuild}
 use Rattle.judge_verdicts.specs.Collections.{MayFailToAllocateToFindIn, lists_of}
 use Rattle.judge_verdicts.specs.Readings.{reading_of}
@@ -22,7 +23,7 @@ pub record IsReadingMemoryFree (line : List ℕ) : Type 0 where
       → (reading_of form limits).MemoryFree text
 
 -- No allocation fails as the line is answered: none of its words is long; what is read or built or looked up takes no
--- memory; and it asks for no conflict, since a certificate is read with memory.
+-- memory; and it asks nothing of certificates, since these are read with memory.
 pub record IsLineMemoryFree (line : List ℕ) : Type 0 where
   pub readings : IsReadingMemoryFree line
   pub builds : (unique : Bool) (collection : Collection) (text : List ℕ)
@@ -30,8 +31,9 @@ pub record IsLineMemoryFree (line : List ℕ) : Type 0 where
       → ¬ MayFailToAllocateToBuild (lists_of collection) text
   pub positions : (set : SetForm) (text item : List ℕ)
       → AsksBy line Position (λ words. AsksForPosition words set text item) → ¬ MayFailToAllocateToFindIn set text item
-  pub conflicts : (k n : ℕ) (one other : List ℕ)
-      → ¬ AsksBy line Conflict (λ words. AsksForConflict words k n one other)
+  pub quorums : (k n : ℕ) (text : List ℕ) → ¬ AsksBy line Quorum (λ words. AsksForQuorum words k n text)
+  pub conflicts : (by_slot : Bool) (k n : ℕ) (one other : List ℕ)
+      → ¬ AsksBy line (both_verb by_slot) (λ words. AsksForConflict words k n one other)
 
 -- each of the numbered lines has fewer than 4096 bytes and is answered without an allocation
 abbrev pub AreMemoryFree : List (ℕ × List ℕ) → Type 0

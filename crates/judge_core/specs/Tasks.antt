@@ -8,10 +8,15 @@ use Rattle.commonware_utils.specs.Faults.{Overlap}
 use Rattle.judge_verdicts.specs.Numbers.{IsRefutation}
 use Rattle.judge_verdicts.specs.declared.conflict.NoConflict.{NoConflict}
 use Rattle.judge_verdicts.specs.declared.conflict.NoConflict.TheVariants as conflicts
+use Rattle.judge_verdicts.specs.declared.equivocation.NoEquivocation.{NoEquivocation}
+use Rattle.judge_verdicts.specs.declared.equivocation.NoEquivocation.TheVariants as equivocations
 use Rattle.judge_verdicts.specs.declared.numbers.FaultNumbers.{FaultNumbers}
 use Rattle.judge_verdicts.specs.declared.numbers.Refutation.{Refutation}
 use Rattle.judge_verdicts.specs.declared.places.Found.{Found}
 use Rattle.judge_verdicts.specs.declared.places.Found.TheVariants as places
+use Rattle.judge_verdicts.specs.Quorums.{Certified}
+use Rattle.judge_verdicts.specs.declared.quorum.NoQuorum.{NoQuorum}
+use Rattle.judge_verdicts.specs.declared.quorum.NoQuorum.TheVariants as quorums
 use Rattle.judge_verdicts.specs.declared.sets.NotBuilt.{NotBuilt}
 use Rattle.judge_verdicts.specs.declared.sets.NotBuilt.TheVariants as builts
 use Rattle.judge_verdicts.specs.declared.whole.Misread.{Misread}
@@ -25,6 +30,11 @@ hex_digits b = digit_char (b / 16) ∷ digit_char (b % 16) ∷ []
 -- the digits of each byte, those of the first byte first
 abbrev pub hex_text : List ℕ → List ℕ
 hex_text bytes = flat_map hex_digits bytes
+
+-- bytes as a word: their digits, or `-` where there are none
+abbrev pub word_text : List ℕ → List ℕ
+word_text [] = codes "-"
+word_text (byte ∷ bytes) = hex_text (byte ∷ bytes)
 
 -- the line that says why an input is not the encoding of one value
 unfoldable pub misread_line : Misread → List ℕ
@@ -67,6 +77,18 @@ refuted_line (Some r) =
     ++ (decimal r.shared ++ (codes " needed " ++ (decimal r.needed ++ (10 ∷ []))))))))))))
 refuted_line None = codes "tolerated" ++ (10 ∷ [])
 
+-- the slot and the decision that a value is, if it has a slot
+abbrev pub slot_text : Option (List ℕ × List ℕ) → List ℕ
+slot_text (Some slot) = codes " slot " ++ (word_text slot.0 ++ (codes " decision " ++ (word_text slot.1 ++ (10 ∷ []))))
+slot_text None = codes " no slot" ++ (10 ∷ [])
+
+-- the line that says what a quorum signed by a certificate, or why none did
+unfoldable pub quorum_line : Result Certified NoQuorum → List ℕ
+quorum_line (Ok certified) = codes "quorum " ++ (decimal certified.signers ++ slot_text certified.slot)
+quorum_line (Err quorums.Outside) = codes "Outside" ++ (10 ∷ [])
+quorum_line (Err quorums.TooFew) = codes "TooFew" ++ (10 ∷ [])
+quorum_line (Err (quorums.Unread what)) = misread_line what
+
 -- the line that says who signed both certificates, or why no one is named
 unfoldable pub conflict_line : Result (List ℕ) NoConflict → List ℕ
 conflict_line (Ok bytes) = codes "members " ++ (hex_text bytes ++ (10 ∷ []))
@@ -74,6 +96,16 @@ conflict_line (Err conflicts.EqualValues) = codes "EqualValues" ++ (10 ∷ [])
 conflict_line (Err conflicts.Outside) = codes "Outside" ++ (10 ∷ [])
 conflict_line (Err conflicts.TooFew) = codes "TooFew" ++ (10 ∷ [])
 conflict_line (Err (conflicts.Unread what)) = misread_line what
+
+-- the line that says who signed two different decisions for one slot, or why no one is named
+unfoldable pub equivocation_line : Result (List ℕ) NoEquivocation → List ℕ
+equivocation_line (Ok bytes) = codes "members " ++ (hex_text bytes ++ (10 ∷ []))
+equivocation_line (Err equivocations.NoSlot) = codes "NoSlot" ++ (10 ∷ [])
+equivocation_line (Err equivocations.OtherSlot) = codes "OtherSlot" ++ (10 ∷ [])
+equivocation_line (Err equivocations.SameDecision) = codes "SameDecision" ++ (10 ∷ [])
+equivocation_line (Err equivocations.Outside) = codes "Outside" ++ (10 ∷ [])
+equivocation_line (Err equivocations.TooFew) = codes "TooFew" ++ (10 ∷ [])
+equivocation_line (Err (equivocations.Unread what)) = misread_line what
 
 -- f faults are refuted; or they are tolerated, so any two subsets of n - f share (k - 2)f + 1
 abbrev pub IsRefuted : ℕ → ℕ → ℕ → Option Refutation → Type 0

@@ -17,13 +17,15 @@ judge types      names the types that have a canonical encoding
 judge --help     says this
 judge --version  says the version
 
-TYPE RANGE.. BYTES            what the bytes are as a value of the type, with a range a length
-build TYPE BYTES              what a builder makes of the listed items, of equal ones the first
-build-unique TYPE BYTES       the same, where equal ones are refused
-position TYPE BYTES ITEM      where the item stands in the set
-faults MODEL N                the numbers of N members: n3f1, n5f1, or k=7 for 7f + 1
-refute MODEL N F              why F of N members can't be faulty
-conflict MODEL N BYTES BYTES  who of N members signed both certificates
+TYPE RANGE.. BYTES                what the bytes are as a value of the type, with a range a length
+build TYPE BYTES                  what a builder makes of the listed items, of equal ones the first
+build-unique TYPE BYTES           the same, where equal ones are refused
+position TYPE BYTES ITEM          where the item stands in the set
+faults MODEL N                    the numbers of N members: n3f1, n5f1, or k=7 for 7f + 1
+refute MODEL N F                  why F of N members can't be faulty
+quorum MODEL N BYTES              whether a quorum of N members signed the certificate
+conflict MODEL N BYTES BYTES      who signed both certificates, for different values
+equivocation MODEL N BYTES BYTES  who signed both, for different decisions of one slot
 ";
 
 /// What `--version` says.

@@ -33,8 +33,9 @@ pub use judge_questions::{
     read_verb,
 };
 pub use judge_verdicts::{
-    CountItems, FaultNumbers, Found, Misread, NoConflict, NotBuilt, Refutation, Verdict, build,
-    conflict_of, fault_numbers, judge, judge_as, position, refute,
+    Checked, CountItems, FaultNumbers, Found, Misread, NoConflict, NoEquivocation, NoQuorum,
+    NotBuilt, Refutation, Slot, Verdict, build, conflict_of, equivocation_of, fault_numbers, judge,
+    judge_as, position, quorum_of, refute,
 };
 pub use reply::{Reply, reply_to};
 pub use runs::run;

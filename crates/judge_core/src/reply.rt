@@ -8,8 +8,8 @@ ghost use Rattle.judge_questions.specs.Tasks.{IsTask};
 use crate::answer::{Answer, answer_to};
 use judge_questions::{Task, read_task};
 use judge_verdicts::{
-    FaultNumbers, Found, NoConflict, NotBuilt, Refutation, build, conflict_of, fault_numbers,
-    position, refute,
+    Checked, FaultNumbers, Found, NoConflict, NoEquivocation, NoQuorum, NotBuilt, Refutation,
+    build, conflict_of, equivocation_of, fault_numbers, position, quorum_of, refute,
 };
 use std::alloc::{AllocError, Allocator};
 
@@ -27,8 +27,13 @@ pub enum Reply<A: Allocator> {
     Numbers(FaultNumbers),
     /// Why the number of faults isn't tolerated, or `None` where it is.
     Refuted(Option<Refutation>),
+    /// What a quorum signed by the certificate, or why none did.
+    Checked(Result<Checked<A>, NoQuorum>),
     /// The bytes of the members that signed both certificates, or why there are none.
     Members(Result<Vec<u8, A>, NoConflict>),
+    /// The bytes of the members that signed two different decisions for one slot, or why there are
+    /// none.
+    Equivocated(Result<Vec<u8, A>, NoEquivocation>),
     /// The answer to a line that asks for a reading, or what of a line can't be read.
     Answered(Answer),
 }
@@ -79,11 +84,26 @@ fn reply_to_task<A: Allocator + Copy>(alloc: A, task: &Task<A>) -> Result<Reply<
         )?)),
         Task::Faults { k, n } => Ok(Reply::Numbers(fault_numbers(*k, *n))),
         Task::Refute { k, n, f } => Ok(Reply::Refuted(refute(*k, *n, *f))),
+        Task::Quorum { k, n, text } => {
+            Ok(Reply::Checked(quorum_of(alloc, *k, *n, text.as_slice())?))
+        }
         Task::Conflict {
             k,
             n,
             first,
             second,
         } => Ok(Reply::Members(conflict_of(alloc, *k, *n, first.as_slice(), second.as_slice())?)),
+        Task::Equivocation {
+            k,
+            n,
+            first,
+            second,
+        } => Ok(Reply::Equivocated(equivocation_of(
+            alloc,
+            *k,
+            *n,
+            first.as_slice(),
+            second.as_slice(),
+        )?)),
     }
 }

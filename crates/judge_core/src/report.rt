@@ -2,14 +2,16 @@
 //!
 //! It is gathered in a room and written once that is full, or the room is flushed. That takes no
 //! allocation, however much is said.
-ghost use Rattle.std.specs.Prelude.{◌≡◌, ◌<◌, ◌≤◌, ◌++◌, ◌∷◌, [], length, true, OnErr, OnOk, Some};
+ghost use Rattle.std.specs.Prelude.{◌≡◌, ◌<◌, ◌≤◌, ◌++◌, ◌∷◌, [], length, true, Ok, OnErr, OnOk, Some};
 ghost use Rattle.std.specs.Char.{digit_char};
 ghost use Rattle.judge_core.specs.Answered.{answer_line, unreadable_text};
 ghost use Rattle.judge_core.specs.Faults.{error_text};
 ghost use Rattle.judge_core.specs.Replies.{reply_text};
 ghost use Rattle.judge_core.specs.Said.{Says, line_text, part_text, parts_text};
-ghost use Rattle.judge_core.specs.Tasks.{built_line, conflict_line, found_line, hex_text};
-ghost use Rattle.judge_core.specs.Tasks.{misread_line, numbers_line, refuted_line};
+ghost use Rattle.judge_core.specs.Tasks.{built_line, conflict_line, equivocation_line, found_line};
+ghost use Rattle.judge_core.specs.Tasks.{hex_text, misread_line, numbers_line, quorum_line};
+ghost use Rattle.judge_core.specs.Tasks.{refuted_line, word_text};
+ghost use Rattle.judge_verdicts.specs.Quorums.{checked_of};
 ghost use Rattle.judge_verdicts.specs.Whole.{items_of};
 
 use crate::answer::{Answer, unreadable_text};
@@ -18,7 +20,10 @@ use crate::room::Room;
 use commonware_utils::codec::Error;
 use itoa::Buffer;
 use judge_questions::Unreadable;
-use judge_verdicts::{FaultNumbers, Found, Misread, NoConflict, NotBuilt, Refutation, Verdict};
+use judge_verdicts::{
+    Checked, FaultNumbers, Found, Misread, NoConflict, NoEquivocation, NoQuorum, NotBuilt,
+    Refutation, Verdict,
+};
 use program_io::{Watched, WriteFailed, write_whole};
 use std::alloc::Allocator;
 use std::io::Write;
@@ -191,7 +196,9 @@ fn reply_line<A: Allocator>(reply: &Reply<A>) -> Line<'_>
         Reply::Found(found) => found_line(found),
         Reply::Numbers(numbers) => numbers_line(numbers),
         Reply::Refuted(refuted) => refuted_line(refuted),
+        Reply::Checked(checked) => quorum_line(checked),
         Reply::Members(members) => conflict_line(members),
+        Reply::Equivocated(members) => equivocation_line(members),
         Reply::Answered(answer) => answer_line(answer),
     }
 }
@@ -317,6 +324,49 @@ fn refuted_line(refuted: &Option<Refutation>) -> Line<'_>
     }
 }
 
+/// What a quorum signed by a certificate, or why none did.
+#[tactic(auto, unfolding(crate::specs::Tasks::quorum_line))]
+fn quorum_line<A: Allocator>(checked: &Result<Checked<A>, NoQuorum>) -> Line<'_>
+    ensures { result ≡ quorum_line (checked_of checked.now) }
+{
+    match checked {
+        Ok(certificate) => certificate_line(certificate),
+        Err(NoQuorum::Outside) => text_line("Outside"),
+        Err(NoQuorum::TooFew) => text_line("TooFew"),
+        Err(NoQuorum::Unread(what)) => misread_line(what),
+    }
+}
+
+/// A certificate that a quorum signed.
+#[tactic(auto, unfolding(crate::specs::Tasks::quorum_line))]
+fn certificate_line<A: Allocator>(certificate: &Checked<A>) -> Line<'_>
+    ensures { result ≡ quorum_line (checked_of (Ok certificate.now)) }
+{
+    let signers = Part::Number(certificate.signers as u128);
+    match &certificate.slot {
+        Some((slot, decision)) => line_of(&[
+            Part::Text("quorum "),
+            signers,
+            Part::Text(" slot "),
+            word_part(slot),
+            Part::Text(" decision "),
+            word_part(decision),
+        ]),
+        None => line_of(&[Part::Text("quorum "), signers, Part::Text(" no slot")]),
+    }
+}
+
+/// Bytes as a word, which is `-` where there are none.
+fn word_part(bytes: &[u8]) -> Part<'_>
+    ensures { part_text result ≡ word_text bytes.now }
+{
+    if bytes.is_empty() {
+        Part::Text("-")
+    } else {
+        Part::Hex(bytes)
+    }
+}
+
 /// Who signed both certificates, or why no one is named.
 #[tactic(auto, unfolding(crate::specs::Tasks::conflict_line))]
 fn conflict_line<A: Allocator>(members: &Result<Vec<u8, A>, NoConflict>) -> Line<'_>
@@ -328,5 +378,21 @@ fn conflict_line<A: Allocator>(members: &Result<Vec<u8, A>, NoConflict>) -> Line
         Err(NoConflict::Outside) => text_line("Outside"),
         Err(NoConflict::TooFew) => text_line("TooFew"),
         Err(NoConflict::Unread(what)) => misread_line(what),
+    }
+}
+
+/// Who signed two different decisions for one slot, or why no one is named.
+#[tactic(auto, unfolding(crate::specs::Tasks::equivocation_line))]
+fn equivocation_line<A: Allocator>(members: &Result<Vec<u8, A>, NoEquivocation>) -> Line<'_>
+    ensures { result ≡ equivocation_line (items_of members.now) }
+{
+    match members {
+        Ok(bytes) => line_of(&[Part::Text("members "), Part::Hex(bytes)]),
+        Err(NoEquivocation::NoSlot) => text_line("NoSlot"),
+        Err(NoEquivocation::OtherSlot) => text_line("OtherSlot"),
+        Err(NoEquivocation::SameDecision) => text_line("SameDecision"),
+        Err(NoEquivocation::Outside) => text_line("Outside"),
+        Err(NoEquivocation::TooFew) => text_line("TooFew"),
+        Err(NoEquivocation::Unread(what)) => misread_line(what),
     }
 }

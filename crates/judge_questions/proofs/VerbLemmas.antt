@@ -1,11 +1,12 @@
 -- Each verb is in the list of the verbs.
 use Rattle.std.proofs.Common.{◌≡◌, ℕ, ◌<◌, List, [], ◌∷◌, get_or, refl, arith}
 use Rattle.judge_questions.specs.declared.verb.Verb.{Verb}
-use Rattle.judge_questions.specs.declared.verb.Verb.TheVariants.{Build, BuildUnique, Position, Faults, Refute, Conflict}
+use Rattle.judge_questions.specs.declared.verb.Verb.TheVariants.{Build, BuildUnique, Position, Faults, Refute}
+use Rattle.judge_questions.specs.declared.verb.Verb.TheVariants.{Quorum, Conflict, Equivocation}
 
 -- the verbs
 abbrev pub all_verbs : List Verb
-all_verbs = Build ∷ BuildUnique ∷ Position ∷ Faults ∷ Refute ∷ Conflict ∷ []
+all_verbs = Build ∷ BuildUnique ∷ Position ∷ Faults ∷ Refute ∷ Quorum ∷ Conflict ∷ Equivocation ∷ []
 
 -- its place in the list
 abbrev pub place_in_verbs : Verb → ℕ
@@ -14,7 +15,9 @@ place_in_verbs BuildUnique = 1
 place_in_verbs Position = 2
 place_in_verbs Faults = 3
 place_in_verbs Refute = 4
-place_in_verbs Conflict = 5
+place_in_verbs Quorum = 5
+place_in_verbs Conflict = 6
+place_in_verbs Equivocation = 7
 
 -- it is at its place
 pub listed_verb : (verb : Verb) → get_or all_verbs (place_in_verbs verb) Build ≡ verb
@@ -23,13 +26,17 @@ listed_verb BuildUnique = refl
 listed_verb Position = refl
 listed_verb Faults = refl
 listed_verb Refute = refl
+listed_verb Quorum = refl
 listed_verb Conflict = refl
+listed_verb Equivocation = refl
 
 -- which is inside
-pub verb_inside : (verb : Verb) → place_in_verbs verb < 6
+pub verb_inside : (verb : Verb) → place_in_verbs verb < 8
 verb_inside Build = omega arith
 verb_inside BuildUnique = omega arith
 verb_inside Position = omega arith
 verb_inside Faults = omega arith
 verb_inside Refute = omega arith
+verb_inside Quorum = omega arith
 verb_inside Conflict = omega arith
+verb_inside Equivocation = omega arith

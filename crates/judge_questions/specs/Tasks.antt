@@ -13,7 +13,8 @@ use Rattle.judge_questions.specs.declared.question.Unreadable.TheVariants.{Name,
 use Rattle.judge_questions.specs.declared.task.Task.{Task}
 use Rattle.judge_questions.specs.declared.task.Task.TheVariants as tasks
 use Rattle.judge_questions.specs.declared.verb.Verb.{Verb}
-use Rattle.judge_questions.specs.declared.verb.Verb.TheVariants.{Build, BuildUnique, Position, Faults, Refute, Conflict}
+use Rattle.judge_questions.specs.declared.verb.Verb.TheVariants.{Build, BuildUnique, Position, Faults, Refute}
+use Rattle.judge_questions.specs.declared.verb.Verb.TheVariants.{Quorum, Conflict, Equivocation}
 
 -- the word by which a line asks
 abbrev pub verb_name : Verb → List ℕ
@@ -22,12 +23,19 @@ verb_name BuildUnique = codes "build-unique"
 verb_name Position = codes "position"
 verb_name Faults = codes "faults"
 verb_name Refute = codes "refute"
+verb_name Quorum = codes "quorum"
 verb_name Conflict = codes "conflict"
+verb_name Equivocation = codes "equivocation"
 
 -- the verb that asks to build, where no two may be equal or where equal ones count once
 abbrev pub build_verb : Bool → Verb
 build_verb true = BuildUnique
 build_verb false = Build
+
+-- the verb that asks who signed both of two certificates: for one slot, or for any values
+abbrev pub both_verb : Bool → Verb
+both_verb true = Equivocation
+both_verb false = Conflict
 
 -- the word names the fault model of a resilience k: `n3f1`, `n5f1`, or `k=` and a number from 2 to 4294967295
 abbrev pub IsModel : List ℕ → ℕ → Type 0
@@ -62,6 +70,12 @@ AsksToRefute words k n f =
     (model : List ℕ) × (size : List ℕ) × (number : List ℕ) × (words ≡ model ∷ size ∷ number ∷ []) × IsModel model k
     × IsSize size n × IsNumber number f × (f ≤ n)
 
+-- the words are a model, a number of members, and the encoding of a certificate
+abbrev pub AsksForQuorum : List (List ℕ) → ℕ → ℕ → List ℕ → Type 0
+AsksForQuorum words k n text =
+    (model : List ℕ) × (size : List ℕ) × (word : List ℕ) × (words ≡ model ∷ size ∷ word ∷ []) × IsModel model k
+    × IsSize size n × IsText word text
+
 -- the words are a model, a number of members, and the encodings of two certificates
 abbrev pub AsksForConflict : List (List ℕ) → ℕ → ℕ → List ℕ → List ℕ → Type 0
 AsksForConflict words k n one other =
@@ -77,7 +91,9 @@ AsksFor BuildUnique words (tasks.Build collection unique text) =
 AsksFor Position words (tasks.Position set text item) = AsksForPosition words set text item
 AsksFor Faults words (tasks.Faults k n) = AsksForFaults words k n
 AsksFor Refute words (tasks.Refute k n f) = AsksToRefute words k n f
+AsksFor Quorum words (tasks.Quorum k n text) = AsksForQuorum words k n text
 AsksFor Conflict words (tasks.Conflict k n one other) = AsksForConflict words k n one other
+AsksFor Equivocation words (tasks.Equivocation k n one other) = AsksForConflict words k n one other
 AsksFor _ words _ = ⊥
 
 -- the words don't begin with a model
@@ -130,15 +146,30 @@ LackRefute words Model = LackModel words
 LackRefute words Number = LackAfterModel words LackTwoNumbers
 LackRefute words _ = ⊥
 
--- What is wrong with words that should ask for a conflict.
-abbrev pub LackConflict : List (List ℕ) → Unreadable → Type 0
-LackConflict words Model = LackModel words
-LackConflict words Number =
+-- they begin with a model, and no number of members follows
+abbrev pub LackSize : List (List ℕ) → Type 0
+LackSize words =
     LackAfterModel words (λ more. (size : List ℕ) (rest : List (List ℕ)) (n : ℕ) → more ≡ size ∷ rest
     → ¬ IsSize size n)
-LackConflict words Bytes =
+
+-- they begin with a model and a number of members, and what follows Lacks
+abbrev pub LackAfterSize : List (List ℕ) → (List (List ℕ) → Type 0) → Type 0
+LackAfterSize words Lacks =
     LackAfterModel words (λ more. (size : List ℕ) × (rest : List (List ℕ)) × (n : ℕ) × (more ≡ size ∷ rest)
-    × IsSize size n × LackTwoTexts rest)
+    × IsSize size n × Lacks rest)
+
+-- What is wrong with words that should ask for a quorum.
+abbrev pub LackQuorum : List (List ℕ) → Unreadable → Type 0
+LackQuorum words Model = LackModel words
+LackQuorum words Number = LackSize words
+LackQuorum words Bytes = LackAfterSize words (λ rest. (word text : List ℕ) → rest ≡ word ∷ [] → ¬ IsText word text)
+LackQuorum words _ = ⊥
+
+-- What is wrong with words that should ask who signed both of two certificates.
+abbrev pub LackConflict : List (List ℕ) → Unreadable → Type 0
+LackConflict words Model = LackModel words
+LackConflict words Number = LackSize words
+LackConflict words Bytes = LackAfterSize words LackTwoTexts
 LackConflict words _ = ⊥
 
 -- what is wrong with the words after a verb
@@ -148,7 +179,9 @@ Lack BuildUnique words what = LackBuild words what
 Lack Position words what = LackPosition words what
 Lack Faults words what = LackFaults words what
 Lack Refute words what = LackRefute words what
+Lack Quorum words what = LackQuorum words what
 Lack Conflict words what = LackConflict words what
+Lack Equivocation words what = LackConflict words what
 
 -- the line begins with no verb
 abbrev pub HasNoVerb : List ℕ → Type 0

@@ -4,9 +4,9 @@ ghost use Rattle.judge_questions.specs.Collections.{collection_of, set_form_of};
 ghost use Rattle.judge_questions.specs.Forms.{name_of};
 ghost use Rattle.judge_questions.specs.Hex.{IsText};
 ghost use Rattle.judge_questions.specs.Tasks.{AsksFor, HasNoVerb, IsTask, IsUnreadableTask, Lack};
-ghost use Rattle.judge_questions.specs.Tasks.{IsSize, LackTwoNumbers, build_verb};
+ghost use Rattle.judge_questions.specs.Tasks.{IsSize, LackTwoNumbers, both_verb, build_verb};
 ghost use Rattle.judge_questions.specs.Tasks.{LackBuild, LackConflict, LackFaults, LackPosition};
-ghost use Rattle.judge_questions.specs.Tasks.{LackRefute, LackTwoTexts, verb_name};
+ghost use Rattle.judge_questions.specs.Tasks.{LackQuorum, LackRefute, LackTwoTexts, verb_name};
 ghost use Rattle.judge_questions.specs.Ranges.{IsNumber};
 ghost use Rattle.judge_questions.specs.Words.{AreShort, words_of};
 ghost use Rattle.judge_questions.specs.declared.form.Form.{Form};
@@ -49,9 +49,22 @@ pub enum Task<A: Allocator> {
         n: u32,
         f: u32,
     },
-    /// Accountability: which of `n` members, at a resilience `k`, signed both certificates, which
-    /// are encodings.
+    /// Whether a quorum of `n` members, at a resilience `k`, signed the certificate, which is an
+    /// encoding.
+    Quorum {
+        k: u32,
+        n: u32,
+        text: Bytes<A>,
+    },
+    /// Which of `n` members, at a resilience `k`, signed both certificates, which are encodings.
     Conflict {
+        k: u32,
+        n: u32,
+        first: Bytes<A>,
+        second: Bytes<A>,
+    },
+    /// Accountability: the same, where the certificates are for different decisions for one slot.
+    Equivocation {
         k: u32,
         n: u32,
         first: Bytes<A>,
@@ -101,7 +114,9 @@ fn read_words<A: Allocator + Copy>(
         Verb::Position => read_position(alloc, words),
         Verb::Faults => Ok(read_faults(words)),
         Verb::Refute => Ok(read_refute(words)),
-        Verb::Conflict => read_conflict(alloc, words),
+        Verb::Quorum => read_quorum(alloc, words),
+        Verb::Conflict => read_both(alloc, words, false),
+        Verb::Equivocation => read_both(alloc, words, true),
     }
 }
 
@@ -207,12 +222,35 @@ fn two_numbers(words: &mut Words<'_>) -> Option<(u32, u32)>
     Some((n, f))
 }
 
-/// A model, a number of members, and the bytes of two certificates.
-fn read_conflict<A: Allocator + Copy>(
+/// A model, a number of members, and the bytes of a certificate.
+fn read_quorum<A: Allocator>(
     alloc: A,
     words: &mut Words<'_>,
 ) -> Result<Result<Task<A>, Unreadable>, AllocError>
-    ensures read { IfOk result (λ read. MatchResult read (AsksFor Verb.Conflict words.old)
+    ensures read { IfOk result (λ read. MatchResult read (AsksFor Verb.Quorum words.old)
+        (LackQuorum words.old)) }
+    ensures memory { IfErr result (λ _. ¬ AreShort words.old) }
+{
+    let Some(k) = next_model(words) else {
+        return Ok(Err(Unreadable::Model));
+    };
+    let Some(n) = next_size(words) else {
+        return Ok(Err(Unreadable::Number));
+    };
+    match last_text(alloc, words)? {
+        Some(text) => Ok(Ok(Task::Quorum { k, n, text })),
+        None => Ok(Err(Unreadable::Bytes)),
+    }
+}
+
+/// A model, a number of members, and the bytes of two certificates. `by_slot`: these have to be for
+/// one slot.
+fn read_both<A: Allocator + Copy>(
+    alloc: A,
+    words: &mut Words<'_>,
+    by_slot: bool,
+) -> Result<Result<Task<A>, Unreadable>, AllocError>
+    ensures read { IfOk result (λ read. MatchResult read (AsksFor (both_verb by_slot) words.old)
         (LackConflict words.old)) }
     ensures memory { IfErr result (λ _. ¬ AreShort words.old) }
 {
@@ -222,15 +260,24 @@ fn read_conflict<A: Allocator + Copy>(
     let Some(n) = next_size(words) else {
         return Ok(Err(Unreadable::Number));
     };
-    match two_texts(alloc, words)? {
-        Some((first, second)) => Ok(Ok(Task::Conflict {
+    let Some((first, second)) = two_texts(alloc, words)? else {
+        return Ok(Err(Unreadable::Bytes));
+    };
+    Ok(Ok(if by_slot {
+        Task::Equivocation {
             k,
             n,
             first,
             second,
-        })),
-        None => Ok(Err(Unreadable::Bytes)),
-    }
+        }
+    } else {
+        Task::Conflict {
+            k,
+            n,
+            first,
+            second,
+        }
+    }))
 }
 
 /// The bytes that the last two words write.

@@ -20,18 +20,24 @@ pub enum Verb {
     Faults,
     /// Why a number of faults isn't tolerated: a counterexample to the quorum intersection.
     Refute,
-    /// Accountability: who signed both of two certificates.
+    /// Whether a quorum signed a certificate.
+    Quorum,
+    /// Who signed both of two certificates.
     Conflict,
+    /// Accountability: who signed two different decisions for one slot.
+    Equivocation,
 }
 
 /// Each of the words, once.
-pub const VERBS: [Verb; 6] = [
+pub const VERBS: [Verb; 8] = [
     Verb::Build,
     Verb::BuildUnique,
     Verb::Position,
     Verb::Faults,
     Verb::Refute,
+    Verb::Quorum,
     Verb::Conflict,
+    Verb::Equivocation,
 ];
 
 impl Verb {
@@ -45,7 +51,9 @@ impl Verb {
             Verb::Position => "position",
             Verb::Faults => "faults",
             Verb::Refute => "refute",
+            Verb::Quorum => "quorum",
             Verb::Conflict => "conflict",
+            Verb::Equivocation => "equivocation",
         }
     }
 }

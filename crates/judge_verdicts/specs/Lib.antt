@@ -2,7 +2,9 @@ pub mod Builds
 pub mod Collections
 pub mod Columns
 pub mod Conflicts
+pub mod Equivocations
 pub mod Numbers
 pub mod Places
+pub mod Quorums
 pub mod Readings
 pub mod Whole

@@ -1,19 +1,17 @@
-//! Accountability: the members that signed both of two certificates.
-ghost use Rattle.std.specs.Prelude.{◌≤◌, IfOk, MatchResult};
+//! The members that signed both of two certificates.
+ghost use Rattle.std.specs.Prelude.{◌≤◌, IfOk};
 ghost use Rattle.std.specs.Ordering.{nat_cmp};
 ghost use Rattle.committee_certificates.specs.Certificates.{parts};
 ghost use Rattle.commonware_utils.specs.Codec.{IsWord};
 ghost use Rattle.commonware_utils.specs.Ordered.{IsWritableSet};
-ghost use Rattle.judge_questions.specs.Limits.{full};
 ghost use Rattle.judge_verdicts.specs.Conflicts.{IsConflict, IsConflictOf};
-ghost use Rattle.judge_verdicts.specs.Readings.{a_certificate};
-ghost use Rattle.judge_verdicts.specs.Whole.{IsMisread, IsWhole, items_of};
+ghost use Rattle.judge_verdicts.specs.Whole.{items_of};
 
+use crate::certificates::read_both;
 use crate::sets::bytes_of;
-use crate::whole::{Misread, read_whole};
+use crate::whole::Misread;
 use committee_certificates::{Certificate, ConflictError, conflict_among};
 use commonware_utils::faults::tolerated_faults;
-use judge_questions::Limit;
 use std::alloc::{AllocError, Allocator};
 
 /// Why two certificates, which are encodings, name no members that signed both.
@@ -46,27 +44,10 @@ pub fn conflict_of<A: Allocator + Copy>(
     ensures { IfOk result (λ members.
         IsConflict k n first.now second.now (items_of members)) }
 {
-    let one = match read_certificate(alloc, first)? {
-        Ok(one) => one,
-        Err(what) => return Ok(Err(NoConflict::Unread(what))),
-    };
-    match read_certificate(alloc, second)? {
-        Ok(other) => among(alloc, k, n, &one, &other),
+    match read_both(alloc, first, second)? {
+        Ok((one, other)) => among(alloc, k, n, &one, &other),
         Err(what) => Ok(Err(NoConflict::Unread(what))),
     }
-}
-
-/// The certificate whose encoding the input is, or why it is that of none.
-fn read_certificate<A: Allocator + Copy>(
-    alloc: A,
-    text: &[u8],
-) -> Result<Result<Certificate<A>, Misread>, AllocError>
-    ensures { IfOk result (λ read. MatchResult read
-        (λ certificate. IsWhole (a_certificate full full) text.now (parts certificate))
-        (IsMisread (a_certificate full full) text.now)) }
-{
-    let full = Limit::full().range();
-    read_whole::<Certificate<A>, A>(alloc, text, &(full, full))
 }
 
 /// The members of a committee of `n` that signed both certificates, or why there are none.

@@ -1,16 +1,19 @@
 //! What the oracle says: which value of a type an input begins with, what a builder makes of items
-//! in any order, the position of an item, the numbers of a fault model, and who signed two
-//! certificates. Each verdict is a theorem of the library's own clauses.
+//! in any order, the position of an item, the numbers of a fault model, whether a quorum signed a
+//! certificate, and who signed two of them. Each verdict is a theorem of the library's own clauses.
 #![tactic(auto)]
 
+mod certificates;
 mod collections;
 mod columns;
 mod conflict;
 mod count_items;
+mod equivocation;
 mod judgement;
 mod numbers;
 mod pairs;
 mod places;
+mod quorum;
 mod sets;
 mod verdict;
 mod whole;
@@ -18,10 +21,12 @@ mod whole;
 pub use collections::{build, position};
 pub use conflict::{NoConflict, conflict_of};
 pub use count_items::CountItems;
+pub use equivocation::{NoEquivocation, equivocation_of};
 pub use judgement::{judge, judge_as};
 pub use numbers::{FaultNumbers, Refutation, fault_numbers, refute};
 pub use pairs::{build_bimap, build_map};
 pub use places::{Found, position_as};
+pub use quorum::{Checked, NoQuorum, Slot, quorum_of};
 pub use sets::{NotBuilt, build_set};
 pub use verdict::Verdict;
 pub use whole::{Misread, read_whole};

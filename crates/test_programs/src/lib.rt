@@ -27,6 +27,8 @@ mod long_conflicts;
 #[cfg(test)]
 mod long_inputs;
 #[cfg(test)]
+mod long_slots;
+#[cfg(test)]
 mod output;
 #[cfg(test)]
 mod refused_programs;

@@ -14,13 +14,13 @@ static CASES: [(&str, &str, &str); 4] = [
 ];
 
 /// Whether the judge answers a line by this, and ends with status 0.
-fn is_answered(alloc: Global, line: &str, answer: &str) -> Result<bool, AllocError> {
+pub(super) fn is_answered(alloc: Global, line: &str, answer: &str) -> Result<bool, AllocError> {
     let outcome = held(alloc, &of(line.as_bytes(), WHOLE))?;
     Ok(outcome.status == 0 && outcome.written.as_slice() == answer.as_bytes())
 }
 
 /// Appends the varint of a length below 2^21.
-fn append_length(line: &mut String<Global>, length: u32) -> Result<(), AllocError> {
+pub(super) fn append_length(line: &mut String<Global>, length: u32) -> Result<(), AllocError> {
     let (lowest, middle) = (length % 128, length / 128 % 128);
     if length < 128 {
         write!(line, "{lowest:02x}")

@@ -1,19 +1,22 @@
 -- The reply to each task is told by its verdict; and where an allocation fails, a line that asks for the task isn't
 -- memory-free.
-use Rattle.std.proofs.Common.{ℕ, List, Option, Some, None, refl, subst}
+use Rattle.std.proofs.Common.{ℕ, List, Option, Some, None, false, refl, subst, true}
 use Rattle.std.specs.Prelude.{IfNone, IfSome}
 use Rattle.judge_questions.specs.Tasks.{IsTask}
 use Rattle.judge_verdicts.specs.Builds.{MayFailToAllocateToBuild}
 use Rattle.judge_verdicts.specs.Collections.{IsBuilt, IsFoundIn, MayFailToAllocateToFindIn, lists_of}
 use Rattle.judge_verdicts.specs.Conflicts.{IsConflict}
+use Rattle.judge_verdicts.specs.Equivocations.{IsEquivocation}
+use Rattle.judge_verdicts.specs.Quorums.{IsChecked, checked_of}
 use Rattle.judge_verdicts.specs.Whole.{items_of}
 use Rattle.judge_verdicts.specs.declared.numbers.Refutation.{Refutation}
 use Rattle.judge_verdicts.proofs.Results.{on_error}
-use Rattle.judge_core.specs.Answered.{built, counted, found, named, refuted}
+use Rattle.judge_core.specs.Answered.{accused, built, checked, counted, found, named, refuted}
 use Rattle.judge_core.specs.Memory.{IsLineMemoryFree}
 use Rattle.judge_core.specs.Replies.{reply_text}
 use Rattle.judge_core.specs.Tasks.{IsRefuted}
-use Rattle.judge_core.proofs.Asked.{asked_build, asked_conflict, asked_faults, asked_position, asked_refute}
+use Rattle.judge_core.proofs.Asked.{asked_build, asked_conflict, asked_equivocation, asked_faults, asked_position}
+use Rattle.judge_core.proofs.Asked.{asked_quorum, asked_refute}
 use Rattle.judge_core.proofs.reply.reply_to_task.Goals as goal
 
 -- both cases of a refutation
@@ -60,6 +63,23 @@ returns-in_ok-conflict_of-in-Conflict-clause-told g c =
     let right = subst (λ t. IsConflict f.k f.n f.first t members) c.as_slice-in-Conflict-2.ensures half in
     λ line task. named f.k f.n f.first f.second members (asked_conflict {A = g.row.A.Denot} line f.k f.n f.first f.second (subst (IsTask line) f.is task)) right refl refl
 
+pub returns-in_ok-quorum_of-in-Quorum-clause-told : goal.returns-in_ok-quorum_of-in-Quorum-clause-told
+unfolding reply_text
+returns-in_ok-quorum_of-in-Quorum-clause-told g c =
+    let q = c.in-Quorum in
+    let made = checked_of c.in_ok-quorum_of-in-Quorum.field-0 in
+    let right = subst (λ t. IsChecked q.k q.n t made) c.as_slice-in-Quorum.ensures c.in_ok-quorum_of-in-Quorum.ensures in
+    λ line task. checked q.k q.n q.text made (asked_quorum {A = g.row.A.Denot} line q.k q.n q.text (subst (IsTask line) q.is task)) right refl refl
+
+pub returns-in_ok-equivocation_of-in-Equivocation-clause-told : goal.returns-in_ok-equivocation_of-in-Equivocation-clause-told
+unfolding reply_text
+returns-in_ok-equivocation_of-in-Equivocation-clause-told g c =
+    let e = c.in-Equivocation in
+    let members = items_of c.in_ok-equivocation_of-in-Equivocation.field-0 in
+    let half = subst (λ t. IsEquivocation e.k e.n t c.as_slice-in-Equivocation-2.result.now members) c.as_slice-in-Equivocation.ensures c.in_ok-equivocation_of-in-Equivocation.ensures in
+    let right = subst (λ t. IsEquivocation e.k e.n e.first t members) c.as_slice-in-Equivocation-2.ensures half in
+    λ line task. accused e.k e.n e.first e.second members (asked_equivocation {A = g.row.A.Denot} line e.k e.n e.first e.second (subst (IsTask line) e.is task)) right refl refl
+
 pub returns-in_err-build-in-Build-clause-memory : goal.returns-in_err-build-in-Build-clause-memory
 returns-in_err-build-in-Build-clause-memory g c =
     let b = c.in-Build in
@@ -79,4 +99,16 @@ pub returns-in_err-conflict_of-in-Conflict-clause-memory : goal.returns-in_err-c
 returns-in_err-conflict_of-in-Conflict-clause-memory g c =
     let f = c.in-Conflict in
     on_error ((line : List ℕ) → IsTask line c.args.task.now → ¬ IsLineMemoryFree line) c.from_residual-in_err-conflict_of-in-Conflict.result
-    (λ line task free. free.conflicts f.k f.n f.first f.second (asked_conflict {A = g.row.A.Denot} line f.k f.n f.first f.second (subst (IsTask line) f.is task)))
+    (λ line task free. free.conflicts false f.k f.n f.first f.second (asked_conflict {A = g.row.A.Denot} line f.k f.n f.first f.second (subst (IsTask line) f.is task)))
+
+pub returns-in_err-quorum_of-in-Quorum-clause-memory : goal.returns-in_err-quorum_of-in-Quorum-clause-memory
+returns-in_err-quorum_of-in-Quorum-clause-memory g c =
+    let q = c.in-Quorum in
+    on_error ((line : List ℕ) → IsTask line c.args.task.now → ¬ IsLineMemoryFree line) c.from_residual-in_err-quorum_of-in-Quorum.result
+    (λ line task free. free.quorums q.k q.n q.text (asked_quorum {A = g.row.A.Denot} line q.k q.n q.text (subst (IsTask line) q.is task)))
+
+pub returns-in_err-equivocation_of-in-Equivocation-clause-memory : goal.returns-in_err-equivocation_of-in-Equivocation-clause-memory
+returns-in_err-equivocation_of-in-Equivocation-clause-memory g c =
+    let e = c.in-Equivocation in
+    on_error ((line : List ℕ) → IsTask line c.args.task.now → ¬ IsLineMemoryFree line) c.from_residual-in_err-equivocation_of-in-Equivocation.result
+    (λ line task free. free.conflicts true e.k e.n e.first e.second (asked_equivocation {A = g.row.A.Denot} line e.k e.n e.first e.second (subst (IsTask line) e.is task)))

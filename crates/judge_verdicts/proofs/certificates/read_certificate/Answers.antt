@@ -9,7 +9,7 @@ use Rattle.judge_verdicts.specs.declared.whole.Misread.{Misread}
 use Rattle.judge_verdicts.specs.declared.whole.Misread.TheVariants.{Fault, LeftOver}
 use Rattle.judge_verdicts.proofs.Judged.{certificate_read}
 use Rattle.judge_verdicts.proofs.Results.{if_ok_so}
-use Rattle.judge_verdicts.proofs.conflict.read_certificate.Goals as goal
+use Rattle.judge_verdicts.proofs.certificates.read_certificate.Goals as goal
 
 -- a certificate is read by its parts
 by_parts : {A : Type 0} (v s : Bounds ℕ) (text : List ℕ) (read : Result (Certificate A) Misread) → MatchResult read (IsWhole (certificate_read A v s) text) (IsMisread (certificate_read A v s) text)
