@@ -167,8 +167,8 @@ fn each_verb_has_its_answer(rt: HostRuntime) {
 /// Each note in turn goes wrong: it is left, the next is written, and nothing else changes.
 #[test]
 fn a_failing_standard_error_changes_no_answer(rt: HostRuntime) {
-    let second = &NOTES.as_bytes()[25..];
-    for (at, said) in [(0, second), (1, &NOTES.as_bytes()[..25])] {
+    let second = &NOTES.as_bytes()[26..];
+    for (at, said) in [(0, second), (1, &NOTES.as_bytes()[..26])] {
         let mut wanted = of(TASKS.as_bytes(), 7);
         wanted.error_fault = Some((at, WriteFault::Fails(ErrorKind::BrokenPipe)));
         let outcome = held(rt.alloc(), &wanted).expect(&rt, "memory");
