@@ -1,0 +1,4 @@
+pub mod BigEndian
+pub mod FixedBytes
+pub mod Hex
+pub mod laws
