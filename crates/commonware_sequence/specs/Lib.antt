@@ -1,4 +1,5 @@
 pub mod BigEndian
 pub mod FixedBytes
 pub mod Hex
+pub mod U64
 pub mod laws

@@ -1,1 +1,2 @@
 pub mod FixedBytesLaws
+pub mod U64Laws

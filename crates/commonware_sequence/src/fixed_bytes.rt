@@ -8,6 +8,7 @@ mod convert;
 mod display;
 mod order;
 
+pub(crate) use codec::take_bytes;
 use commonware_base::EqClone;
 pub use convert::WrongLength;
 use std::marker::Model;

@@ -114,7 +114,7 @@ impl<A: Allocator, const N: usize> Read<A> for FixedBytes<N> {
 
 /// Takes the bytes that come next, which are there.
 #[inline(always)]
-fn take_bytes<const N: usize>(src: &mut Source<'_>) -> FixedBytes<N>
+pub(crate) fn take_bytes<const N: usize>(src: &mut Source<'_>) -> FixedBytes<N>
     requires { N ≤ length (rest_of src.old) }
     ensures consumed { Consumes src.old src.new (own_bytes result) }
     ensures of_size { IsOfSize N result }
