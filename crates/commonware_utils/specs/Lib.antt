@@ -5,5 +5,6 @@ pub mod MapError
 pub mod Ordered
 pub mod OrderedError
 pub mod Roots
+pub mod Sequence
 pub mod Vec
 pub mod VecError

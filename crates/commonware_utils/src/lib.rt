@@ -10,6 +10,7 @@ pub mod faults;
 pub mod headline;
 mod macros;
 pub mod ordered;
+pub mod sequence;
 pub mod vec;
 
 pub use commonware_base::{

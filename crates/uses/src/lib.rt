@@ -10,6 +10,7 @@ mod ranges;
 mod registries;
 mod roots;
 mod voters;
+mod weights;
 
 pub use committees::{is_member, signatures_needed};
 pub use messages::{read_members, write_members};
@@ -20,3 +21,4 @@ pub use ranges::{only, only_one_above_zero};
 pub use registries::{owner, powers, registry, registry_of};
 pub use roots::{first, is_before, room, signed_text};
 pub use voters::has_quorum;
+pub use weights::{Weights, read_weights};
