@@ -34,17 +34,13 @@ impl<A: Allocator, const N: usize> Write<A> for FixedBytes<N> {
         sink.extend_from_slice(&self.0)
     }
 
-    /// The bytes go into room that is reserved for all of them. Where a `usize` doesn't hold their
-    /// number, nothing is done.
+    /// The bytes go into room that is reserved for all of them.
     #[inline(always)]
     fn write_at_once(
         items: &[FixedBytes<N>],
         sink: &mut Vec<u8, A>,
     ) -> Option<Result<(), AllocError>> {
-        let Some(room) = items.len().checked_mul(N) else {
-            return None;
-        };
-        if let Err(error) = sink.reserve(room) {
+        if let Err(error) = sink.reserve(items.len() * N) {
             return Some(Err(error));
         }
         let start = sink.len();
