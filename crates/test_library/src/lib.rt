@@ -8,6 +8,8 @@ mod builders;
 #[cfg(test)]
 mod drawn;
 #[cfg(test)]
+mod fixed_bytes;
+#[cfg(test)]
 mod held_heaps;
 #[cfg(test)]
 mod keys_found;
@@ -53,3 +55,5 @@ mod scripted_devices;
 mod sorted_pairs;
 #[cfg(test)]
 mod stated_lengths;
+#[cfg(test)]
+mod u64_items;

@@ -12,14 +12,14 @@ use test_equipment::Refusing;
 use test_equipment::walk::{Heap, Outcome, Refusable, full, makes_requests, refused, requests};
 
 /// How many items there are.
-const MANY: u32 = 5000;
+pub(super) const MANY: u32 = 5000;
 
 /// The bytes of the length 5,000, which is 39 · 128 + 8.
 static LENGTH: [u8; 2] = [0x88, 0x27];
 
 /// Items, the bytes of all of them, and the bytes of the list of them.
 #[derive(Drop)]
-struct Row<T> {
+pub(super) struct Row<T> {
     items: Vec<T>,
     bytes: Vec<u8>,
     list: Vec<u8>,
@@ -27,7 +27,7 @@ struct Row<T> {
 
 impl<T: Drop> Row<T> {
     /// No items, with the length of many.
-    fn new(alloc: Global) -> Result<Self, AllocError> {
+    pub(super) fn new(alloc: Global) -> Result<Self, AllocError> {
         Ok(Row {
             items: Vec::new(alloc),
             bytes: Vec::new(alloc),
@@ -36,7 +36,7 @@ impl<T: Drop> Row<T> {
     }
 
     /// Appends an item, which has these bytes.
-    fn push(&mut self, item: T, bytes: &[u8]) -> Result<(), AllocError> {
+    pub(super) fn push(&mut self, item: T, bytes: &[u8]) -> Result<(), AllocError> {
         self.items.push(item)?;
         self.bytes.extend_from_slice(bytes)?;
         self.list.extend_from_slice(bytes)
@@ -44,7 +44,7 @@ impl<T: Drop> Row<T> {
 }
 
 /// The two lowest bytes of a number, the higher one first.
-fn lowest(number: u32) -> [u8; 2] {
+pub(super) fn lowest(number: u32) -> [u8; 2] {
     [(number / 256 % 256) as u8, (number % 256) as u8]
 }
 
@@ -132,7 +132,7 @@ impl<'r> Refusable for AtOnce<'r> {
 }
 
 /// The items written at once after three bytes, which a refusal leaves as they were.
-fn written<H: Heap, T: Write<H>>(heap: H, granted: u64, row: &Row<T>) -> Outcome {
+pub(super) fn written<H: Heap, T: Write<H>>(heap: H, granted: u64, row: &Row<T>) -> Outcome {
     match full_sink(heap, 3) {
         Ok(mut sink) => written_after(heap, granted, row, &mut sink),
         Err(_) => Outcome::Wrong,
@@ -158,7 +158,7 @@ fn written_after<H: Heap, T: Write<H>>(
 }
 
 /// The items read at once from a source, which a refusal leaves as it was.
-fn read<H: Heap, T: Read<H> + Eq + Drop>(
+pub(super) fn read<H: Heap, T: Read<H> + Eq + Drop>(
     heap: H,
     granted: u64,
     row: &Row<T>,
@@ -208,7 +208,7 @@ fn are_appended<T: Write<Global>>(
 
 /// Whether the first items of a row are written at once, `count` of `size` bytes each, into a sink
 /// of 0 to 100 bytes.
-fn are_appended_to_each<T: Write<Global> + Copy + Drop>(
+pub(super) fn are_appended_to_each<T: Write<Global> + Copy + Drop>(
     alloc: Global,
     row: &Row<T>,
     count: usize,
