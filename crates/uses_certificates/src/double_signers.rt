@@ -22,6 +22,11 @@ pub fn conflict_under<M: Resilience>(
 ) -> Result<Set<Participant, Global>, ConflictError>
     requires differ { first.now.value.items ≢ second.now.value.items }
     requires some { IsCommitteeSize (pos (length members.now)) }
+    ensures outside { let n = length members.now in IsErrOf result Outside
+        ↔ (HasOutsider n first.now.signers ⊎ HasOutsider n second.now.signers) }
+    ensures too_few { let n = length members.now in IsErrOf result TooFew
+        ↔ (AreMembers n first.now.signers × AreMembers n second.now.signers
+        × (AreTooFew M.faults n first.now.signers ⊎ AreTooFew M.faults n second.now.signers)) }
     ensures both { IfOk result (AreInBoth first.now.signers second.now.signers) }
     ensures many { IfOk result (λ both.
         (M.factor - 2) * M.faults (length members.now) + 1 ≤ length both) }
