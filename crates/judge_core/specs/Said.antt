@@ -3,7 +3,7 @@ use Rattle.std.specs.Prelude.{◌≡◌, ℕ, List, [], ◌∷◌, ◌++◌, Opt
 use Rattle.std.specs.Fmt.{decimal}
 use Rattle.std.specs.Io.KnownBytes.{Appends}
 use Rattle.std.specs.List.{flat_map}
-use Rattle.judge_core.specs.Tasks.{hex_text}
+use Rattle.commonware_utils.specs.Sequence.{hex_text}
 use Rattle.judge_core.specs.declared.report.Part.{Part}
 use Rattle.judge_core.specs.declared.report.Part.TheVariants.{Hex, Number, Text}
 

@@ -1,10 +1,9 @@
 -- The lines that tell of what a line asks for by a verb.
-use Rattle.std.specs.Prelude.{ℕ, ◌/◌, ◌%◌, ◌+◌, ◌-◌, ◌*◌, List, [], ◌∷◌, ◌++◌, Option, Some, None}
+use Rattle.std.specs.Prelude.{ℕ, ◌+◌, ◌-◌, ◌*◌, List, [], ◌∷◌, ◌++◌, Option, Some, None}
 use Rattle.std.specs.Prelude.{Result, Ok, Err, codes}
-use Rattle.std.specs.Char.{digit_char}
 use Rattle.std.specs.Fmt.{decimal}
-use Rattle.std.specs.List.{flat_map}
 use Rattle.commonware_utils.specs.Faults.{Overlap}
+use Rattle.commonware_utils.specs.Sequence.{hex_text}
 use Rattle.judge_verdicts.specs.Numbers.{IsRefutation}
 use Rattle.judge_verdicts.specs.declared.conflict.NoConflict.{NoConflict}
 use Rattle.judge_verdicts.specs.declared.conflict.NoConflict.TheVariants as conflicts
@@ -22,14 +21,6 @@ use Rattle.judge_verdicts.specs.declared.sets.NotBuilt.TheVariants as builts
 use Rattle.judge_verdicts.specs.declared.whole.Misread.{Misread}
 use Rattle.judge_verdicts.specs.declared.whole.Misread.TheVariants.{Fault, LeftOver}
 use Rattle.judge_core.specs.Faults.{error_text}
-
--- the two lowercase hexadecimal digits of a byte
-abbrev pub hex_digits : ℕ → List ℕ
-hex_digits b = digit_char (b / 16) ∷ digit_char (b % 16) ∷ []
-
--- the digits of each byte, those of the first byte first
-abbrev pub hex_text : List ℕ → List ℕ
-hex_text bytes = flat_map hex_digits bytes
 
 -- bytes as a word: their digits, or `-` where there are none
 abbrev pub word_text : List ℕ → List ℕ

@@ -34,8 +34,8 @@ pub use judge_questions::{
 };
 pub use judge_verdicts::{
     Checked, CountItems, FaultNumbers, Found, Misread, NoConflict, NoEquivocation, NoQuorum,
-    NotBuilt, Refutation, Slot, Verdict, build, conflict_of, equivocation_of, fault_numbers, judge,
-    judge_as, position, quorum_of, refute,
+    NotBuilt, Refutation, SlotAndDecision, Verdict, build, conflict_of, equivocation_of,
+    fault_numbers, judge, judge_as, position, quorum_of, refute,
 };
 pub use reply::{Reply, reply_to};
 pub use runs::run;

@@ -4,13 +4,14 @@
 //! allocation, however much is said.
 ghost use Rattle.std.specs.Prelude.{◌≡◌, ◌<◌, ◌≤◌, ◌++◌, ◌∷◌, [], length, true, Ok, OnErr, OnOk, Some};
 ghost use Rattle.std.specs.Char.{digit_char};
+ghost use Rattle.commonware_utils.specs.Sequence.{hex_text};
 ghost use Rattle.judge_core.specs.Answered.{answer_line, unreadable_text};
 ghost use Rattle.judge_core.specs.Faults.{error_text};
 ghost use Rattle.judge_core.specs.Replies.{reply_text};
 ghost use Rattle.judge_core.specs.Said.{Says, line_text, part_text, parts_text};
 ghost use Rattle.judge_core.specs.Tasks.{built_line, conflict_line, equivocation_line, found_line};
-ghost use Rattle.judge_core.specs.Tasks.{hex_text, misread_line, numbers_line, quorum_line};
-ghost use Rattle.judge_core.specs.Tasks.{refuted_line, word_text};
+ghost use Rattle.judge_core.specs.Tasks.{misread_line, numbers_line, quorum_line, refuted_line};
+ghost use Rattle.judge_core.specs.Tasks.{word_text};
 ghost use Rattle.judge_verdicts.specs.Quorums.{checked_of};
 ghost use Rattle.judge_verdicts.specs.Whole.{items_of};
 

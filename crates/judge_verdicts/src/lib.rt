@@ -26,7 +26,7 @@ pub use judgement::{judge, judge_as};
 pub use numbers::{FaultNumbers, Refutation, fault_numbers, refute};
 pub use pairs::{build_bimap, build_map};
 pub use places::{Found, position_as};
-pub use quorum::{Checked, NoQuorum, Slot, quorum_of};
+pub use quorum::{Checked, NoQuorum, SlotAndDecision, quorum_of};
 pub use sets::{NotBuilt, build_set};
 pub use verdict::Verdict;
 pub use whole::{Misread, read_whole};

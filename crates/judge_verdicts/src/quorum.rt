@@ -9,7 +9,7 @@ use commonware_utils::faults::tolerated_faults;
 use std::alloc::{AllocError, Allocator};
 
 /// A slot, and a decision for it.
-pub type Slot<A> = (Vec<u8, A>, Vec<u8, A>);
+pub type SlotAndDecision<A> = (Vec<u8, A>, Vec<u8, A>);
 
 /// A certificate that a quorum of members signed.
 ///
@@ -20,7 +20,7 @@ pub struct Checked<A: Allocator> {
     /// How many signed it.
     pub signers: usize,
     /// The slot and the decision that its value is, or `None` where it has no slot.
-    pub slot: Option<Slot<A>>,
+    pub slot: Option<SlotAndDecision<A>>,
 }
 
 /// Why a certificate, which is an encoding, isn't one of a quorum.
@@ -63,7 +63,10 @@ pub fn quorum_of<A: Allocator + Copy>(
 }
 
 /// The slot and the decision that the value is, or `None` where it has no slot.
-fn copied_slot<A: Allocator + Copy>(alloc: A, value: &[u8]) -> Result<Option<Slot<A>>, AllocError>
+fn copied_slot<A: Allocator + Copy>(
+    alloc: A,
+    value: &[u8],
+) -> Result<Option<SlotAndDecision<A>>, AllocError>
     ensures { IfOk result (λ slot. IsSlotOf value.now (slot_items slot)) }
 {
     match slot_of(value) {

@@ -13,7 +13,7 @@ static CASES: [(&str, &str, &str); 4] = [
     ("0103000102", "02020102", "TooFew\n"),
 ];
 
-/// Appends so many bytes `aa`, or `-` where there are none.
+/// Appends this number of bytes `aa`, or `-` where there are none.
 fn append_word(line: &mut String<Global>, length: u32) -> Result<(), AllocError> {
     if length == 0 {
         return line.push_str("-");
@@ -21,7 +21,7 @@ fn append_word(line: &mut String<Global>, length: u32) -> Result<(), AllocError>
     append_bytes(line, length)
 }
 
-/// Appends so many bytes `aa`.
+/// Appends this number of bytes `aa`.
 fn append_bytes(line: &mut String<Global>, length: u32) -> Result<(), AllocError> {
     for _ in 0..length {
         line.push_str("aa")?;
@@ -38,8 +38,8 @@ fn varint_length(length: u32) -> u32 {
     }
 }
 
-/// Appends a certificate of a value whose slot has so many bytes `aa` and whose decision has one,
-/// which the end begins with.
+/// Appends a certificate of a value whose slot has this number of bytes `aa` and whose decision has
+/// one, which the end begins with.
 fn append_certificate(line: &mut String<Global>, length: u32, end: &str) -> Result<(), AllocError> {
     let value = length
         .saturating_add(varint_length(length))

@@ -1,11 +1,10 @@
 //! Module `sequence`: the weights of members whose keys have 20 bytes.
-ghost use Rattle.std.specs.Prelude.{ℕ, IfErr, IfOk, List};
+ghost use Rattle.std.specs.Prelude.{IfErr, IfOk};
 ghost use Rattle.commonware_utils.specs.Codec.{Accepts, Refuses};
 ghost use Rattle.commonware_utils.specs.Ordered.{IsAllowedMap, IsWritableMap, map_enc};
 ghost use Rattle.commonware_utils.specs.Sequence.{IsOfSize, IsU64, bytes_cmp, own_bytes, u64_bytes};
 
-use commonware_utils::codec::{Error, RangeCfg, Read};
-use commonware_utils::headline::decode;
+use commonware_utils::codec::{Error, RangeCfg, Read, Source};
 use commonware_utils::ordered::Map;
 use commonware_utils::sequence::{FixedBytes, U64};
 use std::alloc::Global;
@@ -23,11 +22,12 @@ pub fn read_weights<'a>(
     ensures accepted { IfOk result (λ p. Accepts (map_enc own_bytes u64_bytes)
         (IsWritableMap (IsOfSize 20) bytes_cmp IsU64)
         (IsAllowedMap allowed (λ _. Unit {0}) (λ _. Unit {0})) bytes.now p.0 p.1.now) }
-    ensures only { IfErr result (Refuses (λ _. (weights : List (List ℕ × ℕ)) (rest : List ℕ)
-        → ¬ Accepts (map_enc own_bytes u64_bytes) (IsWritableMap (IsOfSize 20) bytes_cmp IsU64)
-        (IsAllowedMap allowed (λ _. Unit {0}) (λ _. Unit {0})) bytes.now weights rest)
+    ensures refused { IfErr result (Refuses
+        (⟦<Map<FixedBytes<20>, U64, Global> as Read<Global>>⟧.fault (allowed, tt, tt) bytes.now)
         (⟦<Map<FixedBytes<20>, U64, Global> as Read<Global>>⟧.memory_free (allowed, tt, tt)
         bytes.now)) }
 {
-    decode::<Weights, Global>(alloc, bytes, &(allowed, (), ()))
+    let mut source = Source::new(bytes);
+    let weights = Map::read_cfg(alloc, &mut source, &(allowed, (), ()))?;
+    Ok((weights, source.rest()))
 }

@@ -1,6 +1,6 @@
 use Rattle.std.proofs.Common.{◌/◌, [], ◌∷◌, get_or, ap, ◌∙◌}
 use Rattle.std.specs.Char.{digit_char}
-use Rattle.judge_core.specs.Tasks.{hex_digits}
+use Rattle.commonware_utils.specs.Sequence.{hex_digits}
 use Rattle.judge_core.proofs.Saying.{says_more}
 use Rattle.judge_core.proofs.report.say_hex.Goals as goal
 

@@ -1,7 +1,7 @@
 use Rattle.std.proofs.Common.{◌≡◌, take}
 use Rattle.std.specs.List.{flat_map}
+use Rattle.commonware_utils.specs.Sequence.{hex_digits}
 use Rattle.judge_core.specs.Said.{Says}
-use Rattle.judge_core.specs.Tasks.{hex_digits}
 use Rattle.judge_core.proofs.report.say_hex.Given as goal
 
 -- the digits of the bytes so far were said
