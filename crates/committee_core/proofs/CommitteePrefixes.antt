@@ -13,7 +13,7 @@ use Rattle.commonware_base.specs.Varint.{varint}
 use Rattle.commonware_base.specs.declared.codec.error.Error.{Error}
 use Rattle.commonware_ordered.specs.laws.SetPrefixLaws.{set_fault_determined}
 use Rattle.commonware_ordered.specs.Sets.{SetFault}
-use Rattle.committee_core.specs.laws.MemberLaws.{member_length}
+use Rattle.commonware_sequence.specs.laws.FixedBytesLaws.{fixed_length}
 use Rattle.committee_core.specs.Members.{IsMember, member_bytes, member_cmp, member_fault}
 use Rattle.committee_core.specs.Run.{members_range, prefix_size, IsCommittee, IsCommitteeMemoryFree, committee_fault}
 
@@ -24,12 +24,12 @@ member_determined f s more h = ((λ w. absurd (omega (arith, w.0))), (λ w. absu
 -- the first bytes determine the fault
 committee_fault_determined : (f : Fault) → IsDeterminedBy prefix_size (λ s. committee_fault s f)
 committee_fault_determined =
-    set_fault_determined member_bytes IsMember (λ _. Unit {0}) member_cmp member_fault (λ _. Unit {0}) members_range 32 256 member_length (λ n w. w.below) member_determined
+    set_fault_determined member_bytes IsMember (λ _. Unit {0}) member_cmp member_fault (λ _. Unit {0}) members_range 32 256 (fixed_length 32) (λ n w. w.below) member_determined
 
 -- and whether an allocation is needed
 memory_free_determined : IsDeterminedBy prefix_size IsCommitteeMemoryFree
 memory_free_determined =
-    list_memory_free_determined member_bytes IsMember (λ _. Unit {0}) member_fault (λ _. Unit {0}) members_range 32 256 member_length (λ n w. w.below) member_determined (omega arith) (λ s more h. ((λ w. tt), (λ w. tt)))
+    list_memory_free_determined member_bytes IsMember (λ _. Unit {0}) member_fault (λ _. Unit {0}) members_range 32 256 (fixed_length 32) (λ n w. w.below) member_determined (omega arith) (λ s more h. ((λ w. tt), (λ w. tt)))
 
 -- An error of the prefix, which a reader takes from bytes under a range, is one of the whole.
 pub prefix_refused : (range : Bounds ℕ) (text s prefix : List ℕ) (error : Error) → range ≡ members_range → text ≡ prefix → IsLongPrefix prefix_size s prefix

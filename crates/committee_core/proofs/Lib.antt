@@ -1,5 +1,3 @@
-pub mod BigEndian
-pub mod Chunks
 pub mod CommitteePrefixes
 pub mod Counts
 pub mod Ends

@@ -1,7 +1,7 @@
 -- The text of the report.
 use Rattle.std.specs.Prelude.{◌≡◌, ℕ, ◌+◌, ◌-◌, List, [], ◌∷◌, ◌++◌, length, codes}
 use Rattle.std.specs.Fmt.{decimal}
-use Rattle.committee_core.specs.Hex.{hex_text}
+use Rattle.commonware_sequence.specs.Hex.{hex_text}
 use Rattle.committee_core.specs.Numbers.{AreNumbers}
 
 -- a line feed

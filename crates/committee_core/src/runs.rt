@@ -14,7 +14,7 @@ use crate::input::read_prefix;
 use crate::member::Member;
 use crate::report::committee_report;
 use commonware_base::codec;
-use commonware_base::codec::{MaxEncodeSize, RangeCfg, Source};
+use commonware_base::codec::{RangeCfg, Source};
 use commonware_ordered::Set;
 use program_io::{Watched, write_whole};
 use std::alloc::Allocator;
@@ -24,7 +24,7 @@ use std::io::{Read, Write};
 const MOST_MEMBERS: usize = 256;
 
 /// How many first bytes determine what all are: a length has at most five, and each member has 32.
-const PREFIX_SIZE: usize = 5 + MOST_MEMBERS * Member::MAX_ENCODE_SIZE;
+const PREFIX_SIZE: usize = 5 + MOST_MEMBERS * 32;
 
 /// Executes the command: writes its report, and flushes.
 ///

@@ -8,22 +8,22 @@ use Rattle.std.proofs.lemmas.Cmp.{nat_list_cmp_total}
 use Rattle.std.proofs.lemmas.Map.Keys.{Less-from_sorted}
 use Rattle.commonware_ordered.specs.Strict.{IsStrict}
 use Rattle.commonware_ordered.specs.laws.StrictLaws.{sorted_from_strict}
-use Rattle.committee_core.specs.Members.{member_cmp}
+use Rattle.commonware_sequence.specs.FixedBytes.{bytes_cmp}
 use Rattle.commonware_c.specs.Gaps.{IsGapFor}
 
 -- no key is below itself
-pub not_below_itself : (x : List ℕ) → member_cmp x x ≡ Less → ⊥
+pub not_below_itself : (x : List ℕ) → bytes_cmp x x ≡ Less → ⊥
 not_below_itself x e = let back = nat_list_cmp_total.antisymm x x in cc
 
 -- what is greater comes the other way round
-below_from_greater : (x y : List ℕ) → member_cmp x y ≡ Greater → member_cmp y x ≡ Less
+below_from_greater : (x y : List ℕ) → bytes_cmp x y ≡ Greater → bytes_cmp y x ≡ Less
 below_from_greater x y e = nat_list_cmp_total.antisymm y x ∙ ap ordering_reverse e
 
-module _ (key : List ℕ) (members : List (List ℕ)) (index : ℕ) (strict : IsStrict member_cmp members)
+module _ (key : List ℕ) (members : List (List ℕ)) (index : ℕ) (strict : IsStrict bytes_cmp members)
     (gap : IsGapFor key members index) where
   -- of two places of the list the member at the first is less
-  rising : (i j : ℕ) → i < j → j < length members → member_cmp (get_or members i key) (get_or members j key) ≡ Less
-  rising i j = Less-from_sorted member_cmp members i j key (sorted_from_strict nat_list_cmp_total members strict)
+  rising : (i j : ℕ) → i < j → j < length members → bytes_cmp (get_or members i key) (get_or members j key) ≡ Less
+  rising i j = Less-from_sorted bytes_cmp members i j key (sorted_from_strict nat_list_cmp_total members strict)
 
   -- the key isn't before the gap
   not_before : (k : ℕ) → k < index → get_or members k key ≡ key → ⊥
@@ -32,10 +32,10 @@ module _ (key : List ℕ) (members : List (List ℕ)) (index : ℕ) (strict : Is
       elim (cases_lt k (index - 1)) [
         | inl less ↦
             let up = rising k (index - 1) less (omega (arith, before, gap.within)) in
-            not_below_itself key (nat_list_cmp_total.trans key (get_or members (index - 1) key) key (subst (λ x. member_cmp x (get_or members (index - 1) key) ≡ Less) e up) above)
+            not_below_itself key (nat_list_cmp_total.trans key (get_or members (index - 1) key) key (subst (λ x. bytes_cmp x (get_or members (index - 1) key) ≡ Less) e up) above)
         | inr most ↦
             let here : k ≡ index - 1 = omega (arith, before, most) in
-            not_below_itself key (subst (λ x. member_cmp x key ≡ Less) (ap (λ n. get_or members n key) (sym here) ∙ e) above)
+            not_below_itself key (subst (λ x. bytes_cmp x key ≡ Less) (ap (λ n. get_or members n key) (sym here) ∙ e) above)
       ]
 
   -- nor after it
@@ -45,10 +45,10 @@ module _ (key : List ℕ) (members : List (List ℕ)) (index : ℕ) (strict : Is
       elim (cases_lt index k) [
         | inl less ↦
             let up = rising index k less within in
-            not_below_itself key (nat_list_cmp_total.trans key (get_or members index key) key below (subst (λ x. member_cmp (get_or members index key) x ≡ Less) e up))
+            not_below_itself key (nat_list_cmp_total.trans key (get_or members index key) key below (subst (λ x. bytes_cmp (get_or members index key) x ≡ Less) e up))
         | inr most ↦
             let here : k ≡ index = omega (arith, after, most) in
-            not_below_itself key (subst (λ x. member_cmp key x ≡ Less) (ap (λ n. get_or members n key) (sym here) ∙ e) below)
+            not_below_itself key (subst (λ x. bytes_cmp key x ≡ Less) (ap (λ n. get_or members n key) (sym here) ∙ e) below)
       ]
 
   pub not_in_gap : Contains members key → ⊥

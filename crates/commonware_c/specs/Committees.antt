@@ -9,7 +9,7 @@ use Rattle.commonware_base.specs.Range.{Bounds}
 use Rattle.commonware_base.specs.Text.{Accepts}
 use Rattle.commonware_ordered.specs.Dedup.{IsDedup}
 use Rattle.commonware_ordered.specs.Sets.{IsWritableSet, SetFault}
-use Rattle.committee_core.specs.Members.{IsMember, member_bytes, member_cmp, member_fault}
+use Rattle.commonware_sequence.specs.FixedBytes.{IsOfSize, bytes_cmp, own_bytes, size_fault}
 
 -- the lengths from least to most
 abbrev pub between : ℕ → ℕ → Bounds ℕ
@@ -18,13 +18,13 @@ between least most = record { lower = Some least; upper = Included most }
 -- s is the encoding of a set of least to most members, and then rest
 abbrev pub IsCommitteeOf : ℕ → ℕ → List ℕ → List (List ℕ) → List ℕ → Type 0
 IsCommitteeOf least most s members rest =
-    Accepts (list_enc member_bytes) (IsWritableSet IsMember member_cmp)
+    Accepts (list_enc own_bytes) (IsWritableSet (IsOfSize 32) bytes_cmp)
     (IsAllowedList (between least most) (λ _. Unit {0})) s members rest
 
 -- the first fault of s, where s begins with no committee of least to most members
 abbrev pub committee_fault : ℕ → ℕ → List ℕ → Fault → Type 0
 committee_fault least most =
-    SetFault member_bytes IsMember member_cmp (λ _. Unit {0}) member_fault (between least most)
+    SetFault own_bytes (IsOfSize 32) bytes_cmp (λ _. Unit {0}) (size_fault 32) (between least most)
 
 -- each member is the 32 bytes of s at its index, counted in members from start on
 abbrev pub StandAt : List ℕ → ℕ → List (List ℕ) → Type 0
@@ -34,13 +34,13 @@ StandAt s start members = (i : ℕ) (m : List ℕ) → slice_get members i ≡ S
 pub record AreKeys (keys : List (List ℕ)) (count : ℕ) (s : List ℕ) : Type 0 where
   pub number : length keys ≡ count
   pub enough : count * 32 ≤ length s
-  pub each : AllByRecursion IsMember keys
-  pub bytes : take (count * 32) s ≡ flat_map member_bytes keys
+  pub each : AllByRecursion (IsOfSize 32) keys
+  pub bytes : take (count * 32) s ≡ flat_map own_bytes keys
 
 -- the set is these keys in order, of equal ones one; it has `count` members, no more than the keys, and `size` bytes
 pub record IsSetOf (keys set : List (List ℕ)) (count size : ℕ) : Type 0 where
-  pub dedup : IsDedup (pointwise nat_eq) member_cmp keys set
+  pub dedup : IsDedup (pointwise nat_eq) bytes_cmp keys set
   pub count_is : count ≡ length set
   pub count_most : count ≤ length keys
-  pub size_is : size ≡ length (list_enc member_bytes set)
+  pub size_is : size ≡ length (list_enc own_bytes set)
   pub size_most : size ≤ 5 + 32 * count

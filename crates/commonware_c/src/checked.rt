@@ -3,12 +3,12 @@ ghost use Rattle.std.specs.Prelude.{◌≡◌, ◌↔◌, ◌*◌, ◌<◌, ℕ,
 ghost use Rattle.commonware_base.specs.Refusal.{Refuses};
 ghost use Rattle.commonware_base.specs.Source.{rest_of};
 ghost use Rattle.commonware_ordered.specs.Strict.{IsStrict};
-ghost use Rattle.committee_core.specs.BigEndian.{number_at};
-ghost use Rattle.committee_core.specs.Members.{member_cmp};
+ghost use Rattle.commonware_sequence.specs.BigEndian.{number_at};
+ghost use Rattle.commonware_sequence.specs.FixedBytes.{bytes_cmp};
 ghost use Rattle.commonware_c.specs.Committees.{AreKeys, IsCommitteeOf, committee_fault};
 
-use committee_core::Member;
 use commonware_base::codec::{Error, RangeCfg, Read, Source, UInt};
+use commonware_sequence::FixedBytes;
 use std::alloc::Global;
 use std::cmp::Ordering;
 
@@ -58,7 +58,7 @@ fn keys_of<'a>(src: &Source<'a>, count: usize) -> Option<&'a [[u8; 32]]>
 /// Whether the keys are strictly increasing: each is less than the next.
 #[inline(always)]
 fn are_in_order(keys: &[[u8; 32]]) -> bool
-    ensures { IsTrue result ↔ IsStrict member_cmp keys.now }
+    ensures { IsTrue result ↔ IsStrict bytes_cmp keys.now }
 {
     keys.is_sorted_by(|x, y| order(x, y).is_lt())
 }
@@ -67,7 +67,7 @@ fn are_in_order(keys: &[[u8; 32]]) -> bool
 /// bytes, which are compared in place.
 #[inline(always)]
 pub(crate) fn order(x: &[u8; 32], y: &[u8; 32]) -> Ordering
-    ensures { result ≡ member_cmp x.now y.now }
+    ensures { result ≡ bytes_cmp x.now y.now }
 {
     let a = first_word(x);
     let b = first_word(y);
@@ -90,7 +90,7 @@ fn first_word(key: &[u8; 32]) -> u64
 /// Returns the order of two keys by all their bytes.
 #[inline(never)]
 fn whole_order(x: &[u8; 32], y: &[u8; 32]) -> Ordering
-    ensures { result ≡ member_cmp x.now y.now }
+    ensures { result ≡ bytes_cmp x.now y.now }
 {
-    Member::new(*x).cmp(&Member::new(*y))
+    FixedBytes::new(*x).cmp(&FixedBytes::new(*y))
 }

@@ -2,7 +2,7 @@
 ghost use Rattle.std.specs.Prelude.{◌≡◌, ◌≢◌, ◌↔◌, ◌<◌, Contains, length};
 ghost use Rattle.std.specs.List.{HoldsAt};
 ghost use Rattle.commonware_ordered.specs.Strict.{IsStrict};
-ghost use Rattle.committee_core.specs.Members.{member_cmp};
+ghost use Rattle.commonware_sequence.specs.FixedBytes.{bytes_cmp};
 ghost use Rattle.commonware_c.specs.Gaps.{IsGapFor};
 
 use crate::checked::order;
@@ -34,7 +34,7 @@ pub extern "C" fn commonware_committee_index(members: &[[u8; 32]], key: &[u8; 32
         × HoldsAt (λ member. member ≡ key.now) members.now result.index }
     ensures absent { result.status ≢ 0 → (result.status ≡ 12)
         × IsGapFor key.now members.now result.index }
-    ensures exactly { IsStrict member_cmp members.now
+    ensures exactly { IsStrict bytes_cmp members.now
         → (result.status ≡ 0) ↔ Contains members.now key.now }
 {
     let mut low = 0;

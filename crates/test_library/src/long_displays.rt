@@ -1,5 +1,5 @@
-//! The texts of many items, and of a member, on a writer that takes all.
-use committee_core::Member;
+//! The texts of many items, and of a key, on a writer that takes all.
+use commonware_sequence::FixedBytes;
 use commonware_utils::TryFromIterator;
 use commonware_utils::ordered::{BiMap, Map, Set};
 use std::alloc::Global;
@@ -53,14 +53,13 @@ fn many_items_are_shown(rt: HostRuntime) {
     assert!(rt; is_shown(alloc, &bimap, &pairs(&rt, alloc)));
 }
 
-/// A member for debugging is its 32 bytes as numbers, under its name.
+/// A key for debugging is 64 hexadecimal digits.
 #[test]
-fn a_member_is_shown_for_debugging(rt: HostRuntime) {
+fn a_key_is_shown_for_debugging(rt: HostRuntime) {
     let mut bytes = [0; 32];
     bytes[1] = 255;
-    let text = format!(in rt.alloc(); "{:?}", Member::new(bytes)).expect(&rt, "memory");
-    assert!(rt; text.as_str().starts_with("Member([0, 255, 0, 0, "));
-    assert!(rt; text.as_str().ends_with(", 0, 0])"));
-    // "Member([" and "])" are 10 bytes, 31 zeros 31, "255" 3, and 31 times ", " 62.
-    assert!(rt; text.len() == 106);
+    let text = format!(in rt.alloc(); "{:?}", FixedBytes::new(bytes)).expect(&rt, "memory");
+    // The digits of a zero, of 255 and of 30 zeros.
+    let digits = "00ff000000000000000000000000000000000000000000000000000000000000";
+    assert_eq!(&rt; text.as_str(), digits);
 }

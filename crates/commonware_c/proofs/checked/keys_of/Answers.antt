@@ -4,8 +4,8 @@ use Rattle.std.specs.Simd.{first_chunks}
 use Rattle.std.proofs.lemmas.List.{length-take-le}
 use Rattle.commonware_base.specs.Source.{rest_of}
 use Rattle.commonware_base.specs.laws.SourceLaws.{rest_bytes}
-use Rattle.committee_core.specs.laws.MemberLaws.{bytes_left}
-use Rattle.committee_core.specs.Members.{IsMember, member_bytes}
+use Rattle.commonware_sequence.specs.laws.FixedBytesLaws.{bytes_left}
+use Rattle.commonware_sequence.specs.FixedBytes.{IsOfSize, own_bytes}
 use Rattle.commonware_c.proofs.Chunks.{chunks_are_members, chunks_are_bytes}
 use Rattle.commonware_c.proofs.checked.keys_of.Goals as goal
 
@@ -22,6 +22,6 @@ returns-clause-keys c =
     record {
       number = c.as_chunks.ensures.front_len ∙ (ap (λ s. length (take (count * 32) s) / 32) c.rest.ensures ∙ same);
       enough = enough;
-      each = subst (AllByRecursion IsMember) (sym keys) (chunks_are_members count taken (bytes_left (count * 32) rest (rest_bytes c.args.src.now)) (omega (arith, long)));
-      bytes = sym (ap (flat_map member_bytes) keys ∙ chunks_are_bytes count taken long);
+      each = subst (AllByRecursion (IsOfSize 32)) (sym keys) (chunks_are_members count taken (bytes_left (count * 32) rest (rest_bytes c.args.src.now)) (omega (arith, long)));
+      bytes = sym (ap (flat_map own_bytes) keys ∙ chunks_are_bytes count taken long);
     }

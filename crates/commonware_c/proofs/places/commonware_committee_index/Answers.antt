@@ -2,7 +2,7 @@ use Rattle.std.proofs.Common.{◌≡◌, ◌<◌, ◌≤◌, ◌+◌, ◌-◌, �
 use Rattle.std.specs.declared.cmp.Ordering.TheVariants.{Greater}
 use Rattle.std.proofs.lemmas.List.{get_or_default}
 use Rattle.std.proofs.lemmas.Map.Lookups.{exact_bytes}
-use Rattle.committee_core.specs.Members.{member_cmp}
+use Rattle.commonware_sequence.specs.FixedBytes.{bytes_cmp}
 use Rattle.commonware_c.proofs.NoGap.{not_in_gap}
 use Rattle.commonware_c.proofs.places.commonware_committee_index.Goals as goal
 
@@ -29,6 +29,6 @@ returns-clause-exactly c = λ strict.
       (λ has. absurd (not_in_gap c.args.key.now c.args.members.now c.loop-low.low strict (record {
         within = omega (arith, same, c.loop-low.invariant.1);
         above = c.loop-low.invariant.2;
-        below = λ less d. subst (λ n. member_cmp (get_or c.args.members.now n d) c.args.key.now ≡ Greater) same (c.loop-low.invariant.3 (omega (arith, same, less)) d);
+        below = λ less d. subst (λ n. bytes_cmp (get_or c.args.members.now n d) c.args.key.now ≡ Greater) same (c.loop-low.invariant.3 (omega (arith, same, less)) d);
       }) has)),
     )

@@ -1,7 +1,7 @@
 use Rattle.std.proofs.Common.{◌≡◌, ◌∙◌, ◌+◌, ◌*◌, ◌<◌, ◌≤◌, ◌^◌, ◌++◌, ℕ, List, length, arith, ap, nat_eq}
 use Rattle.std.specs.List.{AllByRecursion, flat_map}
 use Rattle.std.specs.Cmp.Lexicographic.{pointwise}
-use Rattle.committee_core.specs.Members.{member_bytes, member_cmp}
+use Rattle.commonware_sequence.specs.FixedBytes.{bytes_cmp, own_bytes}
 use Rattle.commonware_base.specs.Varint.{varint}
 use Rattle.commonware_base.specs.laws.VarintLaws.{varint-length}
 use Rattle.commonware_ordered.specs.Dedup.{IsDedup}
@@ -19,7 +19,7 @@ overflow_add-view c =
     omega (arith, varint-length c.len-count.result (omega (arith, c.if-count.false)), c.encode_size.ensures, c.if-count.false)
 
 -- the number of its members, and of its bytes
-is_set : (keys set : List (List ℕ)) (count size : ℕ) → IsDedup (pointwise nat_eq) member_cmp keys set
+is_set : (keys set : List (List ℕ)) (count size : ℕ) → IsDedup (pointwise nat_eq) bytes_cmp keys set
     → AllByRecursion (λ m. length m ≡ 32) set → count < 2 ^ 32 → count ≡ length set
     → size ≡ length (varint count) → IsSetOf keys set count (size + 32 * count)
 is_set keys set count size dedup each short same number_at =
@@ -50,7 +50,7 @@ returns-clause-written c = λ _.
     let fits : 0 + length (varint count) ≤ length c.args.out.now = omega (arith, c.if-out-view.false, c.encode_size.ensures) in (
       set,
       all,
-      c.put_members.ensures ∙ ap (λ xs. spliced c.put_varint-start.result (flat_map member_bytes xs) c.put_varint-start.new.out) c.as_slice.ensures.items
-          ∙ spliced_on 0 c.put_varint-start.result (varint count) (flat_map member_bytes set) c.put_varint-start.new.out c.args.out.now fits c.put_varint-start.ensures.place c.put_varint-start.ensures.bytes
-          ∙ ap (λ n. spliced 0 (varint n ++ flat_map member_bytes set) c.args.out.now) c.len-count.ensures,
+      c.put_members.ensures ∙ ap (λ xs. spliced c.put_varint-start.result (flat_map own_bytes xs) c.put_varint-start.new.out) c.as_slice.ensures.items
+          ∙ spliced_on 0 c.put_varint-start.result (varint count) (flat_map own_bytes set) c.put_varint-start.new.out c.args.out.now fits c.put_varint-start.ensures.place c.put_varint-start.ensures.bytes
+          ∙ ap (λ n. spliced 0 (varint n ++ flat_map own_bytes set) c.args.out.now) c.len-count.ensures,
     )
