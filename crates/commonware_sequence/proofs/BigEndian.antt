@@ -3,7 +3,7 @@ use Rattle.std.specs.Cmp.Lexicographic.{slice_cmp}
 use Rattle.std.specs.Slice.Scan.{big_endian}
 use Rattle.std.specs.Ordering.{ordering_then}
 use Rattle.std.proofs.Common.{◌≡◌, ℕ, zero, suc, ◌+◌, ◌*◌, ◌<◌, ◌≤◌, List, [], ◌∷◌, length, get_or, take, drop, length-drop, nat_cmp, Ordering, Less, Equal, Greater, arith, ap, sym, subst, subst₂, refl, ◌∙◌}
-use Rattle.std.proofs.lemmas.List.{drop-drop, drop_all}
+use Rattle.std.proofs.lemmas.List.{drop-drop}
 use Rattle.std.proofs.lemmas.Map.Lookups.{exact_unsigned}
 use Rattle.std.proofs.lemmas.Cmp.{by_ranked, ranked, nat_cmp_total, tied_itself}
 use Rattle.commonware_sequence.specs.BigEndian.{number_at, IsDetermined}
@@ -74,17 +74,6 @@ determined_further n i xs ys a b p q h g is level =
     ∙ numbers_in_order n (drop i xs) (drop i ys) 0 p1 q1 (bytes_past i xs h) (bytes_past i ys g)
     ∙ ap (λ l. ordering_then (nat_cmp (number_at n i xs) (number_at n i ys)) (slice_cmp nat_cmp l (drop n (drop i ys)))) (drop-drop n i xs)
     ∙ ap (λ l. ordering_then (nat_cmp (number_at n i xs) (number_at n i ys)) (slice_cmp nat_cmp (drop (i + n) xs) l)) (drop-drop n i ys)
-
-then_equal : (o : Ordering) → ordering_then o Equal ≡ o
-then_equal Less = refl
-then_equal Equal = refl
-then_equal Greater = refl
-
--- where nothing is past the place, the numbers tell the order
-pub determined_whole : (n : ℕ) (xs ys : List ℕ) (a b : ℕ) → length xs ≡ n → length ys ≡ n → IsDetermined xs ys n a b → nat_cmp a b ≡ slice_cmp nat_cmp xs ys
-determined_whole n xs ys a b p q is =
-    sym (is ∙ ap (λ l. ordering_then (nat_cmp a b) (slice_cmp nat_cmp l (drop n ys))) (drop_all n xs (omega (arith, p)))
-    ∙ ap (λ l. ordering_then (nat_cmp a b) (slice_cmp nat_cmp [] l)) (drop_all n ys (omega (arith, q))) ∙ then_equal (nat_cmp a b))
 
 -- what determines an order is the order
 then_apart : (o rest : Ordering) → ¬ (o ≡ Equal) → o ≡ ordering_then o rest
