@@ -3,13 +3,16 @@ ghost use Rattle.std.specs.Prelude.{◌≡◌, ◌++◌, replicate};
 ghost use Rattle.commonware_utils.specs.Codec.{word_bytes};
 
 use crate::codec::{read, written};
-use committee_core::Member;
 use commonware_utils::codec::RangeCfg;
 use commonware_utils::ordered::Set;
+use commonware_utils::sequence::FixedBytes;
 use speed_core::{Bench, Failure, Work, wide_bytes};
 use std::alloc::{AllocError, Global};
 use std::io::Write;
 use std::time::Clock;
+
+/// An item of 32 bytes.
+type Item = FixedBytes<32>;
 
 /// The lines of sets of items that begin with the numbers: built, written, read, and looked up.
 pub(crate) fn time_wide<C: Clock, W: Write>(
@@ -18,7 +21,7 @@ pub(crate) fn time_wide<C: Clock, W: Write>(
     rounds: u64,
 ) -> Result<(), Failure> {
     let alloc = bench.alloc();
-    let items: Vec<Member> = numbers.iter().map(|number| wide(*number)).collect(alloc)?;
+    let items: Vec<Item> = numbers.iter().map(|number| wide(*number)).collect(alloc)?;
     let work = Work::new("wide_dedup", numbers.len(), rounds);
     bench.line(work, 0, || Ok(set_of(alloc, &items)?.len() as u64))?;
     let set = set_of(alloc, &items)?;
@@ -32,21 +35,21 @@ pub(crate) fn time_wide<C: Clock, W: Write>(
 }
 
 /// The item whose first four bytes are the number, the most significant first, and the rest zeros.
-fn wide(number: u32) -> Member
+fn wide(number: u32) -> Item
     ensures { result ≡ word_bytes number ++ replicate 28 0 }
 {
-    Member::new(wide_bytes(number))
+    Item::new(wide_bytes(number))
 }
 
 /// The set of the items.
-fn set_of(alloc: Global, items: &[Member]) -> Result<Set<Member, Global>, AllocError> {
+fn set_of(alloc: Global, items: &[Item]) -> Result<Set<Item, Global>, AllocError> {
     Set::from_iter_dedup(alloc, items.iter().copied())
 }
 
 /// The lines of the set written and read.
 fn time_codec<C: Clock, W: Write>(
     bench: &mut Bench<C, W>,
-    set: &Set<Member, Global>,
+    set: &Set<Item, Global>,
     rounds: u64,
 ) -> Result<(), Failure> {
     let alloc = bench.alloc();
@@ -61,14 +64,14 @@ fn time_codec<C: Clock, W: Write>(
 /// How many items the set at the start of the bytes has, or 1 where they are refused.
 fn count_read(alloc: Global, bytes: &[u8]) -> Result<u64, Failure> {
     let limits = (RangeCfg::from(..), ());
-    match read::<Set<Member, Global>>(alloc, bytes, &limits)? {
+    match read::<Set<Item, Global>>(alloc, bytes, &limits)? {
         Some(set) => Ok(set.len() as u64),
         None => Ok(1),
     }
 }
 
 /// The sum with the places of the items, modulo 2^64, where one that has none counts 1.
-fn sum_of_places(set: &Set<Member, Global>, items: &[Member], sum: u64) -> u64 {
+fn sum_of_places(set: &Set<Item, Global>, items: &[Item], sum: u64) -> u64 {
     let mut sum = sum;
     for item in items {
         let place = match set.position(item) {

@@ -1,17 +1,17 @@
 //! Keys of 32 bytes looked up in sets on both sides of the counts at which a look-up goes another
 //! way: 16 and 2,048.
-use committee_core::Member;
+use commonware_sequence::FixedBytes;
 use commonware_utils::TryFromIterator;
 use commonware_utils::ordered::{Error, Set};
 use std::alloc::Global;
 
 /// The key that begins with a number, the most significant byte first, and then has zeros.
-fn key(number: u32) -> Member {
+fn key(number: u32) -> FixedBytes<32> {
     let mut bytes = [0; 32];
     for (byte, digit) in bytes.iter_mut().zip(number.to_be_bytes()) {
         *byte = digit;
     }
-    Member::new(bytes)
+    FixedBytes::new(bytes)
 }
 
 /// Whether, in the set of the keys of the first `count` even numbers, each has its place, and that

@@ -1,15 +1,18 @@
-//! Bytes, words of four bytes and members of a committee, of which many are written and read at
-//! once: more of them than any list has room for at first, with each allocation failing in turn,
-//! and inputs that end before the last of them. And some of them written after 0 to 100 bytes.
+//! Bytes, words of four bytes and keys of 32, of which many are written and read at once: more of
+//! them than any list has room for at first, with each allocation failing in turn, and inputs that
+//! end before the last of them. And some of them written after 0 to 100 bytes.
 use crate::readings::{are_after, full_sink, outcome, read_refused, read_whole};
 use crate::refused_codec::{ACTS, Act, Trial};
-use committee_core::Member;
+use commonware_sequence::FixedBytes;
 use commonware_utils::codec::{EncodeSize, Error, RangeCfg, Read, Source, Write};
 use commonware_utils::ordered::Set;
 use std::alloc::{AllocError, Global};
 use std::process::Abort;
 use test_equipment::Refusing;
 use test_equipment::walk::{Heap, Outcome, Refusable, full, makes_requests, refused, requests};
+
+/// A key, as a committee has.
+type Key = FixedBytes<32>;
 
 /// How many items there are.
 pub(super) const MANY: u32 = 5000;
@@ -69,15 +72,15 @@ fn words(rt: &impl Abort, alloc: Global) -> Row<u32> {
     row
 }
 
-/// Many members, each greater than the one before by its last two bytes.
-fn members(rt: &impl Abort, alloc: Global) -> Row<Member> {
+/// Many keys, each greater than the one before by its last two bytes.
+fn keys(rt: &impl Abort, alloc: Global) -> Row<Key> {
     let mut row = Row::new(alloc).expect(rt, "memory");
     for number in 0..MANY {
         let mut bytes = [0x11u8; 32];
         let [higher, lower] = lowest(number);
         bytes[30] = higher;
         bytes[31] = lower;
-        row.push(Member::new(bytes), &bytes).expect(rt, "memory");
+        row.push(Key::new(bytes), &bytes).expect(rt, "memory");
     }
     row
 }
@@ -87,7 +90,7 @@ fn members(rt: &impl Abort, alloc: Global) -> Row<Member> {
 struct Rows {
     bytes: Row<u8>,
     words: Row<u32>,
-    members: Row<Member>,
+    keys: Row<Key>,
 }
 
 /// Many items of each type.
@@ -95,7 +98,7 @@ fn many_of_each(rt: &impl Abort, alloc: Global) -> Rows {
     Rows {
         bytes: bytes(rt, alloc),
         words: words(rt, alloc),
-        members: members(rt, alloc),
+        keys: keys(rt, alloc),
     }
 }
 
@@ -104,10 +107,10 @@ fn many_of_each(rt: &impl Abort, alloc: Global) -> Rows {
 enum Kind {
     Byte,
     Word,
-    Member,
+    Key,
 }
 
-static KINDS: [Kind; 3] = [Kind::Byte, Kind::Word, Kind::Member];
+static KINDS: [Kind; 3] = [Kind::Byte, Kind::Word, Kind::Key];
 
 /// The items of a type written at once, or read.
 #[derive(Drop)]
@@ -123,10 +126,10 @@ impl<'r> Refusable for AtOnce<'r> {
         match (self.kind, self.is_write) {
             (Kind::Byte, true) => written(heap, granted, &rows.bytes),
             (Kind::Word, true) => written(heap, granted, &rows.words),
-            (Kind::Member, true) => written(heap, granted, &rows.members),
+            (Kind::Key, true) => written(heap, granted, &rows.keys),
             (Kind::Byte, false) => read(heap, granted, &rows.bytes, &()),
             (Kind::Word, false) => read(heap, granted, &rows.words, &()),
-            (Kind::Member, false) => read(heap, granted, &rows.members, &()),
+            (Kind::Key, false) => read(heap, granted, &rows.keys, &()),
         }
     }
 }
@@ -231,8 +234,8 @@ fn many_are_written_after_others(rt: HostRuntime) {
     for count in [0, 1, 2, 3, 31, 32, 33, 256, 300, MANY as usize] {
         let bytes = are_appended_to_each(alloc, &rows.bytes, count, 1);
         let words = are_appended_to_each(alloc, &rows.words, count, 4);
-        let members = are_appended_to_each(alloc, &rows.members, count, 32);
-        assert!(rt; [bytes, words, members] == [Ok(true); 3], "{count}");
+        let keys = are_appended_to_each(alloc, &rows.keys, count, 32);
+        assert!(rt; [bytes, words, keys] == [Ok(true); 3], "{count}");
     }
 }
 
@@ -241,17 +244,17 @@ fn many_are_written_after_others(rt: HostRuntime) {
 enum Form {
     Bytes,
     Words,
-    Members,
+    Keys,
     WordSet,
-    MemberSet,
+    KeySet,
 }
 
 static FORMS: [Form; 5] = [
     Form::Bytes,
     Form::Words,
-    Form::Members,
+    Form::Keys,
     Form::WordSet,
-    Form::MemberSet,
+    Form::KeySet,
 ];
 
 /// An act on a list or a set of many.
@@ -276,9 +279,9 @@ impl Form {
         match self {
             Form::Bytes => trial.on::<Vec<u8, _>>(&rows.bytes.list, &limits),
             Form::Words => trial.on::<Vec<u32, _>>(&rows.words.list, &limits),
-            Form::Members => trial.on::<Vec<Member, _>>(&rows.members.list, &limits),
+            Form::Keys => trial.on::<Vec<Key, _>>(&rows.keys.list, &limits),
             Form::WordSet => trial.on::<Set<u32, _>>(&rows.words.list, &limits),
-            Form::MemberSet => trial.on::<Set<Member, _>>(&rows.members.list, &limits),
+            Form::KeySet => trial.on::<Set<Key, _>>(&rows.keys.list, &limits),
         }
     }
 }
@@ -305,7 +308,7 @@ impl Form {
         match self {
             Form::Bytes => &rows.bytes.list,
             Form::Words | Form::WordSet => &rows.words.list,
-            Form::Members | Form::MemberSet => &rows.members.list,
+            Form::Keys | Form::KeySet => &rows.keys.list,
         }
     }
 
@@ -315,9 +318,9 @@ impl Form {
         match self {
             Form::Bytes => outcome::<Vec<u8, _>, _>(heap, bytes, &limits),
             Form::Words => outcome::<Vec<u32, _>, _>(heap, bytes, &limits),
-            Form::Members => outcome::<Vec<Member, _>, _>(heap, bytes, &limits),
+            Form::Keys => outcome::<Vec<Key, _>, _>(heap, bytes, &limits),
             Form::WordSet => outcome::<Set<u32, _>, _>(heap, bytes, &limits),
-            Form::MemberSet => outcome::<Set<Member, _>, _>(heap, bytes, &limits),
+            Form::KeySet => outcome::<Set<Key, _>, _>(heap, bytes, &limits),
         }
     }
 }
