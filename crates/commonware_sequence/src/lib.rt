@@ -7,5 +7,5 @@ mod order;
 mod u64;
 
 pub use fixed_bytes::{FixedBytes, WrongLength};
-pub use order::bytes_order;
+pub use order::{Prefixed, bytes_order};
 pub use u64::U64;

@@ -4,6 +4,7 @@ ghost use Rattle.commonware_sequence.specs.BigEndian.{IsDetermined, number_at};
 ghost use Rattle.commonware_sequence.specs.FixedBytes.{bytes_cmp};
 
 use std::cmp::Ordering;
+use std::marker::Model;
 
 /// Returns the eight bytes from a place on as one number, in big-endian order.
 #[inline(always)]
@@ -44,6 +45,62 @@ fn order_past(mine: &[u8], others: &[u8], at: usize) -> Ordering
     mine[next..].cmp(&others[next..])
 }
 
+/// Returns the order of two lists of bytes, whose first eight are known as numbers where there are
+/// so many.
+#[inline(always)]
+fn order_from(a: u64, b: u64, mine: &[u8], others: &[u8]) -> Ordering
+    requires mine { 8 ≤ length mine.now → a ≡ number_at 8 0 mine.now }
+    requires others { 8 ≤ length others.now → b ≡ number_at 8 0 others.now }
+    ensures { result ≡ bytes_cmp mine.now others.now }
+{
+    if mine.len() < 8 || others.len() < 8 {
+        return order_past(mine, others, 0);
+    }
+    if a != b {
+        return a.cmp(&b);
+    }
+    order_past(mine, others, 8)
+}
+
+/// Bytes to compare with others, of which the first eight are read once, as one number: a search
+/// and a check of an order compare each list of bytes with several. They are seen as the list of
+/// their bytes.
+#[derive(Drop)]
+pub struct Prefixed<'a> {
+    bytes: &'a [u8],
+    first: u64,
+}
+
+impl<'a> Model for Prefixed<'a> {
+    ghost use Rattle.std.specs.Prelude.{◌≡◌, ◌≤◌, ℕ, List, length};
+    ghost use Rattle.commonware_sequence.specs.BigEndian.{number_at};
+
+    ghost Value = { List ℕ };
+
+    ghost view = { λ p. p.bytes.now };
+
+    ghost invariant = { λ p. 8 ≤ length p.bytes.now → p.first ≡ number_at 8 0 p.bytes.now };
+}
+
+impl<'a> Prefixed<'a> {
+    /// Returns these bytes, with their first eight read.
+    #[inline(always)]
+    pub fn new(bytes: &'a [u8]) -> Self
+        ensures { result ≡ bytes.now }
+    {
+        let first = if bytes.len() < 8 { 0 } else { word(bytes, 0) };
+        Prefixed { bytes, first }
+    }
+
+    /// Returns the order of the two lists of bytes, as `bytes_order` does. It allocates nothing.
+    #[inline(always)]
+    pub fn order(&self, other: &Prefixed<'_>) -> Ordering
+        ensures { result ≡ bytes_cmp self.now other.now }
+    {
+        order_from(self.first, other.first, self.bytes, other.bytes)
+    }
+}
+
 /// Returns the order of two lists of bytes, which is that of the first bytes in which they differ;
 /// where there are none, the shorter list is less: `[1, 2]` is less than `[1, 2, 0]`, and both are
 /// less than `[1, 3]`. It allocates nothing.
@@ -54,13 +111,5 @@ fn order_past(mine: &[u8], others: &[u8], at: usize) -> Ordering
 pub fn bytes_order(mine: &[u8], others: &[u8]) -> Ordering
     ensures { result ≡ bytes_cmp mine.now others.now }
 {
-    if mine.len() < 8 || others.len() < 8 {
-        return order_past(mine, others, 0);
-    }
-    let a = word(mine, 0);
-    let b = word(others, 0);
-    if a != b {
-        return a.cmp(&b);
-    }
-    order_past(mine, others, 8)
+    Prefixed::new(mine).order(&Prefixed::new(others))
 }

@@ -1,0 +1,6 @@
+pub mod Chunks
+pub mod Cut
+pub mod Exact
+pub mod Found
+pub mod NoGap
+pub mod Pairs

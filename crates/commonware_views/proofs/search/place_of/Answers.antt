@@ -1,0 +1,102 @@
+use Rattle.std.proofs.Common.{◌≡◌, ◌∙◌, ◌+◌, ◌-◌, ◌/◌, ◌<◌, ◌≤◌, ℕ, get_or, arith, ap, sym, subst}
+use Rattle.std.specs.Prelude.{Some}
+use Rattle.std.specs.List.{slice_get}
+use Rattle.std.specs.Simd.{first_chunks}
+use Rattle.std.specs.declared.result.Result.{Result}
+use Rattle.std.specs.declared.result.Result.TheVariants.{Ok, Err}
+use Rattle.std.specs.declared.cmp.Ordering.TheVariants.{Less, Greater}
+use Rattle.std.proofs.lemmas.Map.Lookups.{exact_bytes}
+use Rattle.std.proofs.lemmas.Option.{slice_get_read, slice_get_within, get_or_from_slice_get}
+use Rattle.commonware_sequence.specs.FixedBytes.{bytes_cmp}
+use Rattle.commonware_views.proofs.Chunks.{chunk_at, chunk_inside, chunks_count}
+use Rattle.commonware_views.proofs.NoGap.{not_in_gap, same_place}
+use Rattle.commonware_views.specs.Lists.{IsGapFor}
+use Rattle.commonware_views.proofs.search.place_of.Goals as goal
+
+-- the place that a search tells
+abbrev told_place : Result ℕ ℕ → ℕ
+told_place (Ok n) = n
+told_place (Err n) = n
+
+-- the place that was compared is inside
+inside : (low high n : ℕ) → low < high → high ≤ n → low + (high - low) / 2 < n
+inside low high n some within = omega (arith, some, within)
+
+pub item_at-requires : goal.item_at-requires
+item_at-requires c =
+    let middle = c.loop-low.low + (c.loop-low.high - c.loop-low.low) / 2 in
+    let within = inside c.loop-low.low c.loop-low.high c.args.count c.loop-low-test.true c.loop-low.invariant.1 in
+    omega (arith, chunk_inside c.args.size c.args.count middle within, c.requires)
+
+pub loop-low-preserved-in-Less : goal.loop-low-preserved-in-Less
+loop-low-preserved-in-Less c =
+    let size = c.args.size in
+    let count = c.args.count in
+    let s = c.args.bytes.now in
+    let items = first_chunks size count s in
+    let middle = c.loop-low.low + (c.loop-low.high - c.loop-low.low) / 2 in
+    let within = inside c.loop-low.low c.loop-low.high count c.loop-low-test.true c.loop-low.invariant.1 in
+    let back : middle ≡ middle + 1 - 1 = omega arith in (
+      omega (arith, c.loop-low-test.true),
+      c.loop-low.invariant.1,
+      (λ _ d. subst (λ n. bytes_cmp (get_or items n d) c.new-key.result ≡ Less) back
+          (ap (λ k. bytes_cmp k c.new-key.result) (chunk_at size count middle s d within ∙ sym c.item_at.ensures ∙ sym c.new-item.ensures)
+          ∙ sym c.order.ensures ∙ c.in-Less.is)),
+      c.loop-low.invariant.3,
+    )
+
+pub loop-low-preserved : goal.loop-low-preserved
+loop-low-preserved c =
+    let size = c.args.size in
+    let count = c.args.count in
+    let s = c.args.bytes.now in
+    let middle = c.loop-low.low + (c.loop-low.high - c.loop-low.low) / 2 in
+    let within = inside c.loop-low.low c.loop-low.high count c.loop-low-test.true c.loop-low.invariant.1 in (
+      omega arith,
+      omega (arith, within),
+      c.loop-low.invariant.2,
+      (λ _ d. ap (λ k. bytes_cmp k c.new-key.result) (chunk_at size count middle s d within ∙ sym c.item_at.ensures ∙ sym c.new-item.ensures)
+          ∙ sym c.order.ensures ∙ c.in-Greater.is),
+    )
+
+pub returns-in-Equal-clause-found : goal.returns-in-Equal-clause-found
+returns-in-Equal-clause-found c =
+    let size = c.args.size in
+    let count = c.args.count in
+    let s = c.args.bytes.now in
+    let items = first_chunks size count s in
+    let key = c.args.key.now in
+    let middle = c.loop-low.low + (c.loop-low.high - c.loop-low.low) / 2 in
+    let within = inside c.loop-low.low c.loop-low.high count c.loop-low-test.true c.loop-low.invariant.1 in
+    let same : c.new-item.result ≡ key = exact_bytes _ c.new-key.result (sym c.order.ensures ∙ c.in-Equal.is) ∙ c.new-key.ensures in
+    let item : key ≡ get_or items middle key = sym same ∙ c.new-item.ensures ∙ c.item_at.ensures ∙ sym (chunk_at size count middle s key within) in
+    slice_get_read items count middle key (sym (chunks_count size count s)) within item
+
+pub returns-in-Equal-clause-exactly : goal.returns-in-Equal-clause-exactly
+returns-in-Equal-clause-exactly c = λ strict p.
+    let items = first_chunks c.args.size c.args.count c.args.bytes.now in
+    let found = returns-in-Equal-clause-found c in
+    let key = c.args.key.now in (
+      (λ e. subst (λ n. slice_get items n ≡ Some key) (ap told_place e) found),
+      (λ at. ap Ok (same_place key items strict _ p found at)),
+    )
+
+pub returns-clause-absent : goal.returns-clause-absent
+returns-clause-absent c =
+    let count = c.args.count in
+    let items = first_chunks c.args.size count c.args.bytes.now in
+    let number = chunks_count c.args.size count c.args.bytes.now in
+    let same : c.loop-low.high ≡ c.loop-low.low = omega (arith, c.loop-low.invariant.0, c.loop-low-test.false) in
+    subst (λ k. IsGapFor k items c.loop-low.low) c.new-key.ensures (record {
+      within = omega (arith, same, number, c.loop-low.invariant.1);
+      above = c.loop-low.invariant.2;
+      below = λ less d. subst (λ n. bytes_cmp (get_or items n d) c.new-key.result ≡ Greater) same (c.loop-low.invariant.3 (omega (arith, same, less, number)) d);
+    })
+
+pub returns-clause-exactly : goal.returns-clause-exactly
+returns-clause-exactly c = λ strict p.
+    let items = first_chunks c.args.size c.args.count c.args.bytes.now in
+    let key = c.args.key.now in (
+      (λ never. absurd (cc)),
+      (λ at. absurd (not_in_gap key items c.loop-low.low strict (returns-clause-absent c) (p, slice_get_within items p key at, get_or_from_slice_get items p key key at))),
+    )

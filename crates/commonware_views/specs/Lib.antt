@@ -1,0 +1,4 @@
+pub mod Lists
+pub mod Maps
+pub mod Sets
+pub mod laws

@@ -1,0 +1,18 @@
+//! and the items stay where the input has them.
+//!
+//! Sizes are known when the program runs, so one program reads the keys of every chain. What a view
+//! accepts, and the first fault (the decoding error) of every other input, is that of the
+//! collection with `FixedBytes` of these sizes.
+#![tactic(auto)]
+
+mod items;
+mod list;
+mod map;
+mod order;
+mod search;
+mod set;
+
+pub use items::Items;
+pub use list::{ListView, NotWhole};
+pub use map::MapView;
+pub use set::SetView;
