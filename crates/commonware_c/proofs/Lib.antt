@@ -1,10 +1,8 @@
+pub mod Arrays
 pub mod Certified
-pub mod Chunks
 pub mod Exact
 pub mod Fewer
-pub mod Keys
 pub mod Made
-pub mod NoGap
 pub mod Offsets
 pub mod EncodingLemmas
 pub mod Spliced

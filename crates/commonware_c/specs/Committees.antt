@@ -1,15 +1,14 @@
 -- What the C functions return for the encoding of a committee: numbers, and where its members are.
-use Rattle.std.specs.Prelude.{◌≡◌, ℕ, ◌+◌, ◌*◌, ◌≤◌, List, Some, drop, length, nat_eq, slice_get, take}
-use Rattle.std.specs.List.{AllByRecursion, flat_map}
+use Rattle.std.specs.Prelude.{◌≡◌, ℕ, ◌+◌, ◌*◌, ◌≤◌, List, Some, length, nat_eq}
 use Rattle.std.specs.Cmp.Lexicographic.{pointwise}
 use Rattle.std.specs.declared.ops.Bound.TheVariants.{Included}
 use Rattle.commonware_base.specs.Fault.{Fault}
-use Rattle.commonware_base.specs.Lists.{list_enc, IsAllowedList}
+use Rattle.commonware_base.specs.Lists.{list_enc}
 use Rattle.commonware_base.specs.Range.{Bounds}
-use Rattle.commonware_base.specs.Text.{Accepts}
 use Rattle.commonware_ordered.specs.Dedup.{IsDedup}
-use Rattle.commonware_ordered.specs.Sets.{IsWritableSet, SetFault}
-use Rattle.commonware_sequence.specs.FixedBytes.{IsOfSize, bytes_cmp, own_bytes, size_fault}
+use Rattle.commonware_sequence.specs.FixedBytes.{bytes_cmp, own_bytes}
+use Rattle.commonware_views.specs.Lists.{StandBy}
+use Rattle.commonware_views.specs.Sets.{IsKeySetOf, key_set_fault}
 
 -- the lengths from least to most
 abbrev pub between : ℕ → ℕ → Bounds ℕ
@@ -17,25 +16,15 @@ between least most = record { lower = Some least; upper = Included most }
 
 -- s is the encoding of a set of least to most members, and then rest
 abbrev pub IsCommitteeOf : ℕ → ℕ → List ℕ → List (List ℕ) → List ℕ → Type 0
-IsCommitteeOf least most s members rest =
-    Accepts (list_enc own_bytes) (IsWritableSet (IsOfSize 32) bytes_cmp)
-    (IsAllowedList (between least most) (λ _. Unit {0})) s members rest
+IsCommitteeOf least most = IsKeySetOf 32 (between least most)
 
 -- the first fault of s, where s begins with no committee of least to most members
 abbrev pub committee_fault : ℕ → ℕ → List ℕ → Fault → Type 0
-committee_fault least most =
-    SetFault own_bytes (IsOfSize 32) bytes_cmp (λ _. Unit {0}) (size_fault 32) (between least most)
+committee_fault least most = key_set_fault 32 (between least most)
 
 -- each member is the 32 bytes of s at its index, counted in members from start on
 abbrev pub StandAt : List ℕ → ℕ → List (List ℕ) → Type 0
-StandAt s start members = (i : ℕ) (m : List ℕ) → slice_get members i ≡ Some m → take 32 (drop (start + 32 * i) s) ≡ m
-
--- s begins with these keys, `count` of them
-pub record AreKeys (keys : List (List ℕ)) (count : ℕ) (s : List ℕ) : Type 0 where
-  pub number : length keys ≡ count
-  pub enough : count * 32 ≤ length s
-  pub each : AllByRecursion (IsOfSize 32) keys
-  pub bytes : take (count * 32) s ≡ flat_map own_bytes keys
+StandAt = StandBy 32
 
 -- the set is these keys in order, of equal ones one; it has `count` members, no more than the keys, and `size` bytes
 pub record IsSetOf (keys set : List (List ℕ)) (count size : ℕ) : Type 0 where

@@ -1,13 +1,12 @@
-//! The place of a key among the keys of a committee, in place.
-ghost use Rattle.std.specs.Prelude.{◌≡◌, ◌≢◌, ◌↔◌, ◌<◌, Contains, length};
-ghost use Rattle.std.specs.List.{HoldsAt};
+//! The place of a key among keys of one size, in place.
+ghost use Rattle.std.specs.Prelude.{◌≡◌, ◌≢◌, ◌↔◌, ◌⊎◌, ◌%◌, ◌<◌, Contains, ℕ, List, Some, length};
+ghost use Rattle.std.specs.List.{HoldsAt, slice_get};
 ghost use Rattle.commonware_ordered.specs.Strict.{IsStrict};
 ghost use Rattle.commonware_sequence.specs.FixedBytes.{bytes_cmp};
-ghost use Rattle.commonware_c.specs.Gaps.{IsGapFor};
+ghost use Rattle.commonware_views.specs.Lists.{AreItemsOf, IsGapFor};
 
-use crate::checked::order;
-use crate::statuses::{ABSENT, OK};
-use std::cmp::Ordering;
+use crate::statuses::{ABSENT, NO_SIZE, NOT_WHOLE, OK};
+use commonware_views::{ListView, NotWhole};
 
 /// Where a key is among others.
 ///
@@ -16,18 +15,50 @@ use std::cmp::Ordering;
 #[repr(C)]
 #[derive(Clone, Copy, Drop)]
 pub struct PlaceView {
-    /// 0 where one of them is the key, else 12.
+    /// 0 where one of them is the key; 12 where none is; else why they are no keys of its size.
     pub status: u32,
     /// The index of the one that is; else of the one before which the key would be inserted.
     pub index: usize,
 }
 
-/// Looks a key up among the keys of a committee, by halving them. Nothing is allocated.
+/// Looks a key up among keys of its size that follow one another, by halving them. Nothing is
+/// allocated.
 ///
 /// It takes every list of keys, and returns the index of the key itself, or a gap between two
-/// neighbours of which the first is less than the key and the second is greater. Where the list is
-/// strictly increasing, as the keys of a committee are, it returns a gap exactly where the key
-/// isn't in the list.
+/// neighbours of which the first is less than the key and the second is greater. Where the keys are
+/// strictly increasing, as those of a set are, it returns a gap exactly where the key isn't among
+/// them. Keys of no bytes have no number, and bytes that aren't whole keys are refused.
+#[unsafe(no_mangle)]
+pub extern "C" fn commonware_set_index(keys: &[u8], key: &[u8]) -> PlaceView
+    ensures found { result.status ≡ 0 → (items : List (List ℕ))
+        × AreItemsOf (length key.now) keys.now items
+        × (slice_get items result.index ≡ Some key.now) }
+    ensures absent { result.status ≡ 12 → (items : List (List ℕ))
+        × AreItemsOf (length key.now) keys.now items × IsGapFor key.now items result.index }
+    ensures exactly { length key.now ≢ 0 → (items : List (List ℕ))
+        → AreItemsOf (length key.now) keys.now items → IsStrict bytes_cmp items
+        → (result.status ≡ 0) ↔ Contains items key.now }
+    ensures no_size { (result.status ≡ 16) ↔ (length key.now ≡ 0) }
+    ensures not_whole { (result.status ≡ 17)
+        ↔ ((length key.now ≢ 0) × (length keys.now % length key.now ≢ 0)) }
+    ensures nothing_else { result.status ≢ 0 → result.status ≢ 12
+        → ((result.status ≡ 16) ⊎ (result.status ≡ 17)) × (result.index ≡ 0) }
+{
+    match ListView::new(key.len(), keys) {
+        Ok(items) => place_in(&items, key),
+        Err(NotWhole::NoSize) => no_place(NO_SIZE),
+        Err(NotWhole::LeftOver(_)) => no_place(NOT_WHOLE),
+    }
+}
+
+/// Returns the view of a refusal.
+fn no_place(status: u32) -> PlaceView
+    ensures { result ≡ record { status = status; index = 0 } }
+{
+    PlaceView { status, index: 0 }
+}
+
+/// Looks a key up among the keys of a committee, as `commonware_set_index` does.
 #[unsafe(no_mangle)]
 pub extern "C" fn commonware_committee_index(members: &[[u8; 32]], key: &[u8; 32]) -> PlaceView
     ensures found { result.status ≡ 0 → (result.index < length members.now)
@@ -37,23 +68,26 @@ pub extern "C" fn commonware_committee_index(members: &[[u8; 32]], key: &[u8; 32
     ensures exactly { IsStrict bytes_cmp members.now
         → (result.status ≡ 0) ↔ Contains members.now key.now }
 {
-    let mut low = 0;
-    let mut high = members.len();
-    while low < high {
-        let middle = low + (high - low) / 2;
-        match order(&members[middle], key) {
-            Ordering::Less => low = middle + 1,
-            Ordering::Greater => high = middle,
-            Ordering::Equal => {
-                return PlaceView {
-                    status: OK,
-                    index: middle,
-                };
-            }
-        }
+    match ListView::new(32, members.as_flattened()) {
+        Ok(items) => place_in(&items, key),
+        Err(_) => unreachable!(),
     }
-    PlaceView {
-        status: ABSENT,
-        index: low,
+}
+
+/// Returns the place of a key among items.
+#[inline(always)]
+fn place_in(items: &ListView<'_>, key: &[u8]) -> PlaceView
+    ensures found { result.status ≡ 0 → slice_get items.now result.index ≡ Some key.now }
+    ensures absent { result.status ≢ 0 → (result.status ≡ 12)
+        × IsGapFor key.now items.now result.index }
+    ensures exactly { IsStrict bytes_cmp items.now
+        → (result.status ≡ 0) ↔ Contains items.now key.now }
+{
+    match items.binary_search(key) {
+        Ok(index) => PlaceView { status: OK, index },
+        Err(index) => PlaceView {
+            status: ABSENT,
+            index,
+        },
     }
 }

@@ -1,4 +1,8 @@
 //! The statuses of the functions for C, by the names that the header gives them.
+ghost use Rattle.std.specs.Prelude.{◌≡◌};
+ghost use Rattle.commonware_c.specs.Status.{number_of, status_of};
+
+use commonware_base::codec::Error;
 
 /// The call did what it is for.
 pub(crate) const OK: u32 = 0;
@@ -47,3 +51,24 @@ pub(crate) const NO_SLOT: u32 = 14;
 
 /// The values are for two different slots.
 pub(crate) const OTHER_SLOT: u32 = 15;
+
+/// Items of no bytes, of which can't be told how many there are.
+pub(crate) const NO_SIZE: u32 = 16;
+
+/// Bytes follow the last whole item.
+pub(crate) const NOT_WHOLE: u32 = 17;
+
+/// Returns the status and the number of an error.
+#[inline(always)]
+pub(crate) fn status_of(error: &Error) -> (u32, usize)
+    ensures status { result.0 ≡ status_of error.now }
+    ensures number { result.1 ≡ number_of error.now }
+{
+    match error {
+        Error::EndOfBuffer => (END_OF_INPUT, 0),
+        Error::InvalidVarint => (INVALID_VARINT, 0),
+        Error::InvalidLength(length) => (INVALID_LENGTH, *length),
+        Error::Invalid(_, _) => (NOT_STRICT, 0),
+        Error::Memory => (MEMORY, 0),
+    }
+}

@@ -1,7 +1,8 @@
 -- Items of one size are determined by their bytes.
-use Rattle.std.specs.Prelude.{◌≡◌, ◌≢◌, ℕ, List, [], ◌∷◌, ◌++◌, length, take, drop, refl}
+use Rattle.std.specs.Prelude.{◌≡◌, ◌≢◌, ℕ, ◌*◌, ◌%◌, List, [], ◌∷◌, ◌++◌, length, take, drop, refl}
 use Rattle.std.specs.List.{AllByRecursion, flat_map}
 use Rattle.std.proofs.Common.{arith, ap, ap₂, sym, ◌∙◌}
+use Rattle.std.proofs.Math.Nat.{mul-mod_left, suc-mul}
 use Rattle.std.proofs.Math.Seq.{drop-append_seam, take-append_seam}
 use Rattle.std.proofs.lemmas.List.{length-append}
 use Rattle.commonware_sequence.specs.FixedBytes.{own_bytes}
@@ -37,3 +38,23 @@ pub one_reading : (size : ℕ) (s : List ℕ) → size ≢ 0 → (xs ys : List (
     → AreItemsOf size s ys → xs ≡ ys
 one_reading size s some xs ys hx hy =
     same_items size some xs ys hx.each hy.each (hx.together ∙ sym hy.together)
+
+-- their bytes are as many as the items, times the size
+pub items_length : (size : ℕ) (items : List (List ℕ)) → AreLong size items
+    → length (flat_map own_bytes items) ≡ length items * size
+items_length size [] each = omega arith
+items_length size (x ∷ items) each =
+    omega (
+      arith,
+      length-append x (flat_map own_bytes items),
+      each.0,
+      items_length size items each.1,
+      suc-mul (length items) size,
+    )
+
+-- so none are left over
+pub none_left_over : (size : ℕ) (s : List ℕ) (items : List (List ℕ)) → AreItemsOf size s items
+    → length s % size ≡ 0
+none_left_over size s items are =
+    ap (λ n. n % size) (ap length (sym are.together) ∙ items_length size items are.each)
+    ∙ mul-mod_left (length items) size

@@ -1,34 +1,37 @@
-use Rattle.std.proofs.Common.{◌≡◌, ◌<◌, ◌≤◌, ◌+◌, ◌-◌, ◌/◌, ℕ, length, get_or, arith, refl, sym, ◌∙◌, subst}
-use Rattle.std.specs.declared.cmp.Ordering.TheVariants.{Greater}
-use Rattle.std.proofs.lemmas.List.{get_or_default}
-use Rattle.std.proofs.lemmas.Map.Lookups.{exact_bytes}
+use Rattle.std.proofs.Common.{◌≡◌, ◌↔◌, ℕ, sym, subst, arith}
+use Rattle.std.specs.Prelude.{Some}
+use Rattle.std.specs.List.{Contains, slice_get}
+use Rattle.std.proofs.lemmas.Option.{get_or_from_slice_get, slice_get_within}
+use Rattle.commonware_ordered.specs.Strict.{IsStrict}
 use Rattle.commonware_sequence.specs.FixedBytes.{bytes_cmp}
-use Rattle.commonware_c.proofs.NoGap.{not_in_gap}
+use Rattle.commonware_views.specs.Lists.{IsGapFor}
+use Rattle.commonware_c.proofs.Arrays.{items_are_arrays}
 use Rattle.commonware_c.proofs.places.commonware_committee_index.Goals as goal
 
--- the place that was compared is inside
-inside : (low high n : ℕ) → low < high → high ≤ n → low + (high - low) / 2 < n
-inside low high n some within = omega (arith, some, within)
+-- 32 is not 0
+some : ◌≡◌ {A = ℕ} 32 0 → ⊥
+some e = absurd (omega (arith, e))
 
-pub returns-in-Equal-clause-found : goal.returns-in-Equal-clause-found
-returns-in-Equal-clause-found c = λ _.
-    let middle = c.loop-low.low + (c.loop-low.high - c.loop-low.low) / 2 in
-    let within = inside c.loop-low.low c.loop-low.high (length c.args.members.now) c.loop-low-test.true c.loop-low.invariant.1 in
-    let same = exact_bytes _ c.args.key.now (sym c.order.ensures ∙ c.in-Equal.is) in
-    (within, λ d. get_or_default c.args.members.now middle d _ within ∙ same)
+pub returns-clause-found : goal.returns-clause-found
+returns-clause-found c = λ e.
+    let members = c.args.members.now in
+    let key = c.args.key.now in
+    let index = c.place_in.result.index in
+    let same = items_are_arrays 32 some members c.in-Ok.items c.as_flattened.result.now c.told-members c.as_flattened.ensures.value c.in-Ok.ensures.items in
+    let at = subst (λ xs. slice_get xs index ≡ Some key) same (c.place_in.ensures.found e) in
+    (slice_get_within members index key at, λ d. get_or_from_slice_get members index key d at)
 
-pub returns-in-Equal-clause-exactly : goal.returns-in-Equal-clause-exactly
-returns-in-Equal-clause-exactly c = λ strict.
-    let found = returns-in-Equal-clause-found c refl in
-    ((λ _. (_, found.0, found.1 c.args.key.now)), λ _. refl)
+pub returns-clause-absent : goal.returns-clause-absent
+returns-clause-absent c = λ e.
+    let members = c.args.members.now in
+    let same = items_are_arrays 32 some members c.in-Ok.items c.as_flattened.result.now c.told-members c.as_flattened.ensures.value c.in-Ok.ensures.items in
+    let said = c.place_in.ensures.absent e in
+    (said.0, subst (λ xs. IsGapFor c.args.key.now xs c.place_in.result.index) same said.1)
 
 pub returns-clause-exactly : goal.returns-clause-exactly
 returns-clause-exactly c = λ strict.
-    let same : c.loop-low.high ≡ c.loop-low.low = omega (arith, c.loop-low.invariant.0, c.loop-low-test.false) in (
-      (λ e. absurd (omega (arith, e))),
-      (λ has. absurd (not_in_gap c.args.key.now c.args.members.now c.loop-low.low strict (record {
-        within = omega (arith, same, c.loop-low.invariant.1);
-        above = c.loop-low.invariant.2;
-        below = λ less d. subst (λ n. bytes_cmp (get_or c.args.members.now n d) c.args.key.now ≡ Greater) same (c.loop-low.invariant.3 (omega (arith, same, less)) d);
-      }) has)),
-    )
+    let members = c.args.members.now in
+    let key = c.args.key.now in
+    let same = items_are_arrays 32 some members c.in-Ok.items c.as_flattened.result.now c.told-members c.as_flattened.ensures.value c.in-Ok.ensures.items in
+    subst (λ xs. (c.place_in.result.status ≡ 0) ↔ Contains xs key) same
+    (c.place_in.ensures.exactly (subst (IsStrict bytes_cmp) (sym same) strict))

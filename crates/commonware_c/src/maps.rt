@@ -1,0 +1,107 @@
+//! The encoding of a map of keys and values, each of one size, decoded in place.
+ghost use Rattle.std.specs.Prelude.{◌≡◌, ◌≢◌, ◌↔◌, ℕ, List, length};
+ghost use Rattle.std.specs.Map.{keys_of, values_of};
+ghost use Rattle.commonware_views.specs.Lists.{StandBy};
+ghost use Rattle.commonware_views.specs.Maps.{IsSizedMapOf, sized_map_fault};
+ghost use Rattle.commonware_c.specs.Committees.{between};
+ghost use Rattle.commonware_c.specs.Status.{IsRefusedWith, number_of, status_of};
+
+use crate::statuses::{OK, status_of};
+use commonware_base::codec::{EncodeSize, Error, RangeCfg, Source, UInt};
+use commonware_views::MapView;
+
+/// A map of keys and values at the start of an input, for a caller in C.
+///
+/// Two pairs of keys of 20 bytes and values of 8, which are `02`, 40 bytes, `02` and 16 bytes, have
+/// status 0, count 2, keys 1, values 42 and 0 left.
+#[repr(C)]
+#[derive(Clone, Copy, Drop)]
+pub struct PairsView {
+    /// 0, or why there is no map.
+    pub status: u32,
+    /// How many pairs there are.
+    pub count: u32,
+    /// The length that is out of range, where that is the status.
+    pub number: usize,
+    /// Where the first key begins. The next follows it.
+    pub keys: usize,
+    /// Where the first value begins, which is that of the first key. The next follows it.
+    pub values: usize,
+    /// How many bytes follow the map.
+    pub left: usize,
+}
+
+/// Decodes a map of `least` to `most` pairs at the start of the input, with keys of `key_size`
+/// bytes and values of `value_size`. Nothing is allocated.
+#[unsafe(no_mangle)]
+pub extern "C" fn commonware_map_read(
+    key_size: usize,
+    value_size: usize,
+    input: &[u8],
+    least: usize,
+    most: usize,
+) -> PairsView
+    ensures accepted { result.status ≡ 0 → (pairs : List (List ℕ × List ℕ)) × (rest : List ℕ)
+        × IsSizedMapOf key_size value_size (between least most) input.now pairs rest
+        × (result.count ≡ length pairs) × (result.left ≡ length rest)
+        × StandBy key_size input.now result.keys (keys_of pairs)
+        × StandBy value_size input.now result.values (values_of pairs) }
+    ensures refused { result.status ≢ 0
+        → IsRefusedWith (sized_map_fault key_size value_size (between least most) input.now)
+        (Unit {0}) result.status result.number }
+    ensures exactly { (result.status ≡ 0) ↔ ((pairs : List (List ℕ × List ℕ)) × (rest : List ℕ)
+        × IsSizedMapOf key_size value_size (between least most) input.now pairs rest) }
+    ensures no_number { result.status ≡ 0 → result.number ≡ 0 }
+    ensures nothing_else { result.status ≢ 0 → result ≡ record {
+      status = result.status;
+      count = 0;
+      number = result.number;
+      keys = 0;
+      values = 0;
+      left = 0;
+    } }
+    ensures no_memory { result.status ≢ 5 }
+{
+    let mut source = Source::new(input);
+    match MapView::read(
+        &mut source,
+        key_size,
+        value_size,
+        RangeCfg::from(least..=most),
+    ) {
+        Ok(pairs) => {
+            let count = pairs.len() as u32;
+            PairsView {
+                status: OK,
+                count,
+                number: 0,
+                keys: UInt(count).encode_size(),
+                values: source.position() - pairs.values().as_bytes().len(),
+                left: source.remaining(),
+            }
+        }
+        Err(error) => refused(&error),
+    }
+}
+
+/// Returns the view of a refusal.
+fn refused(error: &Error) -> PairsView
+    ensures { result ≡ record {
+      status = status_of error.now;
+      count = 0;
+      number = number_of error.now;
+      keys = 0;
+      values = 0;
+      left = 0;
+    } }
+{
+    let (status, number) = status_of(error);
+    PairsView {
+        status,
+        count: 0,
+        number,
+        keys: 0,
+        values: 0,
+        left: 0,
+    }
+}

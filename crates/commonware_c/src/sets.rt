@@ -1,0 +1,94 @@
+//! The encoding of a set of keys of one size, decoded in place.
+ghost use Rattle.std.specs.Prelude.{◌≡◌, ◌≢◌, ◌↔◌, ℕ, List, length};
+ghost use Rattle.commonware_views.specs.Lists.{StandBy};
+ghost use Rattle.commonware_views.specs.Sets.{IsKeySetOf, key_set_fault};
+ghost use Rattle.commonware_c.specs.Committees.{between};
+ghost use Rattle.commonware_c.specs.Status.{IsRefusedWith, number_of, status_of};
+
+use crate::statuses::{OK, status_of};
+use commonware_base::codec::{EncodeSize, Error, RangeCfg, Source, UInt};
+use commonware_views::SetView;
+
+/// A set of keys at the start of an input, for a caller in C.
+///
+/// Two keys of 20 bytes, which are `02` and twice 20 bytes, with three bytes after them have status
+/// 0, count 2, start 1 and 3 left.
+#[repr(C)]
+#[derive(Clone, Copy, Drop)]
+pub struct KeysView {
+    /// 0, or why there is no set.
+    pub status: u32,
+    /// How many keys there are.
+    pub count: u32,
+    /// The length that is out of range, where that is the status.
+    pub number: usize,
+    /// Where the first key begins. The next follows it.
+    pub start: usize,
+    /// How many bytes follow the set.
+    pub left: usize,
+}
+
+/// Decodes a set of `least` to `most` keys of `size` bytes each at the start of the input. Nothing
+/// is allocated.
+#[unsafe(no_mangle)]
+pub extern "C" fn commonware_set_read(
+    size: usize,
+    input: &[u8],
+    least: usize,
+    most: usize,
+) -> KeysView
+    ensures accepted { result.status ≡ 0 → (keys : List (List ℕ)) × (rest : List ℕ)
+        × IsKeySetOf size (between least most) input.now keys rest
+        × (result.count ≡ length keys) × (result.left ≡ length rest)
+        × StandBy size input.now result.start keys }
+    ensures refused { result.status ≢ 0
+        → IsRefusedWith (key_set_fault size (between least most) input.now)
+        (Unit {0}) result.status result.number }
+    ensures exactly { (result.status ≡ 0) ↔ ((keys : List (List ℕ)) × (rest : List ℕ)
+        × IsKeySetOf size (between least most) input.now keys rest) }
+    ensures no_number { result.status ≡ 0 → result.number ≡ 0 }
+    ensures nothing_else { result.status ≢ 0 → result ≡ record {
+      status = result.status;
+      count = 0;
+      number = result.number;
+      start = 0;
+      left = 0;
+    } }
+    ensures no_memory { result.status ≢ 5 }
+{
+    let mut source = Source::new(input);
+    match SetView::read(&mut source, size, RangeCfg::from(least..=most)) {
+        Ok(keys) => {
+            let count = keys.len() as u32;
+            KeysView {
+                status: OK,
+                count,
+                number: 0,
+                start: UInt(count).encode_size(),
+                left: source.remaining(),
+            }
+        }
+        Err(error) => refused(&error),
+    }
+}
+
+/// Returns the view of a refusal.
+#[inline(always)]
+fn refused(error: &Error) -> KeysView
+    ensures { result ≡ record {
+      status = status_of error.now;
+      count = 0;
+      number = number_of error.now;
+      start = 0;
+      left = 0;
+    } }
+{
+    let (status, number) = status_of(error);
+    KeysView {
+        status,
+        count: 0,
+        number,
+        start: 0,
+        left: 0,
+    }
+}
