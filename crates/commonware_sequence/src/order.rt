@@ -1,5 +1,5 @@
 //! The order of lists of bytes, found by words of eight bytes.
-ghost use Rattle.std.specs.Prelude.{◌≡◌, ◌+◌, ◌≤◌, length};
+ghost use Rattle.std.specs.Prelude.{◌≡◌, ◌+◌, ◌≤◌, IfNone, IfSome, length};
 ghost use Rattle.commonware_sequence.specs.BigEndian.{IsDetermined, number_at};
 ghost use Rattle.commonware_sequence.specs.FixedBytes.{bytes_cmp};
 
@@ -24,25 +24,58 @@ fn word(bytes: &[u8], at: usize) -> u64
     ])
 }
 
-/// Returns the order of two lists of bytes that don't differ up to a place. It is not inlined,
-/// since lists mostly differ before it.
-#[inline(never)]
+/// Returns the order of two lists of bytes that don't differ up to a place, where the next eight
+/// bytes tell it.
+#[inline(always)]
+fn order_by_word(mine: &[u8], others: &[u8], at: usize) -> Option<Ordering>
+    requires mine { at + 8 ≤ length mine.now }
+    requires others { at + 8 ≤ length others.now }
+    requires settled { IsDetermined mine.now others.now at 0 0 }
+    ensures some { IfSome result (λ order. order ≡ bytes_cmp mine.now others.now) }
+    ensures none { IfNone result (IsDetermined mine.now others.now (at + 8) 0 0) }
+{
+    let a = word(mine, at);
+    let b = word(others, at);
+    if a == b {
+        return None;
+    }
+    Some(a.cmp(&b))
+}
+
+/// Returns the order of two lists of bytes that don't differ up to a place.
+#[inline(always)]
 fn order_past(mine: &[u8], others: &[u8], at: usize) -> Ordering
     requires mine { at ≤ length mine.now }
     requires others { at ≤ length others.now }
     requires settled { IsDetermined mine.now others.now at 0 0 }
     ensures { result ≡ bytes_cmp mine.now others.now }
 {
-    let mut next = at;
-    while mine.len() - next >= 8 && others.len() - next >= 8 {
-        let a = word(mine, next);
-        let b = word(others, next);
-        if a != b {
-            return a.cmp(&b);
-        }
-        next += 8;
+    mine[at..].cmp(&others[at..])
+}
+
+/// Returns the order of two lists of bytes that don't differ in the first eight. Two more words are
+/// compared as such. It is not inlined, since lists mostly differ in the first.
+#[inline(never)]
+fn order_past_a_word(mine: &[u8], others: &[u8]) -> Ordering
+    requires mine { 8 ≤ length mine.now }
+    requires others { 8 ≤ length others.now }
+    requires settled { IsDetermined mine.now others.now 8 0 0 }
+    ensures { result ≡ bytes_cmp mine.now others.now }
+{
+    let shorter = mine.len().min(others.len());
+    if shorter < 16 {
+        return order_past(mine, others, 8);
     }
-    mine[next..].cmp(&others[next..])
+    if let Some(order) = order_by_word(mine, others, 8) {
+        return order;
+    }
+    if shorter < 24 {
+        return order_past(mine, others, 16);
+    }
+    if let Some(order) = order_by_word(mine, others, 16) {
+        return order;
+    }
+    order_past(mine, others, 24)
 }
 
 /// Returns the order of two lists of bytes, whose first eight are known as numbers where there are
@@ -59,7 +92,7 @@ fn order_from(a: u64, b: u64, mine: &[u8], others: &[u8]) -> Ordering
     if a != b {
         return a.cmp(&b);
     }
-    order_past(mine, others, 8)
+    order_past_a_word(mine, others)
 }
 
 /// Bytes to compare with others, of which the first eight are read once, as one number: a search

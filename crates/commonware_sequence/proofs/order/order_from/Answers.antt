@@ -13,8 +13,8 @@ returns-then-a-b c =
     word_on 0 xs ys c.args.a c.args.b long longs (λ k. omega (arith, c.type_inv.mine k)) (λ k. omega (arith, c.type_inv.others k)) refl (c.requires.mine long) (c.requires.others longs) in
     c.cmp.ensures ∙ apart_decides 8 xs ys c.args.a c.args.b on c.if-a-b.true
 
-pub order_past-requires-2-clause-settled : goal.order_past-requires-2-clause-settled
-order_past-requires-2-clause-settled c =
+pub order_past_a_word-requires-clause-settled : goal.order_past_a_word-requires-clause-settled
+order_past_a_word-requires-clause-settled c =
     let xs = c.args.mine.now in
     let ys = c.args.others.now in
     let long : 8 ≤ length xs = omega (arith, c.if-mine-lt8.false) in
