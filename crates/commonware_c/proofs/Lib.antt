@@ -8,3 +8,4 @@ pub mod EncodingLemmas
 pub mod Spliced
 pub mod SignedBoth
 pub mod WrittenIndices
+pub mod Values

@@ -26,10 +26,11 @@ committee_fault least most = key_set_fault 32 (between least most)
 abbrev pub StandAt : List ℕ → ℕ → List (List ℕ) → Type 0
 StandAt = StandBy 32
 
--- the set is these keys in order, of equal ones one; it has `count` members, no more than the keys, and `size` bytes
-pub record IsSetOf (keys set : List (List ℕ)) (count size : ℕ) : Type 0 where
+-- the set is these keys of `size` bytes in order, of equal ones one; it has `count` of them, no more than the keys, and
+-- `bytes` bytes
+pub record IsSetOf (size : ℕ) (keys set : List (List ℕ)) (count bytes : ℕ) : Type 0 where
   pub dedup : IsDedup (pointwise nat_eq) bytes_cmp keys set
   pub count_is : count ≡ length set
   pub count_most : count ≤ length keys
-  pub size_is : size ≡ length (list_enc own_bytes set)
-  pub size_most : size ≤ 5 + 32 * count
+  pub bytes_is : bytes ≡ length (list_enc own_bytes set)
+  pub bytes_most : bytes ≤ 5 + size * count

@@ -1,0 +1,81 @@
+-- What is kept of a list of references, by what they refer to.
+use Rattle.std.proofs.Common.{◌≡◌, ◌∙◌, ◌+◌, ◌<◌, ℕ, Bool, List, [], ◌∷◌, ◌++◌, Bor, length, map, get_or, arith, ap, inl, inr, refl, sym, subst, subst₂}
+use Rattle.std.specs.Prelude.{Err, IfOk, None, Ok, Result, Some, false}
+use Rattle.std.specs.List.{Contains, flat_map}
+use Rattle.std.specs.Option.{option_map}
+use Rattle.std.specs.declared.cmp.Ordering.{Ordering}
+use Rattle.std.specs.declared.cmp.Ordering.TheVariants.{Less}
+use Rattle.std.specs.Iterator.{Drains, YieldsFirstRef}
+use Rattle.std.proofs.lemmas.Iterator.Consumers.{YieldsList-from_first}
+use Rattle.std.proofs.lemmas.Iterator.{items_from_drains}
+use Rattle.std.proofs.lemmas.List.{get_or-map, get_or_default, length-map}
+use Rattle.std.proofs.lemmas.Option.{same_Some, slice_get-map, slice_get_cases, slice_get_within}
+use Rattle.commonware_sequence.specs.FixedBytes.{own_bytes}
+use Rattle.commonware_ordered.specs.Dedup.{IsDedup, IsKept}
+use Rattle.commonware_ordered.specs.Strict.{IsStrict}
+
+module _ {R X : Type 0} (value : R → X) (eq : X → X → Bool) (cmp : X → X → Ordering) where
+  -- the order and the equality of what they refer to
+  abbrev pub eq_by : R → R → Bool
+  eq_by x y = eq (value x) (value y)
+
+  abbrev pub cmp_by : R → R → Ordering
+  cmp_by x y = cmp (value x) (value y)
+
+  -- the list of the values of a strictly increasing list is
+  strict_values : (r : List R) → IsStrict cmp_by r → IsStrict cmp (map value r)
+  strict_values [] strict k d h = absurd (omega (arith, h))
+  strict_values (y ∷ r) strict k d h =
+      let within : k + 1 < length (y ∷ r) = omega (arith, h, length-map (y ∷ r) value) in
+      subst₂ (λ a b. cmp a b ≡ Less) (sym (get_or-map value (y ∷ r) k y d (omega (arith, within)))) (sym (get_or-map value (y ∷ r) (k + 1) y d within))
+      (strict k y within)
+
+  -- what is kept of the references is kept of their values
+  kept_values : (l r : List R) → IsDedup eq_by cmp_by l r → (x : X) → Contains (map value r) x → IsKept eq (map value l) x
+  kept_values l [] dedup x (j, within, same) = absurd (omega (arith, within))
+  kept_values l (z ∷ r) dedup x (j, within, same) =
+      let inside : j < length (z ∷ r) = omega (arith, within, length-map (z ∷ r) value) in
+      let y = get_or (z ∷ r) j z in
+      let is : value y ≡ x = sym (get_or-map value (z ∷ r) j z x inside) ∙ same in
+      let kept = (dedup.kept y).0 (j, inside, get_or_default (z ∷ r) j y z inside) in (
+        kept.0,
+        slice_get-map value l kept.0 ∙ ap (option_map value) kept.1 ∙ ap Some is,
+        λ k d low high. subst₂ (λ a b. eq a b ≡ false) (sym (get_or-map value l k y d (omega (arith, high, slice_get_within l kept.0 y kept.1)))) is (kept.2 k y low high),
+      )
+
+  values_kept : (l r : List R) → IsDedup eq_by cmp_by l r → (x : X) → IsKept eq (map value l) x → Contains (map value r) x
+  values_kept l r dedup x (i, at, none) = elim (slice_get_cases l i).1 [
+    | inl (y, inside, here, _) ↦
+        let is : value y ≡ x = same_Some (value y) x (sym (slice_get-map value l i ∙ ap (option_map value) here) ∙ at) in
+        let has = (dedup.kept y).1 (i, here, λ k d low high. subst₂ (λ a b. eq a b ≡ false) (get_or-map value l k d (value d) (omega (arith, high, inside))) (sym is) (none k (value d) low high)) in (
+          has.0,
+          omega (arith, has.1, length-map r value),
+          get_or-map value r has.0 y x has.1 ∙ ap value has.2 ∙ is,
+        )
+    | inr (past, none_here) ↦
+        let never : None ≡ Some x = sym (slice_get-map value l i ∙ ap (option_map value) none_here) ∙ at in
+        absurd (cc)
+  ]
+
+  pub dedup_values : (l r : List R) → IsDedup eq_by cmp_by l r → IsDedup eq cmp (map value l) (map value r)
+  dedup_values l r dedup = record {
+    strict = strict_values r dedup.strict;
+    kept = λ x. (kept_values l r dedup x, values_kept l r dedup x);
+  }
+
+-- the bytes of references are those of what they refer to
+pub flat_values : (xs : List (Bor (List ℕ))) → flat_map (λ k. k.now) xs ≡ flat_map own_bytes (map (λ k. k.now) xs)
+flat_values [] = refl
+flat_values (x ∷ xs) = ap (λ t. x.now ++ t) (flat_values xs)
+
+-- the set of the items of an iterator of references, by what they refer to
+pub dedup_of_items : {X E : Type 0} (eq : X → X → Bool) (cmp : X → X → Ordering) (items it : List X) (r : Result (List (Bor X)) E)
+    (P : List (Bor X) → List (Bor X) → Type 0) → it ≡ items
+    → IfOk r (λ made. (s : List X) × (xs : List (Bor X)) × (s ≡ it) × Drains (YieldsFirstRef (λ left. left)) s xs
+    × (IsDedup (eq_by (λ k. k.now) eq cmp) (cmp_by (λ k. k.now) eq cmp) xs made × P xs made))
+    → IfOk r (λ made. IsDedup eq cmp items (map (λ k. k.now) made))
+dedup_of_items eq cmp items it (Ok made) P same (s, xs, from, drained, kept) =
+    let all : map (λ k. k.now) xs ≡ items =
+    items_from_drains xs (drained.1.0, drained.1.1, λ _. (drained.0, drained.1.2)) (YieldsList-from_first (λ k. k.now) (λ left. left) items (from ∙ same)) in
+    subst (λ ys. IsDedup eq cmp ys (map (λ k. k.now) made)) all (dedup_values (λ k. k.now) eq cmp xs made kept.0)
+dedup_of_items eq cmp items it (Err e) P same h = tt
