@@ -8,3 +8,4 @@ pub mod Roots
 pub mod Sequence
 pub mod Vec
 pub mod VecError
+pub mod Views

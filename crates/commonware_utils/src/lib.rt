@@ -12,6 +12,7 @@ mod macros;
 pub mod ordered;
 pub mod sequence;
 pub mod vec;
+pub mod views;
 
 pub use commonware_base::{
     EqClone, GOLDEN_RATIO, MAX_ALLOCATION_BYTES, Participant, TryCollect, TryFromIterator, Widen,

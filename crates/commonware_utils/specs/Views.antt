@@ -1,0 +1,7 @@
+-- The definitions of `views`: lists, sets and maps of byte sequences of one size, the first faults of inputs that begin
+-- with none, why bytes are no whole items, and where items stand.
+pub use Rattle.commonware_views.specs.Lists.{Any, AreItemsOf, IsGapFor, IsListOf, IsNotWhole, StandBy, list_fault}
+pub use Rattle.commonware_views.specs.Maps.{IsSizedMapOf, sized_map_fault}
+pub use Rattle.commonware_views.specs.Sets.{IsKeySetOf, key_set_fault}
+pub use Rattle.commonware_views.specs.declared.list.NotWhole.{NotWhole}
+pub use Rattle.commonware_views.specs.declared.list.NotWhole.TheVariants.{LeftOver, NoSize}
