@@ -102,7 +102,7 @@ impl<'a> ListView<'a> {
     pub fn is_empty(&self) -> bool
         ensures { result ≡ (length self.now == 0) }
     {
-        self.count == 0
+        self.len() == 0
     }
 
     /// Returns the bytes of all items, one after another.
@@ -144,8 +144,11 @@ impl<'a> ListView<'a> {
             return None;
         }
         let (first, rest) = self.bytes.split_at(self.size);
-        self.count -= 1;
-        self.bytes = rest;
+        *self = ListView {
+            size: self.size,
+            count: self.count - 1,
+            bytes: rest,
+        };
         Some(first)
     }
 
