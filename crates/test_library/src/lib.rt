@@ -57,3 +57,9 @@ mod sorted_pairs;
 mod stated_lengths;
 #[cfg(test)]
 mod u64_items;
+#[cfg(test)]
+mod view_agreement;
+#[cfg(test)]
+mod view_faults;
+#[cfg(test)]
+mod views;
