@@ -9,6 +9,7 @@ mod queues;
 mod ranges;
 mod registries;
 mod roots;
+mod views;
 mod voters;
 mod weights;
 
@@ -20,5 +21,6 @@ pub use queues::{doubled, keep_the_first, latest, remember};
 pub use ranges::{only, only_one_above_zero};
 pub use registries::{owner, powers, registry, registry_of};
 pub use roots::{first, is_before, room, signed_text};
+pub use views::{first_in_shard, first_with_weight, weight_in};
 pub use voters::has_quorum;
 pub use weights::{Weights, read_weights};
