@@ -172,6 +172,7 @@ fn orders_are_refused(rt: HostRuntime) {
         (Form::Set(1), b"\x03\x01\x03\x02", UNSORTED),
         (Form::Set(1), b"\x04\x02\x01\x03\x04\xee", UNSORTED),
         (Form::Set(1), b"\x02\x80\x7f", UNSORTED),
+        (Form::Set(1), b"\x02\xbb\xaa", UNSORTED),
         // Of keys of no bytes any two are equal.
         (Form::Set(0), b"\x02", UNSORTED),
         (Form::Set(0), b"\xff\xff\xff\xff\x0f", UNSORTED),
@@ -198,6 +199,7 @@ fn numbers_of_values_are_refused(rt: HostRuntime) {
             b"\x01\x07\x02\x00\x00\x00\x00",
             Error::InvalidLength(2),
         ),
+        (Form::Map(1, 2), b"\x01\xaa\x02", Error::InvalidLength(2)),
         (
             Form::Map(1, 2),
             b"\x00\x01\x00\x00",
@@ -217,7 +219,7 @@ fn numbers_of_values_are_refused(rt: HostRuntime) {
     assert!(rt; are_refused(rt.alloc(), RangeCfg::from(..), &rows) == Ok(true));
 }
 
-/// How often a source is read on, before it is at its end.
+/// A list, a set and a map are read from one source, one after another.
 #[test]
 fn what_follows_is_left(rt: HostRuntime) {
     let input = b"\x02\x01\x02\x01\x05\x02\x01\x02\x02\x0a\x0b\x02\x03\x01";

@@ -352,6 +352,9 @@ fn any_list_is_searched(rt: HostRuntime) {
     assert!(rt; unsorted.binary_search(b"\x05") == Err(2));
     assert!(rt; unsorted.binary_search(b"\x00") == Err(0));
     assert!(rt; unsorted.binary_search(b"\x0a") == Err(3));
+    let sorted = ListView::new(1, b"\x01\x03\x05").expect(&rt, "a list");
+    assert!(rt; sorted.binary_search(b"\x04") == Err(2));
+    assert!(rt; sorted.binary_search(b"\x09") == Err(3));
     let repeated = ListView::new(1, b"\x01\x02\x02\x02\x03").expect(&rt, "a list");
     assert!(rt; repeated.binary_search(b"\x02") == Ok(2));
     assert!(rt; repeated.binary_search(b"\x01") == Ok(0));
