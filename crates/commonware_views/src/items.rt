@@ -1,6 +1,7 @@
 //! An iterator over byte sequences of one size.
-ghost use Rattle.std.specs.Prelude.{◌≡◌};
-ghost use Rattle.std.specs.Iterator.{YieldsFirstRef, item_count};
+ghost use Rattle.std.specs.Prelude.{◌≡◌, IfSome, Some, length};
+ghost use Rattle.std.specs.Iterator.{UpTo, YieldsFirstRef, at_most, item_count};
+ghost use Rattle.std.specs.Iterator.SizeHint.{IsWithinCount};
 
 use crate::list::ListView;
 use std::marker::Model;
@@ -42,7 +43,11 @@ impl<'a> Iterator for Items<'a> {
     }
 
     /// Returns the exact number of items that are left, twice.
-    fn size_hint(&self) -> (usize, Option<usize>) {
+    fn size_hint(&self) -> (usize, Option<usize>)
+        ensures lower { IsWithinCount result.0 (at_most (length self.now)) }
+        ensures upper { IfSome result.1 (UpTo (at_most (length self.now))) }
+        ensures exact { result ≡ (length self.now, Some (length self.now)) }
+    {
         let left = self.left.len();
         (left, Some(left))
     }
