@@ -1,6 +1,6 @@
 /* The proved committee layer of consensus nodes, for C11 and C++17: how many of n participants may be
- * faulty, the encodings of committees and certificates, and which members signed both of two different
- * values.
+ * faulty, the encodings of committees and certificates, and of sets and maps of keys of any size,
+ * and which members signed both of two different values.
  *
  * The theorem of each function is its contract in crates/commonware_c/src. This header says the same in
  * words; docs/NATIVE.md says what is proved and what only tests show.
@@ -21,7 +21,8 @@
  * with threads.
  *
  * Memory. commonware_committee_write allocates, and frees all of it before it returns; the others
- * allocate nothing, and never return COMMONWARE_MEMORY. The archive holds a heap over malloc, realloc and free. A program with an allocator of its own defines these three instead, with C
+ * allocate nothing, and never return COMMONWARE_MEMORY. The archive holds a heap over malloc,
+ * realloc and free. A program with an allocator of its own defines these three instead, with C
  * linkage and all of them, and the linker takes them:
  *
  *     struct tried { bool ok; unsigned char *block; };
@@ -67,10 +68,12 @@ enum commonware_status {
     COMMONWARE_OUTSIDE = 9,        /* a signer is no member */
     COMMONWARE_TOO_FEW = 10,       /* fewer signers than a quorum */
     COMMONWARE_ROOM = 11,          /* `out` is too short, and the view says what it takes */
-    COMMONWARE_ABSENT = 12,        /* the key isn't among the members */
+    COMMONWARE_ABSENT = 12,        /* the key isn't among the members, or the keys */
     COMMONWARE_NO_MODEL = 13,      /* k is below 2 */
     COMMONWARE_NO_SLOT = 14,       /* the value is no decision for a slot */
-    COMMONWARE_OTHER_SLOT = 15     /* the values are for two different slots */
+    COMMONWARE_OTHER_SLOT = 15,    /* the values are for two different slots */
+    COMMONWARE_NO_SIZE = 16,       /* the key has no bytes, and no number of such can be told */
+    COMMONWARE_NOT_WHOLE = 17      /* bytes follow the last whole key */
 };
 
 /* How many of n participants may be faulty at a resilience n >= kf + 1: the greatest f that fits. It is
@@ -103,7 +106,7 @@ commonware_committee_view commonware_committee_read(
 
 /* Where a key is among others. */
 typedef struct {
-    uint32_t status; /* OK or ABSENT */
+    uint32_t status; /* OK or ABSENT; of commonware_set_index also NO_SIZE and NOT_WHOLE */
     size_t index;    /* at OK: that of the key; at ABSENT: that of the first greater one, or the length */
 } commonware_place_view;
 
@@ -129,6 +132,67 @@ typedef struct {
 commonware_written_view commonware_committee_write(
     const uint8_t (*members)[COMMONWARE_MEMBER_SIZE], size_t members_length,
     uint8_t *out, size_t out_length);
+
+/* A set of keys of one size at the start of the input. */
+typedef struct {
+    uint32_t status; /* OK, END_OF_INPUT, INVALID_VARINT, INVALID_LENGTH or NOT_STRICT */
+    uint32_t count;  /* at OK: how many keys there are */
+    size_t number;   /* at INVALID_LENGTH: how many the input states */
+    size_t start;    /* at OK: the offset of the first key */
+    size_t left;     /* at OK: how many bytes of the input follow the last */
+} commonware_set_view;
+
+/* Decodes a set of `least` to `most` keys of `size` bytes each at the start of the input: OK
+ * exactly where there is one, else the first fault (decoding error). Key i is the `size` bytes from
+ * input + start + i * size on; the keys are strictly increasing in the order of memcmp. Where
+ * `least` is greater than `most`, no number of keys is in range. At a size of 32 it is
+ * commonware_committee_read.
+ *
+ * Every number is a size. At OK count * size doesn't wrap, since the input has as many bytes from
+ * `start` on. Keys of 0 bytes have no bytes in the input and are all the same key, so a set of them
+ * has at most one. */
+commonware_set_view commonware_set_read(
+    size_t size, const uint8_t *input, size_t input_length, size_t least, size_t most);
+
+/* Returns the index of a key of `key_length` bytes among keys of as many bytes, one after another,
+ * in O(log n) comparisons; `keys_length` is in bytes. Among those that commonware_set_read has
+ * found with a size_t `size` it is
+ *
+ *     commonware_set_index(input + view.start, view.count * size, key, size)
+ *
+ * NO_SIZE exactly where `key_length` is 0, since it can't be told how many keys of no bytes there
+ * are: a set of such keys has the key exactly where view.count is 1. NOT_WHOLE exactly where
+ * `key_length` is greater than 0 and doesn't divide `keys_length`. In a list that isn't in order,
+ * OK and ABSENT are as commonware_committee_index has them. */
+commonware_place_view commonware_set_index(
+    const uint8_t *keys, size_t keys_length, const uint8_t *key, size_t key_length);
+
+/* A map of keys of one size and values of another at the start of the input. */
+typedef struct {
+    uint32_t status; /* OK, END_OF_INPUT, INVALID_VARINT, INVALID_LENGTH or NOT_STRICT */
+    uint32_t count;  /* at OK: how many pairs there are */
+    size_t number;   /* at INVALID_LENGTH: the stated length, of the keys or the values */
+    size_t keys;     /* at OK: the offset of the first key */
+    size_t values;   /* at OK: the offset of the first value, which is that of the first key */
+    size_t left;     /* at OK: how many bytes of the input follow the last value */
+} commonware_map_view;
+
+/* Decodes a map of `least` to `most` pairs at the start of the input: the set of its keys, of
+ * `key_size` bytes each, and a list of as many values, of `value_size` bytes each, in the order of
+ * the keys. OK exactly where there is one, else the first fault (decoding error): that of the keys
+ * as commonware_set_read has it, and then that of the values, which is INVALID_LENGTH where the
+ * input states another number of them than of keys. Key i is the key_size bytes from
+ * input + keys + i * key_size on, and its value the value_size bytes from
+ * input + values + i * value_size on. The value of a key is found by the index of the key:
+ *
+ *     at = commonware_set_index(input + view.keys, view.count * key_size, key, key_size);
+ *     value = input + view.values + at.index * value_size; // where at.status is COMMONWARE_OK
+ *
+ * Every number is a size, of keys and of values. Values may be equal; those of 0 bytes have no
+ * bytes in the input. Of keys of 0 bytes a map has at most one. */
+commonware_map_view commonware_map_read(
+    size_t key_size, size_t value_size, const uint8_t *input, size_t input_length, size_t least,
+    size_t most);
 
 /* A certificate at the start of the input. */
 typedef struct {
@@ -189,7 +253,7 @@ commonware_check_view commonware_certificate_check(
 
 /* The result for two certificates. */
 typedef struct {
-    uint32_t status; /* each but INVALID_LENGTH, MEMORY and ABSENT */
+    uint32_t status; /* each up to OTHER_SLOT but INVALID_LENGTH, MEMORY and ABSENT */
     uint32_t which;  /* the input that the status is about, 1 or 2; 0 at OK, NO_MODEL, NO_MEMBERS,
                       * SAME_VALUE, OTHER_SLOT and ROOM */
     size_t number;   /* at LEFT_OVER: how many bytes follow the certificate */

@@ -61,24 +61,29 @@ static uint32_t decode_length(struct rest *rest, size_t least, size_t most, uint
     return status;
 }
 
-/* A set of members; `count` is the length that the input states. */
-static uint32_t decode_committee(struct rest *rest, size_t least, size_t most, uint32_t *count) {
-    const uint32_t status = decode_length(rest, least, most, count);
-    if (status != COMMONWARE_OK) {
-        return status;
-    }
-    const uint8_t *previous = NULL;
-    bool strict = true;
-    for (uint32_t i = 0; i < *count; i++) {
-        if (rest->length < 32) {
+/* Takes `count` items of `size` bytes; says whether they are strictly increasing. */
+static uint32_t decode_items(struct rest *rest, size_t size, uint32_t count, bool *strict) {
+    *strict = size > 0 || count < 2;
+    for (uint32_t i = 0; size > 0 && i < count; i++) {
+        if (rest->length < size) {
             return COMMONWARE_END_OF_INPUT;
         }
-        strict = strict && (previous == NULL || memcmp(previous, rest->bytes, 32) < 0);
-        previous = rest->bytes;
-        rest->bytes += 32;
-        rest->length -= 32;
+        *strict = *strict && (i == 0 || memcmp(rest->bytes - size, rest->bytes, size) < 0);
+        rest->bytes += size;
+        rest->length -= size;
     }
-    return strict ? COMMONWARE_OK : COMMONWARE_NOT_STRICT;
+    return COMMONWARE_OK;
+}
+
+/* A set of keys of `size` bytes; `count` is the length that the input states. */
+static uint32_t decode_set(struct rest *rest, size_t size, size_t least, size_t most,
+                           uint32_t *count) {
+    uint32_t status = decode_length(rest, least, most, count);
+    bool strict = true;
+    if (status == COMMONWARE_OK) {
+        status = decode_items(rest, size, *count, &strict);
+    }
+    return status == COMMONWARE_OK && !strict ? COMMONWARE_NOT_STRICT : status;
 }
 
 /* A list of bytes, and then a set of participants, whose indices go to `signers`. */
@@ -143,7 +148,7 @@ static void try_index(const uint8_t (*members)[32], uint32_t count, const uint8_
 static void try_committee(const uint8_t *input, size_t length, size_t least, size_t most) {
     struct rest rest = {input, length};
     uint32_t count = 0;
-    const uint32_t status = decode_committee(&rest, least, most, &count);
+    const uint32_t status = decode_set(&rest, 32, least, most, &count);
     const commonware_committee_view view = commonware_committee_read(input, length, least, most);
     REQUIRE(view.status == status);
     REQUIRE(status != COMMONWARE_INVALID_LENGTH || view.number == count);
@@ -173,6 +178,117 @@ static void try_committee(const uint8_t *input, size_t length, size_t least, siz
     REQUIRE(memcmp(out, input, size) == 0 && out[size] == 0xee);
     free(keys);
     free(out);
+}
+
+/* The place of a key among some in order, and that of keys which differ from one in a byte. */
+static void try_keys(const uint8_t *keys, uint32_t count, size_t size, const uint8_t *input) {
+    uint8_t *key = room(size, 1);
+    for (uint32_t i = 0; i <= count; i++) {
+        memcpy(key, i < count ? keys + i * size : input, size);
+        for (size_t change = 0; change < 3; change++) {
+            key[(i + change) % size] ^= (uint8_t)(change << 7 | change >> 1);
+            uint32_t place = 0;
+            while (place < count && memcmp(keys + place * size, key, size) < 0) {
+                place++;
+            }
+            const bool is_there = place < count && memcmp(keys + place * size, key, size) == 0;
+            const commonware_place_view view = commonware_set_index(keys, count * size, key, size);
+            REQUIRE(view.status == (is_there ? COMMONWARE_OK : COMMONWARE_ABSENT));
+            REQUIRE(view.index == place);
+        }
+    }
+    free(key);
+}
+
+static void try_set(size_t size, const uint8_t *input, size_t length, size_t least, size_t most) {
+    struct rest rest = {input, length};
+    uint32_t count = 0;
+    const uint32_t status = decode_set(&rest, size, least, most, &count);
+    const commonware_set_view view = commonware_set_read(size, input, length, least, most);
+    REQUIRE(view.status == status);
+    REQUIRE(view.number == (status == COMMONWARE_INVALID_LENGTH ? count : 0));
+    if (status != COMMONWARE_OK) {
+        REQUIRE(view.count == 0 && view.start == 0 && view.left == 0);
+        return;
+    }
+    REQUIRE(view.count == count && view.left == rest.length && view.start <= length);
+    REQUIRE(view.count == 0 || size <= (length - view.start) / view.count);
+    REQUIRE(view.start + view.count * size + view.left == length);
+    const uint8_t *keys = input + view.start;
+    for (uint32_t i = 1; i < count; i++) {
+        REQUIRE(memcmp(keys + (i - 1) * size, keys + i * size, size) < 0);
+    }
+    if (size > 0 && size <= length) {
+        try_keys(keys, count, size, input);
+    }
+}
+
+static void try_map(size_t key_size, size_t value_size, const uint8_t *input, size_t length,
+                    size_t least, size_t most) {
+    struct rest rest = {input, length};
+    uint32_t count = 0, stated = 0;
+    bool strict = true;
+    uint32_t status = decode_set(&rest, key_size, least, most, &count);
+    const uint8_t *values = NULL;
+    if (status != COMMONWARE_OK) {
+        stated = count;
+    } else {
+        status = decode_length(&rest, count, count, &stated);
+        values = rest.bytes;
+        if (status == COMMONWARE_OK) {
+            status = decode_items(&rest, value_size, count, &strict);
+        }
+    }
+    const commonware_map_view view =
+        commonware_map_read(key_size, value_size, input, length, least, most);
+    REQUIRE(view.status == status);
+    REQUIRE(view.number == (status == COMMONWARE_INVALID_LENGTH ? stated : 0));
+    if (status != COMMONWARE_OK) {
+        REQUIRE(view.count == 0 && view.keys == 0 && view.values == 0 && view.left == 0);
+        return;
+    }
+    REQUIRE(view.count == count && view.left == rest.length && input + view.values == values);
+    REQUIRE(view.keys + count * key_size < view.values);
+    REQUIRE(view.values + count * value_size + view.left == length);
+    const commonware_set_view set = commonware_set_read(key_size, input, length, least, most);
+    REQUIRE(set.status == COMMONWARE_OK && set.start == view.keys && set.count == count);
+}
+
+/* Any bytes as a list of keys, whose first is sought: not whole ones, or in any order. */
+static void try_list(size_t size, const uint8_t *input, size_t length) {
+    const size_t count = size > 0 ? length / size : 0;
+    if (size > length) {
+        return;
+    }
+    const commonware_place_view view = commonware_set_index(input, length, input, size);
+    if (size == 0) {
+        REQUIRE(view.status == COMMONWARE_NO_SIZE && view.index == 0);
+    } else if (length % size > 0) {
+        REQUIRE(view.status == COMMONWARE_NOT_WHOLE && view.index == 0);
+    } else if (view.status == COMMONWARE_OK) {
+        REQUIRE(view.index < count && memcmp(input + view.index * size, input, size) == 0);
+    } else {
+        REQUIRE(view.status == COMMONWARE_ABSENT && view.index <= count);
+        const uint8_t *at = input + view.index * size;
+        REQUIRE(view.index == 0 || memcmp(at - size, input, size) < 0);
+        REQUIRE(view.index == count || memcmp(at, input, size) > 0);
+    }
+}
+
+/* Sizes that are in use, small ones, and some of which few keys have 2^64 bytes and more. */
+static const size_t sizes[] = {0, 1, 2, 3, 7, 8, 9, 16, 20, 32, 33, 48, 96,
+                               SIZE_MAX, SIZE_MAX / 2 + 1, SIZE_MAX / 4 + 2, SIZE_MAX / 8 + 1};
+
+/* `value` is a size of values, and says which of the others goes with which size of keys. */
+static void try_sizes(const uint8_t *input, size_t length, size_t low, size_t high, size_t value) {
+    const size_t all = sizeof sizes / sizeof *sizes;
+    for (size_t i = 0; i < all; i++) {
+        try_set(sizes[i], input, length, low, high);
+        try_set(sizes[i], input, length, 0, SIZE_MAX);
+        try_list(sizes[i], input, length);
+        try_map(sizes[i], sizes[(i + value) % all], input, length, low, high);
+        try_map(sizes[i], value, input, length, 0, SIZE_MAX);
+    }
 }
 
 static void try_certificate(const uint8_t *input, size_t length, size_t most_bytes, size_t most_signers) {
@@ -376,6 +492,7 @@ int LLVMFuzzerTestOneInput(const uint8_t *data, size_t size) {
     memcpy(input, data + 3, length);
     try_committee(input, length, low, high);
     try_committee(input, length, 0, SIZE_MAX);
+    try_sizes(input, length, low, high, k);
     try_certificate(input, length, low, high);
     try_certificate(input, length, SIZE_MAX, SIZE_MAX);
     try_indices(input, length, low < length ? low : length);

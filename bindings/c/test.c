@@ -152,6 +152,204 @@ static void test_index(void) {
     CHECK(none.status == COMMONWARE_ABSENT && none.index == 0);
 }
 
+/* Sizes of keys that are in use, and of one byte. */
+static const size_t sizes[] = {1, 20, 32, 33, 48, 96};
+
+#define SIZES (sizeof sizes / sizeof *sizes)
+
+/* What the view says, field by field; what isn't described at a status is 0. */
+static bool is_set(commonware_set_view view, uint32_t status, uint32_t count, size_t number,
+                   size_t start, size_t left) {
+    return view.status == status && view.count == count && view.number == number
+        && view.start == start && view.left == left;
+}
+
+static bool is_map(commonware_map_view view, uint32_t status, uint32_t count, size_t number,
+                   size_t keys, size_t values, size_t left) {
+    return view.status == status && view.count == count && view.number == number
+        && view.keys == keys && view.values == values && view.left == left;
+}
+
+static bool is_place(commonware_place_view view, uint32_t status, size_t index) {
+    return view.status == status && view.index == index;
+}
+
+/* Writes the keys 11 .. 11 22 and 11 .. 11 33 of this size, which differ in the last byte alone. */
+static void put_two(uint8_t *out, size_t size) {
+    memset(out, 0x11, 2 * size);
+    out[size - 1] = 0x22;
+    out[2 * size - 1] = 0x33;
+}
+
+static void test_set(void) {
+    uint8_t bytes[1 + 2 * 96 + 3] = {2};
+    for (size_t i = 0; i < SIZES; i++) {
+        const size_t size = sizes[i], length = 1 + 2 * size;
+        put_two(bytes + 1, size);
+        commonware_set_view view = commonware_set_read(size, bytes, length + 3, 2, 2);
+        CHECK(is_set(view, COMMONWARE_OK, 2, 0, 1, 3));
+        view = commonware_set_read(size, bytes, length, 0, SIZE_MAX);
+        CHECK(is_set(view, COMMONWARE_OK, 2, 0, 1, 0));
+        view = commonware_set_read(size, bytes, length - 1, 0, SIZE_MAX);
+        CHECK(is_set(view, COMMONWARE_END_OF_INPUT, 0, 0, 0, 0));
+        view = commonware_set_read(size + 1, bytes, length, 0, SIZE_MAX);
+        CHECK(is_set(view, COMMONWARE_END_OF_INPUT, 0, 0, 0, 0));
+        view = commonware_set_read(size, bytes, length, 3, SIZE_MAX);
+        CHECK(is_set(view, COMMONWARE_INVALID_LENGTH, 0, 2, 0, 0));
+        view = commonware_set_read(size, bytes, length, 0, 1);
+        CHECK(is_set(view, COMMONWARE_INVALID_LENGTH, 0, 2, 0, 0));
+        view = commonware_set_read(size, bytes, length, 3, 1);
+        CHECK(is_set(view, COMMONWARE_INVALID_LENGTH, 0, 2, 0, 0));
+        for (uint8_t last = 0x21; last <= 0x23; last++) {
+            bytes[2 * size] = last;
+            view = commonware_set_read(size, bytes, length, 0, 9);
+            CHECK(view.status == (last == 0x23 ? COMMONWARE_OK : COMMONWARE_NOT_STRICT));
+            CHECK(last == 0x23 || is_set(view, COMMONWARE_NOT_STRICT, 0, 0, 0, 0));
+            view = commonware_set_read(size, bytes, length - 1, 0, 9);
+            CHECK(is_set(view, COMMONWARE_END_OF_INPUT, 0, 0, 0, 0));
+        }
+    }
+    const uint8_t overlong[] = {0x80, 0}, past[] = {255, 255, 255, 255, 16}, none[] = {0};
+    const commonware_set_view view = commonware_set_read(48, OF(overlong), 0, 9);
+    CHECK(is_set(view, COMMONWARE_INVALID_VARINT, 0, 0, 0, 0));
+    CHECK(is_set(commonware_set_read(0, OF(past), 0, 9), COMMONWARE_INVALID_VARINT, 0, 0, 0, 0));
+    CHECK(is_set(commonware_set_read(20, NULL, 0, 0, 9), COMMONWARE_END_OF_INPUT, 0, 0, 0, 0));
+    CHECK(is_set(commonware_set_read(96, OF(none), 0, 9), COMMONWARE_OK, 0, 0, 1, 0));
+}
+
+/* Keys of no bytes, and sizes whose product with the number of keys is past 2^64. */
+static void test_set_extremes(void) {
+    const uint8_t none[] = {0, 9}, one[] = {1, 9}, two[] = {2, 9};
+    const uint8_t most[] = {255, 255, 255, 255, 15};
+    CHECK(is_set(commonware_set_read(0, OF(none), 0, 9), COMMONWARE_OK, 0, 0, 1, 1));
+    CHECK(is_set(commonware_set_read(0, OF(one), 0, 9), COMMONWARE_OK, 1, 0, 1, 1));
+    CHECK(is_set(commonware_set_read(0, OF(two), 0, 9), COMMONWARE_NOT_STRICT, 0, 0, 0, 0));
+    CHECK(is_set(commonware_set_read(0, OF(two), 0, 1), COMMONWARE_INVALID_LENGTH, 0, 2, 0, 0));
+    CHECK(is_set(commonware_set_read(0, OF(most), 0, SIZE_MAX), COMMONWARE_NOT_STRICT, 0, 0, 0, 0));
+    CHECK(is_set(commonware_set_read(0, NULL, 0, 0, 9), COMMONWARE_END_OF_INPUT, 0, 0, 0, 0));
+    for (unsigned bits = 57; bits <= 64; bits++) {
+        /* 2^bits and its neighbours; of 2^64 / size keys the product is 2^64. */
+        const size_t power = bits == 64 ? 0 : (size_t)1 << bits;
+        for (size_t i = 0; i < 3; i++) {
+            const size_t size = power - 1 + i;
+            uint8_t bytes[3] = {(uint8_t)(bits == 64 ? 1 : 1 << (64 - bits)), 1, 2};
+            if (bits == 57) {
+                bytes[0] = 127;
+            }
+            if (size < 2) {
+                continue;
+            }
+            commonware_set_view view = commonware_set_read(size, OF(bytes), 0, 255);
+            CHECK(is_set(view, COMMONWARE_END_OF_INPUT, 0, 0, 0, 0));
+            CHECK(is_set(commonware_set_read(size, OF(none), 0, 9), COMMONWARE_OK, 0, 0, 1, 1));
+            commonware_map_view map = commonware_map_read(size, size, OF(bytes), 0, 255);
+            CHECK(is_map(map, COMMONWARE_END_OF_INPUT, 0, 0, 0, 0, 0));
+            const uint8_t empty[] = {0, 0, 9}, pair[] = {1, 9, 1, 8};
+            map = commonware_map_read(size, size, OF(empty), 0, 9);
+            CHECK(is_map(map, COMMONWARE_OK, 0, 0, 1, 2, 1));
+            map = commonware_map_read(1, size, OF(pair), 0, 9);
+            CHECK(is_map(map, COMMONWARE_END_OF_INPUT, 0, 0, 0, 0, 0));
+            CHECK(is_map(commonware_map_read(1, 1, OF(pair), 0, 9), COMMONWARE_OK, 1, 0, 1, 3, 0));
+        }
+    }
+}
+
+static void test_set_index(void) {
+    uint8_t keys[3 * 96 + 1], key[96];
+    for (size_t i = 0; i < SIZES; i++) {
+        const size_t size = sizes[i];
+        /* 11 .. 11 22, 11 .. 11 33 and 11 .. 11 44. */
+        put_two(keys, size);
+        memset(keys + 2 * size, 0x11, size);
+        keys[3 * size - 1] = 0x44;
+        for (uint8_t last = 0x21; last <= 0x45; last++) {
+            memset(key, 0x11, size);
+            key[size - 1] = last;
+            const size_t less = (last > 0x22) + (last > 0x33) + (last > 0x44);
+            const bool is_there = last == 0x22 || last == 0x33 || last == 0x44;
+            const uint32_t status = is_there ? COMMONWARE_OK : COMMONWARE_ABSENT;
+            CHECK(is_place(commonware_set_index(keys, 3 * size, key, size), status, less));
+        }
+        CHECK(is_place(commonware_set_index(NULL, 0, key, size), COMMONWARE_ABSENT, 0));
+        CHECK(is_place(commonware_set_index(keys, size, key, size), COMMONWARE_ABSENT, 1));
+        for (size_t length = 0; size > 1 && length <= 3 * size; length++) {
+            const commonware_place_view view = commonware_set_index(keys, length, keys, size);
+            const bool is_whole = length % size == 0;
+            const uint32_t status = length == 0 ? COMMONWARE_ABSENT : COMMONWARE_OK;
+            CHECK(is_place(view, is_whole ? status : COMMONWARE_NOT_WHOLE, 0));
+        }
+        CHECK(is_place(commonware_set_index(keys, 3 * size, key, 0), COMMONWARE_NO_SIZE, 0));
+    }
+    CHECK(is_place(commonware_set_index(keys, 96, NULL, 0), COMMONWARE_NO_SIZE, 0));
+    CHECK(is_place(commonware_set_index(NULL, 0, NULL, 0), COMMONWARE_NO_SIZE, 0));
+    /* Out of order: the index of the key, or a gap. */
+    const uint8_t mixed[] = {5, 1, 9}, five[] = {5}, seven[] = {7};
+    commonware_place_view view = commonware_set_index(OF(mixed), OF(five));
+    CHECK(is_place(view, COMMONWARE_OK, 0) || is_place(view, COMMONWARE_ABSENT, 2));
+    view = commonware_set_index(OF(mixed), OF(seven));
+    CHECK(is_place(view, COMMONWARE_ABSENT, 2));
+}
+
+static void test_map(void) {
+    /* Keys of each size, and values 07 .. 07 and 08 .. 08 of 8 bytes; then three bytes. */
+    uint8_t bytes[1 + 2 * 96 + 1 + 2 * 8 + 3] = {2};
+    for (size_t i = 0; i < SIZES; i++) {
+        const size_t size = sizes[i], at = 2 + 2 * size, length = at + 16;
+        put_two(bytes + 1, size);
+        bytes[at - 1] = 2;
+        memset(bytes + at, 7, 8);
+        memset(bytes + at + 8, 8, 8);
+        commonware_map_view view = commonware_map_read(size, 8, bytes, length + 3, 2, 2);
+        CHECK(is_map(view, COMMONWARE_OK, 2, 0, 1, at, 3));
+        uint8_t key[96];
+        memcpy(key, bytes + 1 + size, size);
+        const commonware_place_view place =
+            commonware_set_index(bytes + view.keys, view.count * size, key, size);
+        CHECK(is_place(place, COMMONWARE_OK, 1));
+        CHECK(bytes[view.values + place.index * 8] == 8);
+        for (size_t end = 0; end < length; end++) {
+            view = commonware_map_read(size, 8, bytes, end, 0, 9);
+            CHECK(is_map(view, COMMONWARE_END_OF_INPUT, 0, 0, 0, 0, 0));
+        }
+        view = commonware_map_read(size, 8, bytes, length, 3, 9);
+        CHECK(is_map(view, COMMONWARE_INVALID_LENGTH, 0, 2, 0, 0, 0));
+        view = commonware_map_read(size, 8, bytes, length, 3, 1);
+        CHECK(is_map(view, COMMONWARE_INVALID_LENGTH, 0, 2, 0, 0, 0));
+        bytes[at - 1] = 3;
+        view = commonware_map_read(size, 8, bytes, length, 0, 9);
+        CHECK(is_map(view, COMMONWARE_INVALID_LENGTH, 0, 3, 0, 0, 0));
+        bytes[at - 1] = 1;
+        view = commonware_map_read(size, 8, bytes, length, 0, 9);
+        CHECK(is_map(view, COMMONWARE_INVALID_LENGTH, 0, 1, 0, 0, 0));
+        bytes[at - 1] = 0x80;
+        bytes[at] = 0;
+        view = commonware_map_read(size, 8, bytes, length, 0, 9);
+        CHECK(is_map(view, COMMONWARE_INVALID_VARINT, 0, 0, 0, 0, 0));
+        /* The fault of the keys comes first. */
+        bytes[2 * size] = 0x22;
+        view = commonware_map_read(size, 8, bytes, length, 0, 9);
+        CHECK(is_map(view, COMMONWARE_NOT_STRICT, 0, 0, 0, 0, 0));
+        bytes[2 * size] = 0x33;
+        /* Values of no bytes, and equal ones. */
+        bytes[at - 1] = 2;
+        view = commonware_map_read(size, 0, bytes, at, 0, 9);
+        CHECK(is_map(view, COMMONWARE_OK, 2, 0, 1, at, 0));
+        memset(bytes + at, 7, 16);
+        view = commonware_map_read(size, 8, bytes, length, 0, 9);
+        CHECK(is_map(view, COMMONWARE_OK, 2, 0, 1, at, 0));
+    }
+    /* Keys of no bytes. */
+    const uint8_t overlong[] = {0x80, 0}, one[] = {1, 1, 7, 7, 9}, two[] = {2, 2, 7, 7};
+    commonware_map_view view = commonware_map_read(0, 2, OF(one), 0, 9);
+    CHECK(is_map(view, COMMONWARE_OK, 1, 0, 1, 2, 1));
+    CHECK(is_map(commonware_map_read(0, 0, OF(one), 0, 9), COMMONWARE_OK, 1, 0, 1, 2, 3));
+    CHECK(is_map(commonware_map_read(0, 1, OF(two), 0, 9), COMMONWARE_NOT_STRICT, 0, 0, 0, 0, 0));
+    view = commonware_map_read(20, 8, OF(overlong), 0, 9);
+    CHECK(is_map(view, COMMONWARE_INVALID_VARINT, 0, 0, 0, 0, 0));
+    view = commonware_map_read(20, 8, NULL, 0, 0, 9);
+    CHECK(is_map(view, COMMONWARE_END_OF_INPUT, 0, 0, 0, 0, 0));
+}
+
 static void test_certificate(void) {
     uint32_t signers[4] = {9, 9, 9, 9};
     commonware_certificate_view view = commonware_certificate_read(OF(first), 32, 256, OF(signers));
@@ -270,6 +468,29 @@ static void test_slots(void) {
     CHECK(view.status == COMMONWARE_OUTSIDE && view.which == 2 && out[0] == 1);
 }
 
+/* Sets, maps and keys of each size, and what they begin with, before a page that can't be read. */
+static void try_keys_before(uint8_t *stop) {
+    for (size_t i = 0; i < SIZES; i++) {
+        const size_t size = sizes[i], whole = 2 + 2 * size + 2 * (size / 2);
+        uint8_t map[2 + 3 * 96] = {2};
+        put_two(map + 1, size);
+        map[1 + 2 * size] = 2;
+        for (size_t end = 0; end <= 1 + 2 * size; end++) {
+            memcpy(stop - end, map, end);
+            const uint32_t status = commonware_set_read(size, stop - end, end, 0, 9).status;
+            CHECK(status == (end < 1 + 2 * size ? COMMONWARE_END_OF_INPUT : COMMONWARE_OK));
+        }
+        /* Two values, of half as many bytes as a key. */
+        memcpy(stop - whole, map, whole);
+        const commonware_map_view view =
+            commonware_map_read(size, size / 2, stop - whole, whole, 0, 9);
+        CHECK(is_map(view, COMMONWARE_OK, 2, 0, 1, 2 + 2 * size, 0));
+        put_two(stop - 2 * size, size);
+        const uint8_t *const key = stop - size;
+        CHECK(is_place(commonware_set_index(key - size, 2 * size, key, size), COMMONWARE_OK, 1));
+    }
+}
+
 /* Every input up to some length ends before a page that can't be read, and each room before one that
  * can't be written. */
 static void test_pages(void) {
@@ -278,6 +499,7 @@ static void test_pages(void) {
     CHECK(pages != MAP_FAILED);
     CHECK(mprotect(pages + page, page, PROT_NONE) == 0);
     CHECK(mprotect(pages + 3 * page, page, PROT_NONE) == 0);
+    try_keys_before(pages + page);
     uint8_t committee[1 + 3 * 32] = {3};
     committee[33] = 1;
     committee[65] = 2;
@@ -324,6 +546,16 @@ static void test_long(void) {
     CHECK(written.status == COMMONWARE_ROOM && written.size == limit + 5 && out[0] == 9);
     const commonware_committee_view view = commonware_committee_read(zeros, 2 * limit, 0, SIZE_MAX);
     CHECK(view.status == COMMONWARE_OK && view.count == 0 && view.left == 2 * limit - 1);
+    const commonware_set_view set = commonware_set_read(48, zeros, 2 * limit, 0, 9);
+    CHECK(is_set(set, COMMONWARE_OK, 0, 0, 1, 2 * limit - 1));
+    const commonware_map_view map = commonware_map_read(48, 96, zeros, 2 * limit, 0, 9);
+    CHECK(is_map(map, COMMONWARE_OK, 0, 0, 1, 2, 2 * limit - 2));
+    /* 2^30 keys of 16 zeros. */
+    const uint8_t one[16] = {[15] = 1};
+    CHECK(is_place(commonware_set_index(zeros, 4 * limit, OF(one)), COMMONWARE_ABSENT, limit / 4));
+    CHECK(is_place(commonware_set_index(zeros, 4 * limit - 1, OF(one)), COMMONWARE_NOT_WHOLE, 0));
+    CHECK(commonware_set_index(zeros, 4 * limit, zeros, 16).status == COMMONWARE_OK);
+    CHECK(is_place(commonware_set_index(zeros, limit + 1, zeros, limit), COMMONWARE_NOT_WHOLE, 0));
     CHECK(munmap(zeros, 4 * limit) == 0);
 }
 
@@ -390,8 +622,9 @@ static void test_memory(void) {
     uint8_t keys[5][32] = {{5}, {4}, {3}, {2}, {1}};
     const uint8_t(*members)[32] = (const uint8_t(*)[32])keys;
     uint8_t committee[COMMONWARE_COMMITTEE_SIZE(5)];
+    const uint8_t empty[] = {0, 0};
     uint32_t out[4];
-    for (int call = 0; call < 6; call++) {
+    for (int call = 0; call < 9; call++) {
         for (allowed = 0;; allowed++) {
             requests = 0;
             memset(out, 0xee, sizeof out);
@@ -403,7 +636,10 @@ static void test_memory(void) {
                 : call == 2 ? commonware_conflict(3, 4, OF(first), OF(second), OF(out)).status
                 : call == 3 ? commonware_committee_read(OF(committee), 0, 256).status
                 : call == 4 ? commonware_committee_index(members, 0, members).status - COMMONWARE_ABSENT
-                            : commonware_certificate_write(NULL, 0, NULL, 0, OF(committee)).status;
+                : call == 5 ? commonware_certificate_write(NULL, 0, NULL, 0, OF(committee)).status
+                : call == 6 ? commonware_set_read(20, OF(committee), 0, 256).status
+                : call == 7 ? commonware_map_read(20, 8, OF(empty), 0, 256).status
+                            : commonware_set_index(keys[0], 32, keys[0], 32).status;
             CHECK(live == 0);
             if (status == COMMONWARE_OK) {
                 break;
@@ -420,6 +656,10 @@ int main(void) {
     test_numbers();
     test_committee();
     test_index();
+    test_set();
+    test_set_extremes();
+    test_set_index();
+    test_map();
     test_certificate();
     test_conflict();
     test_slots();
