@@ -1,10 +1,13 @@
 //! Committees, certificates and quorums of consensus nodes: how many of n participants may be
-//! faulty, the encodings of committees and of certificates, and which members signed both of
-//! two different values.
+//! faulty, the encodings of committees and of certificates, and of sets and maps of keys of any
+//! size, and which members signed both of two different values.
 //!
-//! Each call is one call of the static library `commonware_c`, which is written in Rattle and whose
-//! contracts are proved; nothing is decided here. No call panics or aborts: an allocation failure is
-//! an error, which says nothing of the input.
+//! Each call is one call of the static library `commonware_c`, which is written in Rattle and
+//! whose contracts are proved; nothing is decided here, but that a key of another size than the
+//! keys of a set isn't there, and where one of no bytes is. No call panics or aborts: an
+//! allocation failure is an error, which says nothing of the input. Only the copies of keys and
+//! pairs ([`Set::to_vec`], [`SetView::to_owned_keys`], [`MapView::to_owned_pairs`]) take their
+//! memory as `Vec` does.
 //!
 //! ```
 //! use commonware_proved::{Certificate, Committee, FaultModel, check, equivocation, slot_value};
@@ -28,8 +31,11 @@ mod conflict;
 mod equivocation;
 mod error;
 mod faults;
+mod items;
+mod map;
 mod raw;
 mod room;
+mod set;
 mod status;
 
 pub use certificate::Certificate;
@@ -39,3 +45,6 @@ pub use conflict::{ConflictError, conflict};
 pub use equivocation::{EquivocationError, equivocation, slot_value};
 pub use error::{EncodeError, Refusal};
 pub use faults::FaultModel;
+pub use items::Items;
+pub use map::MapView;
+pub use set::{Set, SetView};

@@ -5,11 +5,22 @@ use crate::Member;
 
 #[repr(C)]
 #[derive(Clone, Copy)]
-pub struct CommitteeView {
+pub struct KeysView {
     pub status: u32,
     pub count: u32,
     pub number: usize,
     pub start: usize,
+    pub left: usize,
+}
+
+#[repr(C)]
+#[derive(Clone, Copy)]
+pub struct PairsView {
+    pub status: u32,
+    pub count: u32,
+    pub number: usize,
+    pub keys: usize,
+    pub values: usize,
     pub left: usize,
 }
 
@@ -75,7 +86,7 @@ unsafe extern "C" {
         input_length: usize,
         least: usize,
         most: usize,
-    ) -> CommitteeView;
+    ) -> KeysView;
     pub fn commonware_committee_index(
         members: *const Member,
         members_length: usize,
@@ -87,6 +98,27 @@ unsafe extern "C" {
         out: *mut u8,
         out_length: usize,
     ) -> WrittenView;
+    pub fn commonware_set_read(
+        size: usize,
+        input: *const u8,
+        input_length: usize,
+        least: usize,
+        most: usize,
+    ) -> KeysView;
+    pub fn commonware_set_index(
+        keys: *const u8,
+        keys_length: usize,
+        key: *const u8,
+        key_length: usize,
+    ) -> PlaceView;
+    pub fn commonware_map_read(
+        key_size: usize,
+        value_size: usize,
+        input: *const u8,
+        input_length: usize,
+        least: usize,
+        most: usize,
+    ) -> PairsView;
     pub fn commonware_certificate_read(
         input: *const u8,
         input_length: usize,

@@ -6,39 +6,13 @@ use common::naive::{
     accused, certificate_bytes, committee_bytes, encode_parts, read_members, read_parts,
 };
 use common::random::{Random, some_keys, some_parts, spoil};
+use common::seen::{Seen, name};
 use commonware_proved::{
     Certificate, Committee, ConflictError, FaultModel, Member, Refusal, conflict,
 };
-use std::collections::{BTreeMap, BTreeSet};
+use std::collections::BTreeSet;
 
 const CASES: usize = 100_000;
-
-/// How often each outcome was seen, so that a test can require that it saw all.
-#[derive(Default)]
-struct Seen(BTreeMap<String, usize>);
-
-impl Seen {
-    fn note(&mut self, outcome: &str) {
-        *self.0.entry(outcome.to_string()).or_default() += 1;
-    }
-
-    fn assert_each(&self, outcomes: usize, least: usize) {
-        assert_eq!(self.0.len(), outcomes, "{:?}", self.0);
-        assert!(self.0.values().all(|count| *count >= least), "{:?}", self.0);
-    }
-}
-
-/// Returns the name of a refusal, without its number.
-fn name(refusal: &Refusal) -> &'static str {
-    match refusal {
-        Refusal::EndOfInput => "end",
-        Refusal::InvalidVarint => "varint",
-        Refusal::InvalidLength(_) => "length",
-        Refusal::NotStrict => "strict",
-        Refusal::LeftOver(_) => "left over",
-        Refusal::Memory => "memory",
-    }
-}
 
 /// Returns the keys sorted, each once.
 fn sorted(keys: &[Member]) -> Vec<Member> {

@@ -4,7 +4,7 @@
 
 use commonware_proved::{
     Certificate, CheckError, Committee, ConflictError, EncodeError, EquivocationError, FaultModel,
-    Refusal, check, conflict, equivocation, slot_value,
+    MapView, Refusal, Set, SetView, check, conflict, equivocation, slot_value,
 };
 use std::cell::Cell;
 use std::ptr::NonNull;
@@ -112,6 +112,29 @@ fn reading_a_committee_allocates_nothing() {
     let committee = Committee::try_from(&bytes[..]).unwrap();
     assert_eq!(
         refuse_each(&(), || committee.index_of(&[2; 32]).ok_or(())),
+        0
+    );
+}
+
+#[test]
+fn reading_sets_and_maps_allocates_nothing() {
+    let keys: Vec<u8> = (0..200u8).flat_map(|i| [i; 48]).collect();
+    let set = [&[200, 1][..], &keys].concat();
+    let map = [&set[..], &[200, 1], &[7; 200]].concat();
+    let call = || SetView::whole(48, &set);
+    assert_eq!(refuse_each(&Refusal::Memory, call), 0);
+    assert_eq!(
+        refuse_each(&(), || call().unwrap().index_of(&[77; 48]).ok_or(())),
+        0
+    );
+    let call = || MapView::whole(48, 1, &map);
+    assert_eq!(refuse_each(&Refusal::Memory, call), 0);
+    assert_eq!(
+        refuse_each(&(), || call().unwrap().get(&[77; 48]).ok_or(())),
+        0
+    );
+    assert_eq!(
+        refuse_each(&Refusal::Memory, || Set::<48>::try_from(&set[..])),
         0
     );
 }

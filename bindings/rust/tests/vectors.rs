@@ -1,6 +1,7 @@
-//! The vectors of certificates at the repository's root, whose results were worked out by hand.
+//! The vectors of certificates, and of sets and maps of bytes, at the repository's root: their
+//! results were worked out by hand.
 
-use commonware_proved::{Certificate, Refusal};
+use commonware_proved::{Certificate, MapView, Refusal, SetView};
 use std::fs;
 use std::path::{Path, PathBuf};
 
@@ -28,11 +29,23 @@ fn bytes(digits: &str) -> Vec<u8> {
     digits.chunks(2).map(byte).collect()
 }
 
-fn result_of(input: &[u8], most_bytes: usize, most_signers: usize) -> String {
-    match Certificate::read(input, most_bytes, most_signers) {
-        Ok((certificate, rest)) => {
-            format!("accepted {} {}", certificate.signers().len(), rest.len())
-        }
+/// Returns the least and the greatest number of a range.
+fn limits(range: &str) -> (usize, usize) {
+    let (least, end) = range.split_once("..").expect("a range");
+    let least = match least {
+        "" => 0,
+        least => least.parse().expect("a number"),
+    };
+    match most(&format!("..{end}")) {
+        Some(most) => (least, most),
+        None => (1, 0),
+    }
+}
+
+/// Returns the answer of the vectors to a result, of how many items and which bytes left over.
+fn answer(result: Result<(usize, &[u8]), Refusal>) -> String {
+    match result {
+        Ok((count, rest)) => format!("accepted {count} {}", rest.len()),
         Err(Refusal::EndOfInput) => "EndOfBuffer".to_string(),
         Err(Refusal::InvalidVarint) => "InvalidVarint".to_string(),
         Err(Refusal::InvalidLength(length)) => format!("InvalidLength {length}"),
@@ -41,25 +54,62 @@ fn result_of(input: &[u8], most_bytes: usize, most_signers: usize) -> String {
     }
 }
 
-#[test]
-fn certificates_are_decoded_as_the_vectors_say() {
-    let (questions, answers) = (
-        vectors("certificate.questions"),
-        vectors("certificate.answers"),
-    );
+/// Returns the questions of a file, each as its words, and the answers to them.
+fn asked(name: &str) -> Vec<(Vec<String>, String)> {
+    let questions = vectors(&format!("{name}.questions"));
+    let answers = vectors(&format!("{name}.answers"));
     let questions = questions
         .lines()
-        .filter(|line| !line.is_empty() && !line.starts_with('#'));
+        .filter(|it| !it.is_empty() && !it.starts_with('#'));
+    let words = questions.map(|it| it.split_whitespace().map(str::to_string).collect());
+    words.zip(answers.lines().map(str::to_string)).collect()
+}
+
+#[test]
+fn sets_of_bytes_are_decoded_as_the_vectors_say() {
+    let asked = asked("set_u8");
+    for (words, expected) in &asked {
+        let [_, range, input] = &words[..] else {
+            panic!("{words:?}");
+        };
+        let (least, most) = limits(range);
+        let input = bytes(input);
+        let result = SetView::read(1, &input, least..=most);
+        let result = result.map(|(set, rest)| (set.len(), rest));
+        assert_eq!(answer(result), *expected, "{words:?}");
+    }
+    assert!(asked.len() > 10, "{}", asked.len());
+}
+
+#[test]
+fn maps_of_bytes_are_decoded_as_the_vectors_say() {
+    let asked = asked("map_u8_u8");
+    for (words, expected) in &asked {
+        let [_, range, input] = &words[..] else {
+            panic!("{words:?}");
+        };
+        let (least, most) = limits(range);
+        let input = bytes(input);
+        let result = MapView::read(1, 1, &input, least..=most);
+        let result = result.map(|(map, rest)| (map.len(), rest));
+        assert_eq!(answer(result), *expected, "{words:?}");
+    }
+    assert!(asked.len() > 15, "{}", asked.len());
+}
+
+#[test]
+fn certificates_are_decoded_as_the_vectors_say() {
     let mut tried = 0;
-    for (question, expected) in questions.zip(answers.lines()) {
-        let words: Vec<&str> = question.split_whitespace().collect();
-        let [_, value, signers, input] = words[..] else {
-            panic!("{question}");
+    for (words, expected) in asked("certificate") {
+        let [_, value, signers, input] = &words[..] else {
+            panic!("{words:?}");
         };
         // The call takes no lower bounds.
         if let (Some(most_bytes), Some(most_signers)) = (most(value), most(signers)) {
-            let result = result_of(&bytes(input), most_bytes, most_signers);
-            assert_eq!(result, expected, "{question}");
+            let input = bytes(input);
+            let result = Certificate::read(&input, most_bytes, most_signers);
+            let result = result.map(|(it, rest)| (it.signers().len(), rest));
+            assert_eq!(answer(result), expected, "{words:?}");
             tried += 1;
         }
     }

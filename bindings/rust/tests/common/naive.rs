@@ -15,7 +15,8 @@ pub fn varint(mut n: u64) -> Vec<u8> {
     bytes
 }
 
-fn read_varint(input: &[u8]) -> Result<(u32, &[u8]), Refusal> {
+/// Decodes the varint at the start of the input; returns what follows it.
+pub fn read_varint(input: &[u8]) -> Result<(u32, &[u8]), Refusal> {
     let mut n = 0u64;
     for i in 0..5 {
         let Some(&b) = input.get(i) else {

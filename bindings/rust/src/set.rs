@@ -1,0 +1,424 @@
+//! Sets of keys of one size, in their encoding.
+
+use crate::items::{Items, List};
+use crate::{Refusal, raw, status};
+use std::ops::RangeInclusive;
+use std::slice;
+
+/// The keys of a set, strictly increasing, borrowed from its encoding, of a size that is known
+/// only when the program runs. Nothing is copied. Every number is a size; keys of no bytes are
+/// all the same key, so a set has at most one of them. [`Set`] has the size in its type.
+///
+/// ```
+/// use commonware_proved::SetView;
+///
+/// // Two keys of 20 bytes, as Ethereum's addresses have.
+/// let bytes = [&[2][..], &[0xaa; 20], &[0xbb; 20]].concat();
+/// let addresses = SetView::whole(20, &bytes)?;
+/// assert_eq!(addresses.get(1), Some(&[0xbb; 20][..]));
+/// assert_eq!(addresses.index_of(&[0xbb; 20]), Some(1));
+/// assert!(!addresses.contains(&[0xcc; 20]));
+/// # Ok::<(), commonware_proved::Refusal>(())
+/// ```
+#[derive(Clone, Copy, Debug, PartialEq, Eq, Hash)]
+pub struct SetView<'a> {
+    keys: List<'a>,
+}
+
+impl<'a> SetView<'a> {
+    /// Decodes the set of keys of `size` bytes at the start of the input, whose number of keys is
+    /// in the range, and returns what follows it. Nothing is allocated.
+    ///
+    /// # Errors
+    ///
+    /// The first fault (decoding error) of the input; neither `LeftOver` nor `Memory`.
+    ///
+    /// ```
+    /// # use commonware_proved::{Refusal, SetView};
+    /// let bytes = [&[1][..], &[9; 48], b"more"].concat();
+    /// let (keys, rest) = SetView::read(48, &bytes, 1..=256)?;
+    /// assert_eq!((keys.len(), rest), (1, &b"more"[..]));
+    /// assert_eq!(SetView::read(48, &bytes, 2..=256), Err(Refusal::InvalidLength(1)));
+    /// assert_eq!(SetView::read(96, &bytes, 1..=256), Err(Refusal::EndOfInput));
+    /// # Ok::<(), Refusal>(())
+    /// ```
+    pub fn read(
+        size: usize,
+        input: &'a [u8],
+        sizes: RangeInclusive<usize>,
+    ) -> Result<(SetView<'a>, &'a [u8]), Refusal> {
+        let (least, most) = (*sizes.start(), *sizes.end());
+        // SAFETY: the pointer and the length are those of one slice, which is borrowed for the
+        // call.
+        let view =
+            unsafe { raw::commonware_set_read(size, input.as_ptr(), input.len(), least, most) };
+        if view.status != status::OK {
+            return Err(Refusal::of(view.status, view.number));
+        }
+        let keys = List::new(size, view.count, input, view.start);
+        Ok((SetView { keys }, &input[input.len() - view.left..]))
+    }
+
+    /// Decodes the set of keys of `size` bytes that the whole input is, of any number of keys.
+    ///
+    /// # Errors
+    ///
+    /// The first fault (decoding error) of the input, or `LeftOver`; not `Memory`.
+    ///
+    /// ```
+    /// # use commonware_proved::{Refusal, SetView};
+    /// assert_eq!(SetView::whole(1, &[2, 5, 7])?.len(), 2);
+    /// assert_eq!(SetView::whole(1, &[1, 5, 7]), Err(Refusal::LeftOver(1)));
+    /// assert_eq!(SetView::whole(1, &[2, 7, 7]), Err(Refusal::NotStrict));
+    /// # Ok::<(), Refusal>(())
+    /// ```
+    pub fn whole(size: usize, input: &'a [u8]) -> Result<SetView<'a>, Refusal> {
+        match SetView::read(size, input, 0..=usize::MAX)? {
+            (keys, []) => Ok(keys),
+            (_, rest) => Err(Refusal::LeftOver(rest.len())),
+        }
+    }
+
+    /// Returns these keys, which are strictly increasing.
+    pub(crate) fn of(keys: List<'a>) -> SetView<'a> {
+        SetView { keys }
+    }
+
+    /// Returns how many bytes a key has.
+    ///
+    /// ```
+    /// # use commonware_proved::SetView;
+    /// assert_eq!(SetView::whole(33, &[0])?.size(), 33);
+    /// # Ok::<(), commonware_proved::Refusal>(())
+    /// ```
+    #[must_use]
+    pub fn size(&self) -> usize {
+        self.keys.size()
+    }
+
+    /// Returns how many keys there are.
+    ///
+    /// ```
+    /// # use commonware_proved::SetView;
+    /// assert_eq!(SetView::whole(1, &[2, 5, 7])?.len(), 2);
+    /// # Ok::<(), commonware_proved::Refusal>(())
+    /// ```
+    #[must_use]
+    pub fn len(&self) -> usize {
+        self.keys.len()
+    }
+
+    /// Whether there are no keys.
+    ///
+    /// ```
+    /// # use commonware_proved::SetView;
+    /// assert!(SetView::whole(1, &[0])?.is_empty());
+    /// # Ok::<(), commonware_proved::Refusal>(())
+    /// ```
+    #[must_use]
+    pub fn is_empty(&self) -> bool {
+        self.len() == 0
+    }
+
+    /// Returns the bytes of all keys, one after another.
+    ///
+    /// ```
+    /// # use commonware_proved::SetView;
+    /// assert_eq!(SetView::whole(2, &[2, 5, 6, 7, 8])?.as_bytes(), [5, 6, 7, 8]);
+    /// # Ok::<(), commonware_proved::Refusal>(())
+    /// ```
+    #[must_use]
+    pub fn as_bytes(&self) -> &'a [u8] {
+        self.keys.as_bytes()
+    }
+
+    /// Returns the key at an index, or `None` past the last.
+    ///
+    /// ```
+    /// # use commonware_proved::SetView;
+    /// let keys = SetView::whole(2, &[2, 5, 6, 7, 8])?;
+    /// assert_eq!((keys.get(1), keys.get(2)), (Some(&[7, 8][..]), None));
+    /// # Ok::<(), commonware_proved::Refusal>(())
+    /// ```
+    #[must_use]
+    pub fn get(&self, index: usize) -> Option<&'a [u8]> {
+        self.keys.get(index)
+    }
+
+    /// Returns the index of a key, or `None` where it isn't there, as one of another size never
+    /// is, in O(log n) comparisons.
+    ///
+    /// ```
+    /// # use commonware_proved::SetView;
+    /// let keys = SetView::whole(2, &[2, 5, 6, 7, 8])?;
+    /// assert_eq!((keys.index_of(&[7, 8]), keys.index_of(&[7])), (Some(1), None));
+    /// # Ok::<(), commonware_proved::Refusal>(())
+    /// ```
+    #[must_use]
+    pub fn index_of(&self, key: &[u8]) -> Option<usize> {
+        if key.len() != self.size() {
+            return None;
+        }
+        if key.is_empty() {
+            return (!self.is_empty()).then_some(0);
+        }
+        place_of(self.as_bytes(), key)
+    }
+
+    /// Whether the key is there.
+    ///
+    /// ```
+    /// # use commonware_proved::SetView;
+    /// assert!(SetView::whole(2, &[2, 5, 6, 7, 8])?.contains(&[5, 6]));
+    /// # Ok::<(), commonware_proved::Refusal>(())
+    /// ```
+    #[must_use]
+    pub fn contains(&self, key: &[u8]) -> bool {
+        self.index_of(key).is_some()
+    }
+
+    /// Returns the keys in order.
+    ///
+    /// ```
+    /// # use commonware_proved::SetView;
+    /// let keys = SetView::whole(2, &[2, 5, 6, 7, 8])?;
+    /// assert_eq!(keys.iter().rev().next(), Some(&[7, 8][..]));
+    /// # Ok::<(), commonware_proved::Refusal>(())
+    /// ```
+    pub fn iter(&self) -> Items<'a> {
+        self.keys.iter()
+    }
+
+    /// Returns copies of the keys in order.
+    ///
+    /// ```
+    /// # use commonware_proved::SetView;
+    /// let copies = SetView::whole(2, &[2, 5, 6, 7, 8])?.to_owned_keys();
+    /// assert_eq!(copies, [[5, 6], [7, 8]]);
+    /// # Ok::<(), commonware_proved::Refusal>(())
+    /// ```
+    #[must_use]
+    pub fn to_owned_keys(&self) -> Vec<Vec<u8>> {
+        self.iter().map(<[u8]>::to_vec).collect()
+    }
+}
+
+/// Returns the index of a key of some bytes among keys of as many, one after another.
+fn place_of(keys: &[u8], key: &[u8]) -> Option<usize> {
+    // SAFETY: each pointer and the length after it are those of one slice.
+    let view =
+        unsafe { raw::commonware_set_index(keys.as_ptr(), keys.len(), key.as_ptr(), key.len()) };
+    (view.status == status::OK).then_some(view.index)
+}
+
+impl<'a> IntoIterator for SetView<'a> {
+    type Item = &'a [u8];
+    type IntoIter = Items<'a>;
+
+    fn into_iter(self) -> Items<'a> {
+        self.iter()
+    }
+}
+
+impl<'a> IntoIterator for &SetView<'a> {
+    type Item = &'a [u8];
+    type IntoIter = Items<'a>;
+
+    fn into_iter(self) -> Items<'a> {
+        self.iter()
+    }
+}
+
+/// The keys of a set, strictly increasing, borrowed from its encoding, each of `N` bytes. Nothing
+/// is copied. [`SetView`] is the same for a size that is known only when the program runs.
+///
+/// ```
+/// use commonware_proved::Set;
+///
+/// // Two keys of 33 bytes, as compressed keys of secp256k1 have.
+/// let bytes = [&[2][..], &[2; 33], &[3; 33]].concat();
+/// let keys = Set::<33>::try_from(&bytes[..])?;
+/// assert_eq!(keys.keys(), [[2; 33], [3; 33]]);
+/// assert_eq!(keys.index_of(&[3; 33]), Some(1));
+/// # Ok::<(), commonware_proved::Refusal>(())
+/// ```
+#[derive(Clone, Copy, Debug, PartialEq, Eq, Hash)]
+pub struct Set<'a, const N: usize> {
+    keys: &'a [[u8; N]],
+}
+
+impl<'a, const N: usize> Set<'a, N> {
+    /// The keys of a set that has one key of no bytes, where `N` is 0.
+    const ONE: &'static [[u8; N]] = &[[0; N]];
+
+    /// Decodes the set at the start of the input, whose number of keys is in the range, and
+    /// returns what follows it. Nothing is allocated.
+    ///
+    /// # Errors
+    ///
+    /// The first fault (decoding error) of the input; neither `LeftOver` nor `Memory`.
+    ///
+    /// ```
+    /// # use commonware_proved::{Refusal, Set};
+    /// let bytes = [&[1][..], &[9; 96], b"more"].concat();
+    /// let (keys, rest) = Set::<96>::read(&bytes, 1..=256)?;
+    /// assert_eq!((keys.len(), rest), (1, &b"more"[..]));
+    /// assert_eq!(Set::<97>::read(&bytes, 1..=256)?.1, b"ore");
+    /// assert_eq!(Set::<96>::read(&bytes, 2..=256), Err(Refusal::InvalidLength(1)));
+    /// # Ok::<(), Refusal>(())
+    /// ```
+    pub fn read(
+        input: &'a [u8],
+        sizes: RangeInclusive<usize>,
+    ) -> Result<(Set<'a, N>, &'a [u8]), Refusal> {
+        let (view, rest) = SetView::read(N, input, sizes)?;
+        let keys = if N == 0 {
+            &Set::ONE[..view.len()]
+        } else {
+            view.as_bytes().as_chunks().0
+        };
+        Ok((Set { keys }, rest))
+    }
+
+    /// Returns the keys in order.
+    ///
+    /// ```
+    /// # use commonware_proved::Set;
+    /// assert_eq!(Set::<2>::try_from(&[2, 5, 6, 7, 8][..])?.keys(), [[5, 6], [7, 8]]);
+    /// # Ok::<(), commonware_proved::Refusal>(())
+    /// ```
+    #[must_use]
+    pub fn keys(&self) -> &'a [[u8; N]] {
+        self.keys
+    }
+
+    /// Returns the keys in order.
+    ///
+    /// ```
+    /// # use commonware_proved::Set;
+    /// let keys = Set::<2>::try_from(&[2, 5, 6, 7, 8][..])?;
+    /// assert_eq!(keys.iter().last(), Some(&[7, 8]));
+    /// # Ok::<(), commonware_proved::Refusal>(())
+    /// ```
+    pub fn iter(&self) -> slice::Iter<'a, [u8; N]> {
+        self.keys.iter()
+    }
+
+    /// Returns how many keys there are.
+    ///
+    /// ```
+    /// # use commonware_proved::Set;
+    /// assert_eq!(Set::<2>::try_from(&[2, 5, 6, 7, 8][..])?.len(), 2);
+    /// # Ok::<(), commonware_proved::Refusal>(())
+    /// ```
+    #[must_use]
+    pub fn len(&self) -> usize {
+        self.keys.len()
+    }
+
+    /// Whether there are no keys.
+    ///
+    /// ```
+    /// # use commonware_proved::Set;
+    /// assert!(Set::<2>::try_from(&[0][..])?.is_empty());
+    /// # Ok::<(), commonware_proved::Refusal>(())
+    /// ```
+    #[must_use]
+    pub fn is_empty(&self) -> bool {
+        self.keys.is_empty()
+    }
+
+    /// Returns the bytes of all keys, one after another.
+    ///
+    /// ```
+    /// # use commonware_proved::Set;
+    /// assert_eq!(Set::<2>::try_from(&[2, 5, 6, 7, 8][..])?.as_bytes(), [5, 6, 7, 8]);
+    /// # Ok::<(), commonware_proved::Refusal>(())
+    /// ```
+    #[must_use]
+    pub fn as_bytes(&self) -> &'a [u8] {
+        self.keys.as_flattened()
+    }
+
+    /// Returns the key at an index, or `None` past the last.
+    ///
+    /// ```
+    /// # use commonware_proved::Set;
+    /// assert_eq!(Set::<2>::try_from(&[2, 5, 6, 7, 8][..])?.get(1), Some(&[7, 8]));
+    /// # Ok::<(), commonware_proved::Refusal>(())
+    /// ```
+    #[must_use]
+    pub fn get(&self, index: usize) -> Option<&'a [u8; N]> {
+        self.keys.get(index)
+    }
+
+    /// Returns the index of a key, or `None` where it isn't there, in O(log n) comparisons.
+    ///
+    /// ```
+    /// # use commonware_proved::Set;
+    /// let keys = Set::<2>::try_from(&[2, 5, 6, 7, 8][..])?;
+    /// assert_eq!((keys.index_of(&[7, 8]), keys.index_of(&[7, 9])), (Some(1), None));
+    /// # Ok::<(), commonware_proved::Refusal>(())
+    /// ```
+    #[must_use]
+    pub fn index_of(&self, key: &[u8; N]) -> Option<usize> {
+        if N == 0 {
+            return (!self.is_empty()).then_some(0);
+        }
+        place_of(self.as_bytes(), key)
+    }
+
+    /// Whether the key is there.
+    ///
+    /// ```
+    /// # use commonware_proved::Set;
+    /// assert!(!Set::<2>::try_from(&[0][..])?.contains(&[5, 6]));
+    /// # Ok::<(), commonware_proved::Refusal>(())
+    /// ```
+    #[must_use]
+    pub fn contains(&self, key: &[u8; N]) -> bool {
+        self.index_of(key).is_some()
+    }
+
+    /// Returns copies of the keys in order.
+    ///
+    /// ```
+    /// # use commonware_proved::Set;
+    /// assert_eq!(Set::<2>::try_from(&[1, 5, 6][..])?.to_vec(), vec![[5, 6]]);
+    /// # Ok::<(), commonware_proved::Refusal>(())
+    /// ```
+    #[must_use]
+    pub fn to_vec(&self) -> Vec<[u8; N]> {
+        self.keys.to_vec()
+    }
+}
+
+/// The whole input is the set, of any number of keys.
+impl<'a, const N: usize> TryFrom<&'a [u8]> for Set<'a, N> {
+    type Error = Refusal;
+
+    fn try_from(input: &'a [u8]) -> Result<Set<'a, N>, Refusal> {
+        match Set::read(input, 0..=usize::MAX)? {
+            (set, []) => Ok(set),
+            (_, rest) => Err(Refusal::LeftOver(rest.len())),
+        }
+    }
+}
+
+impl<'a, const N: usize> IntoIterator for Set<'a, N> {
+    type Item = &'a [u8; N];
+    type IntoIter = slice::Iter<'a, [u8; N]>;
+
+    fn into_iter(self) -> slice::Iter<'a, [u8; N]> {
+        self.iter()
+    }
+}
+
+impl<'a, const N: usize> IntoIterator for &Set<'a, N> {
+    type Item = &'a [u8; N];
+    type IntoIter = slice::Iter<'a, [u8; N]>;
+
+    fn into_iter(self) -> slice::Iter<'a, [u8; N]> {
+        self.iter()
+    }
+}
