@@ -17,11 +17,11 @@
  * what the view says beside `status` is 0 unless it is described here.
  *
  * Threads. There are no global variables, no locks and no callbacks, so any number of threads may call
- * at once. The function that allocates isn't for signal handlers, nor for a forked child of a process
+ * at once. The functions that allocate aren't for signal handlers, nor for a forked child of a process
  * with threads.
  *
- * Memory. commonware_committee_write allocates, and frees all of it before it returns; the others
- * allocate nothing, and never return COMMONWARE_MEMORY. The archive holds a heap over malloc,
+ * Memory. commonware_committee_write and commonware_set_write allocate, and free all of it before they
+ * return; the others allocate nothing, and never return COMMONWARE_MEMORY. The archive holds a heap over malloc,
  * realloc and free. A program with an allocator of its own defines these three instead, with C
  * linkage and all of them, and the linker takes them:
  *
@@ -120,15 +120,16 @@ commonware_place_view commonware_committee_index(
 
 /* What was written, or would be. */
 typedef struct {
-    uint32_t status; /* OK, INVALID_LENGTH, NOT_STRICT, MEMORY or ROOM */
-    size_t count;    /* at OK and ROOM: how many members or signers there are */
-    size_t number;   /* at INVALID_LENGTH: the length; at NOT_STRICT: the index of a signer in `signers` */
+    uint32_t status; /* OK, INVALID_LENGTH, NOT_STRICT, MEMORY, ROOM, NO_SIZE or NOT_WHOLE */
+    size_t count;    /* at OK and ROOM: how many members, keys or signers there are */
+    size_t number;   /* at INVALID_LENGTH: the length; at NOT_STRICT: the index of a signer in `signers`;
+                      * at NOT_WHOLE: how many bytes follow the last whole key */
     size_t size;     /* at OK: how many bytes were written; at ROOM: how many `out` has to have */
 } commonware_written_view;
 
 /* Writes the committee of these keys to the start of `out`: sorted, each key once. The keys may come in
  * any order and repeat. COMMONWARE_COMMITTEE_SIZE(members_length) bytes always suffice. INVALID_LENGTH
- * where the distinct keys are more than 4294967295. Never NOT_STRICT. */
+ * where the distinct keys are more than 4294967295. Never NOT_STRICT, NO_SIZE or NOT_WHOLE. */
 commonware_written_view commonware_committee_write(
     const uint8_t (*members)[COMMONWARE_MEMBER_SIZE], size_t members_length,
     uint8_t *out, size_t out_length);
@@ -166,6 +167,14 @@ commonware_set_view commonware_set_read(
  * OK and ABSENT are as commonware_committee_index has them. */
 commonware_place_view commonware_set_index(
     const uint8_t *keys, size_t keys_length, const uint8_t *key, size_t key_length);
+
+/* Writes the set of keys of `size` bytes, one after another, to the start of `out`: sorted, each key
+ * once. The keys may come in any order and repeat; `keys_length` is in bytes. 5 + keys_length bytes
+ * always suffice. NO_SIZE exactly where `size` is 0, NOT_WHOLE exactly where it is greater and
+ * doesn't divide `keys_length`, INVALID_LENGTH where the distinct keys are more than 4294967295.
+ * Never NOT_STRICT. At a size of 32 it is commonware_committee_write. */
+commonware_written_view commonware_set_write(
+    size_t size, const uint8_t *keys, size_t keys_length, uint8_t *out, size_t out_length);
 
 /* A map of keys of one size and values of another at the start of the input. */
 typedef struct {

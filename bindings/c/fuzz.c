@@ -200,6 +200,25 @@ static void try_keys(const uint8_t *keys, uint32_t count, size_t size, const uin
     free(key);
 }
 
+/* From the last to the first, and then all again, which are written as they stand in the input. */
+static void try_set_write(const uint8_t *keys, uint32_t count, size_t size, const uint8_t *set,
+                          size_t length) {
+    const size_t bytes = count * size;
+    uint8_t *given = room(2 * bytes, 1), *out = room(length, 1);
+    for (uint32_t i = 0; i < count; i++) {
+        memcpy(given + (count - 1 - i) * size, keys + i * size, size);
+    }
+    memcpy(given + bytes, keys, bytes);
+    commonware_written_view view = commonware_set_write(size, given, 2 * bytes, out, length - 1);
+    REQUIRE(view.status == COMMONWARE_ROOM && view.size == length && view.count == count);
+    REQUIRE(view.number == 0 && out[0] == 0xee);
+    view = commonware_set_write(size, given, 2 * bytes, out, length);
+    REQUIRE(view.status == COMMONWARE_OK && view.size == length && view.count == count);
+    REQUIRE(view.number == 0 && memcmp(out, set, length) == 0 && out[length] == 0xee);
+    free(given);
+    free(out);
+}
+
 static void try_set(size_t size, const uint8_t *input, size_t length, size_t least, size_t most) {
     struct rest rest = {input, length};
     uint32_t count = 0;
@@ -220,6 +239,7 @@ static void try_set(size_t size, const uint8_t *input, size_t length, size_t lea
     }
     if (size > 0 && size <= length) {
         try_keys(keys, count, size, input);
+        try_set_write(keys, count, size, input, length - rest.length);
     }
 }
 

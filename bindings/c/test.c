@@ -290,6 +290,34 @@ static void test_set_index(void) {
     CHECK(is_place(view, COMMONWARE_ABSENT, 2));
 }
 
+static bool is_written(commonware_written_view view, uint32_t status, size_t count, size_t number,
+                       size_t size) {
+    return view.status == status && view.count == count && view.number == number && view.size == size;
+}
+
+/* Keys of three bytes in any order, each once or more; the room as it was where nothing is written. */
+static void test_set_write(void) {
+    const uint8_t keys[] = {5, 0, 2, 5, 0, 1, 5, 0, 2, 4, 9, 9};
+    const uint8_t set[] = {3, 4, 9, 9, 5, 0, 1, 5, 0, 2, 0xee, 0xee};
+    uint8_t out[12];
+    memset(out, 0xee, sizeof out);
+    const uint8_t untouched[12] = {0xee, 0xee, 0xee, 0xee, 0xee, 0xee, 0xee, 0xee, 0xee, 0xee, 0xee, 0xee};
+    CHECK(is_written(commonware_set_write(3, OF(keys), out, 9), COMMONWARE_ROOM, 3, 0, 10));
+    CHECK(is_written(commonware_set_write(3, OF(keys), NULL, 0), COMMONWARE_ROOM, 3, 0, 10));
+    CHECK(is_written(commonware_set_write(0, OF(keys), OF(out)), COMMONWARE_NO_SIZE, 0, 0, 0));
+    CHECK(is_written(commonware_set_write(0, NULL, 0, OF(out)), COMMONWARE_NO_SIZE, 0, 0, 0));
+    CHECK(is_written(commonware_set_write(5, OF(keys), OF(out)), COMMONWARE_NOT_WHOLE, 0, 2, 0));
+    CHECK(is_written(commonware_set_write(13, OF(keys), OF(out)), COMMONWARE_NOT_WHOLE, 0, 12, 0));
+    CHECK(is_written(commonware_set_write(SIZE_MAX, OF(keys), OF(out)), COMMONWARE_NOT_WHOLE, 0, 12, 0));
+    CHECK(memcmp(out, untouched, sizeof out) == 0);
+    CHECK(is_written(commonware_set_write(3, OF(keys), OF(out)), COMMONWARE_OK, 3, 0, 10));
+    CHECK(memcmp(out, set, sizeof out) == 0);
+    CHECK(is_written(commonware_set_write(3, out + 1, 9, out + 11, 1), COMMONWARE_ROOM, 3, 0, 10));
+    CHECK(is_written(commonware_set_write(SIZE_MAX, NULL, 0, OF(out)), COMMONWARE_OK, 0, 0, 1));
+    CHECK(out[0] == 0 && memcmp(out + 1, set + 1, sizeof out - 1) == 0);
+    CHECK(is_written(commonware_set_write(12, OF(keys), OF(out)), COMMONWARE_ROOM, 1, 0, 13));
+}
+
 static void test_map(void) {
     /* Keys of each size, and values 07 .. 07 and 08 .. 08 of 8 bytes; then three bytes. */
     uint8_t bytes[1 + 2 * 96 + 1 + 2 * 8 + 3] = {2};
@@ -624,7 +652,7 @@ static void test_memory(void) {
     uint8_t committee[COMMONWARE_COMMITTEE_SIZE(5)];
     const uint8_t empty[] = {0, 0};
     uint32_t out[4];
-    for (int call = 0; call < 9; call++) {
+    for (int call = 0; call < 10; call++) {
         for (allowed = 0;; allowed++) {
             requests = 0;
             memset(out, 0xee, sizeof out);
@@ -639,14 +667,15 @@ static void test_memory(void) {
                 : call == 5 ? commonware_certificate_write(NULL, 0, NULL, 0, OF(committee)).status
                 : call == 6 ? commonware_set_read(20, OF(committee), 0, 256).status
                 : call == 7 ? commonware_map_read(20, 8, OF(empty), 0, 256).status
-                            : commonware_set_index(keys[0], 32, keys[0], 32).status;
+                : call == 8 ? commonware_set_index(keys[0], 32, keys[0], 32).status
+                            : commonware_set_write(32, keys[0], 160, OF(committee)).status;
             CHECK(live == 0);
             if (status == COMMONWARE_OK) {
                 break;
             }
             CHECK(status == COMMONWARE_MEMORY && out[0] == 0xeeeeeeee && committee[1] == 0xee);
         }
-        CHECK(allowed == requests && (allowed > 0) == (call == 0));
+        CHECK(allowed == requests && (allowed > 0) == (call == 0 || call == 9));
         printf("call %d: each of %zu requests refused\n", call, allowed);
     }
     allowed = SIZE_MAX;
@@ -659,6 +688,7 @@ int main(void) {
     test_set();
     test_set_extremes();
     test_set_index();
+    test_set_write();
     test_map();
     test_certificate();
     test_conflict();

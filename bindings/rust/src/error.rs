@@ -73,6 +73,10 @@ pub enum EncodeError {
     InvalidLength(usize),
     /// The signer at this place isn't greater than the one before it.
     NotStrict(usize),
+    /// Keys of no bytes: how many there are can't be told.
+    NoSize,
+    /// This number of bytes follows the last whole key.
+    NotWhole(usize),
     /// An allocation failed. This says nothing of what was to be written.
     Memory,
 }
@@ -83,6 +87,8 @@ impl EncodeError {
         match status {
             status::INVALID_LENGTH => EncodeError::InvalidLength(number),
             status::NOT_STRICT => EncodeError::NotStrict(number),
+            status::NO_SIZE => EncodeError::NoSize,
+            status::NOT_WHOLE => EncodeError::NotWhole(number),
             status::MEMORY => EncodeError::Memory,
             _ => unreachable!("with enough space no writer returns status {status}"),
         }
@@ -96,6 +102,8 @@ impl fmt::Display for EncodeError {
             EncodeError::NotStrict(place) => {
                 write!(f, "signer {place} isn't greater than the one before it")
             }
+            EncodeError::NoSize => f.write_str("keys of no bytes"),
+            EncodeError::NotWhole(count) => write!(f, "{count} bytes after the last whole key"),
             EncodeError::Memory => f.write_str("out of memory"),
         }
     }

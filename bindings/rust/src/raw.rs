@@ -111,6 +111,13 @@ unsafe extern "C" {
         key: *const u8,
         key_length: usize,
     ) -> PlaceView;
+    pub fn commonware_set_write(
+        size: usize,
+        keys: *const u8,
+        keys_length: usize,
+        out: *mut u8,
+        out_length: usize,
+    ) -> WrittenView;
     pub fn commonware_map_read(
         key_size: usize,
         value_size: usize,

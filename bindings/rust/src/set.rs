@@ -1,7 +1,8 @@
 //! Sets of keys of one size, in their encoding.
 
 use crate::items::{Items, List};
-use crate::{Refusal, raw, status};
+use crate::room::zeros;
+use crate::{EncodeError, Refusal, raw, status};
 use std::ops::RangeInclusive;
 use std::slice;
 
@@ -187,6 +188,34 @@ impl<'a> SetView<'a> {
     /// ```
     pub fn iter(&self) -> Items<'a> {
         self.keys.iter()
+    }
+
+    /// Encodes the set of keys of `size` bytes, one after another: sorted, each key once. The keys
+    /// may come in any order and repeat.
+    ///
+    /// # Errors
+    ///
+    /// `NoSize` and `NotWhole`, `InvalidLength` where they are more than 4294967295, and `Memory`.
+    ///
+    /// ```
+    /// # use commonware_proved::{EncodeError, SetView};
+    /// assert_eq!(SetView::encode(2, &[7, 8, 5, 6, 7, 8])?, [2, 5, 6, 7, 8]);
+    /// assert_eq!(SetView::encode(2, &[7, 8, 5]), Err(EncodeError::NotWhole(1)));
+    /// assert_eq!(SetView::encode(0, &[]), Err(EncodeError::NoSize));
+    /// # Ok::<(), EncodeError>(())
+    /// ```
+    pub fn encode(size: usize, keys: &[u8]) -> Result<Vec<u8>, EncodeError> {
+        let mut out = zeros(5 + keys.len()).ok_or(EncodeError::Memory)?;
+        // SAFETY: each pointer and the length after it are those of one slice; `out` is a new one.
+        let view = unsafe {
+            let (room, length) = (out.as_mut_ptr(), out.len());
+            raw::commonware_set_write(size, keys.as_ptr(), keys.len(), room, length)
+        };
+        if view.status != status::OK {
+            return Err(EncodeError::of(view.status, view.number));
+        }
+        out.truncate(view.size);
+        Ok(out)
     }
 
     /// Returns copies of the keys in order.
@@ -378,6 +407,22 @@ impl<'a, const N: usize> Set<'a, N> {
     #[must_use]
     pub fn contains(&self, key: &[u8; N]) -> bool {
         self.index_of(key).is_some()
+    }
+
+    /// Encodes the set of these keys: sorted, each key once. The keys may come in any order and
+    /// repeat.
+    ///
+    /// # Errors
+    ///
+    /// `NoSize` where `N` is 0, `InvalidLength` where they are more than 4294967295, and `Memory`.
+    ///
+    /// ```
+    /// # use commonware_proved::{EncodeError, Set};
+    /// assert_eq!(Set::encode(&[[7, 8], [5, 6], [7, 8]])?, [2, 5, 6, 7, 8]);
+    /// # Ok::<(), EncodeError>(())
+    /// ```
+    pub fn encode(keys: &[[u8; N]]) -> Result<Vec<u8>, EncodeError> {
+        SetView::encode(N, keys.as_flattened())
     }
 
     /// Returns copies of the keys in order.

@@ -13,3 +13,5 @@ pub const OUTSIDE: u32 = 9;
 pub const TOO_FEW: u32 = 10;
 pub const NO_SLOT: u32 = 14;
 pub const OTHER_SLOT: u32 = 15;
+pub const NO_SIZE: u32 = 16;
+pub const NOT_WHOLE: u32 = 17;

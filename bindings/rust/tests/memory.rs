@@ -147,6 +147,26 @@ fn writing_a_committee_returns_each_allocation_failure() {
 }
 
 #[test]
+fn writing_a_set_returns_each_allocation_failure() {
+    let keys: Vec<_> = (0..200u8).rev().map(|i| [i; 48]).collect();
+    let requests = refuse_each(&EncodeError::Memory, || Set::encode(&keys));
+    assert!(requests > 0);
+    let risen: Vec<u8> = keys.iter().rev().flatten().copied().collect();
+    let requests = refuse_each(&EncodeError::Memory, || SetView::encode(48, &risen));
+    assert!(requests > 0);
+    assert_eq!(
+        refuse_each(&EncodeError::NoSize, || {
+            SetView::encode(0, &risen).or_else(|error| match error {
+                EncodeError::NoSize => Ok(Vec::new()),
+                error => Err(error),
+            })
+        }),
+        1,
+        "the room alone"
+    );
+}
+
+#[test]
 fn writing_a_certificate_allocates_nothing() {
     let signers: Vec<u32> = (0..200).collect();
     let requests = refuse_each(&EncodeError::Memory, || Certificate::encode(b"x", &signers));

@@ -1,0 +1,152 @@
+//! Sets of keys of any size are written as by a sort and a removal of repeats: 200,000 random cases,
+//! or as many as COMMONWARE_CASES says.
+
+#[allow(dead_code, reason = "the other tests use the rest")]
+mod common;
+#[allow(dead_code, reason = "the crate calls the rest")]
+#[path = "../src/raw.rs"]
+mod raw;
+
+use common::naive::varint;
+use common::random::Random;
+use common::seen::Seen;
+use commonware_proved::{Member, SetView};
+use std::env;
+
+/// Statuses of the library.
+const OK: u32 = 0;
+const ROOM: u32 = 11;
+const NO_SIZE: u32 = 16;
+const NOT_WHOLE: u32 = 17;
+
+/// What stands in the room before a call.
+const UNTOUCHED: u8 = 0xee;
+
+fn cases() -> usize {
+    let said = env::var("COMMONWARE_CASES");
+    said.map_or(200_000, |cases| cases.parse().expect("a number"))
+}
+
+/// Returns the status, the count, the number and the size.
+fn set_write(size: usize, keys: &[u8], out: &mut [u8]) -> (u32, usize, usize, usize) {
+    // SAFETY: each pointer and the length after it are those of one slice.
+    let view = unsafe {
+        let (room, length) = (out.as_mut_ptr(), out.len());
+        raw::commonware_set_write(size, keys.as_ptr(), keys.len(), room, length)
+    };
+    (view.status, view.count, view.number, view.size)
+}
+
+/// Returns the encoding of the set by a sort, and how many keys it has.
+fn naive_set(size: usize, keys: &[u8]) -> (Vec<u8>, usize) {
+    let mut each: Vec<&[u8]> = keys.chunks_exact(size).collect();
+    each.sort();
+    each.dedup();
+    let mut bytes = varint(each.len() as u64);
+    bytes.extend(each.concat());
+    (bytes, each.len())
+}
+
+/// Returns keys of a size, of which many are equal and many differ in one byte, and sometimes bytes
+/// after the last.
+fn some_keys(random: &mut Random, size: usize) -> Vec<u8> {
+    let count = [0, 1, 2, 3, 5, 9, 40, 127, 128, 200][random.below(10)];
+    let mut keys = vec![7; size * count];
+    for _ in 0..random.below(2 * count + 1) {
+        if !keys.is_empty() {
+            let at = random.below(keys.len());
+            keys[at] = [0, 6, 8, 127, 128, 255][random.below(6)];
+        }
+    }
+    if random.below(8) == 0 {
+        keys.extend(vec![1; 1 + random.below(size + 2)]);
+    }
+    if random.below(8) == 0 {
+        let sorted: Vec<u8> = {
+            let mut each: Vec<&[u8]> = keys.chunks(size).collect();
+            each.sort();
+            each.concat()
+        };
+        keys = sorted;
+    }
+    keys
+}
+
+fn some_room(random: &mut Random, wanted: usize) -> usize {
+    match random.below(4) {
+        0 => wanted,
+        1 => wanted.saturating_sub(1 + random.below(3)),
+        2 => random.below(wanted + 1),
+        _ => wanted + random.below(9),
+    }
+}
+
+/// Compares one call with the naive one, and returns what came of it.
+fn try_write(size: usize, keys: &[u8], room: usize) -> &'static str {
+    let mut out = vec![UNTOUCHED; room];
+    let told = set_write(size, keys, &mut out);
+    if size == 0 {
+        assert_eq!(told, (NO_SIZE, 0, 0, 0));
+        assert!(out.iter().all(|byte| *byte == UNTOUCHED));
+        return "no size";
+    }
+    if keys.len() % size != 0 {
+        assert_eq!(told, (NOT_WHOLE, 0, keys.len() % size, 0));
+        assert!(out.iter().all(|byte| *byte == UNTOUCHED));
+        return "not whole";
+    }
+    let (bytes, count) = naive_set(size, keys);
+    if room < bytes.len() {
+        assert_eq!(told, (ROOM, count, 0, bytes.len()));
+        assert!(out.iter().all(|byte| *byte == UNTOUCHED));
+        return "room";
+    }
+    assert_eq!(told, (OK, count, 0, bytes.len()));
+    assert_eq!(out[..bytes.len()], bytes);
+    assert!(out[bytes.len()..].iter().all(|byte| *byte == UNTOUCHED));
+    assert_eq!(SetView::encode(size, keys).as_deref(), Ok(&bytes[..]));
+    "ok"
+}
+
+#[test]
+fn sets_are_written_as_by_a_sort() {
+    let mut random = Random(41);
+    let mut seen = Seen::default();
+    for _ in 0..cases() {
+        let size = match random.below(24) {
+            at @ 0..=20 => at,
+            at => [32, 33, 48, 96][at % 4],
+        };
+        let keys = some_keys(&mut random, size.max(1));
+        let room = some_room(&mut random, 5 + keys.len());
+        seen.note(try_write(size, &keys, room));
+    }
+    seen.assert_each(4, cases() / 100);
+}
+
+#[test]
+fn a_committee_is_written_as_a_set_of_its_size() {
+    let mut random = Random(43);
+    for _ in 0..2_000 {
+        let mut keys = some_keys(&mut random, 32);
+        keys.truncate(keys.len() / 32 * 32);
+        let members: Vec<Member> = keys.as_chunks().0.to_vec();
+        let committee = commonware_proved::Committee::encode(&members);
+        assert_eq!(committee, SetView::encode(32, &keys));
+    }
+}
+
+#[test]
+fn sizes_past_the_keys_leave_them_over() {
+    for size in [3, 1 << 31, 1 << 32, 1 << 61, usize::MAX / 2, usize::MAX] {
+        assert_eq!(try_write(size, &[1, 2], 9), "not whole");
+        assert_eq!(try_write(size, &[], 9), "ok");
+    }
+}
+
+#[test]
+fn many_keys_in_falling_order_are_written() {
+    let key = |i: u32| [[0; 28].as_slice(), &i.to_be_bytes()].concat();
+    let keys: Vec<u8> = (0..70_000).rev().flat_map(key).collect();
+    assert_eq!(try_write(32, &keys, 5 + keys.len()), "ok");
+}
