@@ -699,6 +699,24 @@ fn iterators_walk_from_both_ends() {
 }
 
 #[test]
+fn eight_threads_read_and_look_up_at_once() {
+    let (keys, values) = (counted_keys(48, 100, true), vec![vec![7]; 100]);
+    let bytes = [list_bytes(100, &keys), list_bytes(100, &values)].concat();
+    std::thread::scope(|scope| {
+        for _ in 0..8 {
+            scope.spawn(|| {
+                for index in (0..100).cycle().take(2_000) {
+                    let map = MapView::whole(48, 1, &bytes).expect("it is a map");
+                    assert_eq!(map.keys().index_of(&keys[index]), Some(index));
+                    let (set, rest) = SetView::read(48, &bytes, 100..=100).expect("it is a set");
+                    assert_eq!((set, rest.len()), (map.keys(), 101));
+                }
+            });
+        }
+    });
+}
+
+#[test]
 fn keys_of_no_bytes_are_one_at_most() {
     let [none, one] = [&[0][..], &[1]].map(|bytes| SetView::whole(0, bytes).expect("a set"));
     assert_eq!((none.index_of(&[]), one.index_of(&[])), (None, Some(0)));
