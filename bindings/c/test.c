@@ -603,6 +603,43 @@ static void write_keys(uint32_t count) {
     CHECK(written.status == COMMONWARE_ROOM && written.count == count && written.size == size);
 }
 
+/* Writes a count below 16384 in one byte, or in two. */
+static void put_count(uint8_t *out, uint32_t count) {
+    out[0] = (uint8_t)(count < 128 ? count : 128 | count % 128);
+    if (count >= 128) {
+        out[1] = (uint8_t)(count / 128);
+    }
+}
+
+/* Reads a map of this many keys of 20 bytes to values of 3, and the set that it begins with, before
+ * a byte; finds each key, and its value. */
+static void read_pairs(uint32_t count) {
+    static uint8_t bytes[2 + 300 * 20 + 2 + 300 * 3 + 1];
+    const size_t head = count < 128 ? 1 : 2, values = 2 * head + 20 * (size_t)count;
+    const size_t length = values + 3 * (size_t)count + 1;
+    memset(bytes, 0, sizeof bytes);
+    put_count(bytes, count);
+    put_count(bytes + values - head, count);
+    for (size_t i = 0; i < count; i++) {
+        bytes[head + 20 * i + 18] = (uint8_t)(i / 256);
+        bytes[head + 20 * i + 19] = (uint8_t)i;
+        bytes[values + 3 * i + 2] = (uint8_t)(i + 7);
+    }
+    const commonware_set_view set = commonware_set_read(20, bytes, length, count, count);
+    CHECK(is_set(set, COMMONWARE_OK, count, 0, head, length - head - 20 * (size_t)count));
+    commonware_map_view map = commonware_map_read(20, 3, bytes, length, count, count);
+    CHECK(is_map(map, COMMONWARE_OK, count, 0, head, values, 1));
+    for (size_t i = 0; i < count; i++) {
+        const uint8_t *const key = bytes + head + 20 * i;
+        const commonware_place_view place =
+            commonware_set_index(bytes + head, 20 * (size_t)count, key, 20);
+        CHECK(is_place(place, COMMONWARE_OK, i));
+        CHECK(bytes[map.values + 3 * place.index + 2] == (uint8_t)(i + 7));
+    }
+    map = commonware_map_read(20, 3, bytes, length - 2, 0, SIZE_MAX);
+    CHECK(count == 0 || is_map(map, COMMONWARE_END_OF_INPUT, 0, 0, 0, 0, 0));
+}
+
 /* Writes and reads certificates that this many members signed, and finds that all of them signed both, with
  * room for the result and for one element less. */
 static void use_signers(uint32_t count) {
@@ -637,10 +674,11 @@ static void use_signers(uint32_t count) {
     }
 }
 
-/* Each number of keys and of signers up to 300. */
+/* Each number of keys, of pairs and of signers up to 300. */
 static void test_sizes(void) {
     for (uint32_t count = 0; count <= 300; count++) {
         write_keys(count);
+        read_pairs(count);
         use_signers(count);
     }
 }
