@@ -90,7 +90,7 @@ fn try_write(size: usize, keys: &[u8], room: usize) -> &'static str {
         assert!(out.iter().all(|byte| *byte == UNTOUCHED));
         return "no size";
     }
-    if keys.len() % size != 0 {
+    if !keys.len().is_multiple_of(size) {
         assert_eq!(told, (NOT_WHOLE, 0, keys.len() % size, 0));
         assert!(out.iter().all(|byte| *byte == UNTOUCHED));
         return "not whole";
