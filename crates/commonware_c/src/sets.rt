@@ -30,6 +30,7 @@ pub struct KeysView {
 
 /// Decodes a set of `least` to `most` keys of `size` bytes each at the start of the input. Nothing
 /// is allocated.
+#[inline(always)]
 #[unsafe(no_mangle)]
 pub extern "C" fn commonware_set_read(
     size: usize,
