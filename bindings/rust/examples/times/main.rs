@@ -1,28 +1,18 @@
 //! Nanoseconds a call, through the static library and by plain Rust that does the same checks. Hold it
-//! to one core (taskset).
+//! to one core (taskset). With the word `keys` after it, those of sets of keys of several sizes.
 
 use commonware_proved::{
     Certificate, Committee, FaultModel, Member, check, conflict, equivocation, slot_value,
 };
 use std::cmp::Ordering;
+use std::env;
 use std::hint::black_box;
-use std::time::Instant;
+use timing::compare;
+use varint::varint;
 
-/// Returns the number at the start of the input, and how many bytes it takes.
-fn varint(input: &[u8]) -> Option<(u32, usize)> {
-    let mut n = 0u64;
-    for i in 0..5 {
-        let b = *input.get(i)?;
-        n |= u64::from(b & 127) << (7 * i);
-        if b < 128 {
-            if (b == 0 && i > 0) || n > u64::from(u32::MAX) {
-                return None;
-            }
-            return Some((n as u32, i + 1));
-        }
-    }
-    None
-}
+mod keys;
+mod timing;
+mod varint;
 
 /// Returns the members in place, and what follows them.
 #[inline(never)]
@@ -91,35 +81,6 @@ fn plain_quorum(k: u32, n: u32) -> u32 {
     if k < 2 || n == 0 { 0 } else { n - (n - 1) / k }
 }
 
-/// Returns the nanoseconds that a call takes, over `rounds` calls.
-fn sample(rounds: u32, f: &mut dyn FnMut()) -> f64 {
-    let start = Instant::now();
-    for _ in 0..rounds {
-        f();
-    }
-    start.elapsed().as_nanos() as f64 / f64::from(rounds)
-}
-
-/// How many runs each time and each ratio is the median of. They are short, so that what else the
-/// processor does falls into few of them.
-const RUNS: usize = 401;
-
-/// Prints the medians of both, and the median of the ratios of neighbouring runs with its quartiles.
-fn compare(name: &str, rounds: u32, mut ours: impl FnMut(), mut plain: impl FnMut()) {
-    let mut runs: Vec<(f64, f64)> = (0..RUNS)
-        .map(|_| (sample(rounds, &mut ours), sample(rounds, &mut plain)))
-        .collect();
-    let mut ratios: Vec<f64> = runs.iter().map(|(a, b)| a / b).collect();
-    ratios.sort_by(f64::total_cmp);
-    let mut median = |of: fn(&(f64, f64)) -> f64| {
-        runs.sort_by(|a, b| of(a).total_cmp(&of(b)));
-        of(&runs[RUNS / 2])
-    };
-    let (a, b) = (median(|run| run.0), median(|run| run.1));
-    let (low, middle, high) = (ratios[RUNS / 4], ratios[RUNS / 2], ratios[RUNS * 3 / 4]);
-    println!("{name:<34} {a:>9.1} ns {b:>9.1} ns  {middle:.2} ({low:.2} to {high:.2})");
-}
-
 /// Returns `n` random keys.
 fn random_keys(seed: &mut u64, n: u32) -> Vec<Member> {
     let mut next = || {
@@ -144,6 +105,9 @@ fn main() {
         "{:<34} {:>12} {:>12}  ratio (quartiles)",
         "", "library", "plain Rust"
     );
+    if env::args().nth(1).as_deref() == Some("keys") {
+        return keys::compare_all();
+    }
     compare(
         "quorum",
         10_000,
