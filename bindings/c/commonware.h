@@ -20,8 +20,8 @@
  * at once. The functions that allocate aren't for signal handlers, nor for a forked child of a process
  * with threads.
  *
- * Memory. commonware_committee_write and commonware_set_write allocate, and free all of it before they
- * return; the others allocate nothing, and never return COMMONWARE_MEMORY. The archive holds a heap over malloc,
+ * Memory. commonware_committee_write, commonware_set_write and commonware_map_write allocate, and free
+ * all of it before they return; the others allocate nothing, and never return COMMONWARE_MEMORY. The archive holds a heap over malloc,
  * realloc and free. A program with an allocator of its own defines these three instead, with C
  * linkage and all of them, and the linker takes them:
  *
@@ -121,9 +121,9 @@ commonware_place_view commonware_committee_index(
 /* What was written, or would be. */
 typedef struct {
     uint32_t status; /* OK, INVALID_LENGTH, NOT_STRICT, MEMORY, ROOM, NO_SIZE or NOT_WHOLE */
-    size_t count;    /* at OK and ROOM: how many members, keys or signers there are */
+    size_t count;    /* at OK and ROOM: how many members, keys, pairs or signers there are */
     size_t number;   /* at INVALID_LENGTH: the length; at NOT_STRICT: the index of a signer in `signers`;
-                      * at NOT_WHOLE: how many bytes follow the last whole key */
+                      * at NOT_WHOLE: how many bytes follow the last whole key or pair */
     size_t size;     /* at OK: how many bytes were written; at ROOM: how many `out` has to have */
 } commonware_written_view;
 
@@ -202,6 +202,17 @@ typedef struct {
 commonware_map_view commonware_map_read(
     size_t key_size, size_t value_size, const uint8_t *input, size_t input_length, size_t least,
     size_t most);
+
+/* Writes the map of these pairs to the start of `out`, in the order of their keys: each is a key of
+ * `key_size` bytes and then its value of `value_size`, one pair after another; `pairs_length` is in
+ * bytes. They may come in any order. Of pairs with equal keys the first is written, so the view's
+ * `count` is less than the number of pairs exactly where a key repeats. 10 + pairs_length bytes
+ * always suffice. NO_SIZE exactly where `key_size` is 0; NOT_WHOLE exactly where it is greater and
+ * the sum of both sizes, which never wraps, doesn't divide `pairs_length`; INVALID_LENGTH where the
+ * distinct keys are more than 4294967295. Never NOT_STRICT. */
+commonware_written_view commonware_map_write(
+    size_t key_size, size_t value_size, const uint8_t *pairs, size_t pairs_length, uint8_t *out,
+    size_t out_length);
 
 /* A certificate at the start of the input. */
 typedef struct {

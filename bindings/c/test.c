@@ -378,6 +378,27 @@ static void test_map(void) {
     CHECK(is_map(view, COMMONWARE_END_OF_INPUT, 0, 0, 0, 0, 0));
 }
 
+/* Pairs of a key of two bytes and a value of one, the second with the key of the first. */
+static void test_map_write(void) {
+    const uint8_t pairs[] = {5, 2, 10, 5, 2, 20, 5, 1, 30, 4, 9, 40};
+    const uint8_t map[] = {3, 4, 9, 5, 1, 5, 2, 3, 40, 30, 10, 0xee};
+    uint8_t out[12], untouched[12];
+    memset(out, 0xee, sizeof out);
+    memset(untouched, 0xee, sizeof untouched);
+    CHECK(is_written(commonware_map_write(2, 1, OF(pairs), out, 10), COMMONWARE_ROOM, 3, 0, 11));
+    CHECK(is_written(commonware_map_write(2, 1, OF(pairs), NULL, 0), COMMONWARE_ROOM, 3, 0, 11));
+    CHECK(is_written(commonware_map_write(0, 3, OF(pairs), OF(out)), COMMONWARE_NO_SIZE, 0, 0, 0));
+    CHECK(is_written(commonware_map_write(4, 1, OF(pairs), OF(out)), COMMONWARE_NOT_WHOLE, 0, 2, 0));
+    CHECK(is_written(commonware_map_write(SIZE_MAX, 2, OF(pairs), OF(out)), COMMONWARE_NOT_WHOLE, 0, 12, 0));
+    CHECK(is_written(commonware_map_write(1, SIZE_MAX, OF(pairs), OF(out)), COMMONWARE_NOT_WHOLE, 0, 12, 0));
+    CHECK(memcmp(out, untouched, sizeof out) == 0);
+    CHECK(is_written(commonware_map_write(2, 1, OF(pairs), OF(out)), COMMONWARE_OK, 3, 0, 11));
+    CHECK(memcmp(out, map, sizeof out) == 0);
+    CHECK(is_written(commonware_map_write(SIZE_MAX, 2, NULL, 0, OF(out)), COMMONWARE_OK, 0, 0, 2));
+    CHECK(out[0] == 0 && out[1] == 0 && memcmp(out + 2, map + 2, sizeof out - 2) == 0);
+    CHECK(is_written(commonware_map_write(3, 0, OF(pairs), NULL, 0), COMMONWARE_ROOM, 4, 0, 14));
+}
+
 static void test_certificate(void) {
     uint32_t signers[4] = {9, 9, 9, 9};
     commonware_certificate_view view = commonware_certificate_read(OF(first), 32, 256, OF(signers));
@@ -690,7 +711,7 @@ static void test_memory(void) {
     uint8_t committee[COMMONWARE_COMMITTEE_SIZE(5)];
     const uint8_t empty[] = {0, 0};
     uint32_t out[4];
-    for (int call = 0; call < 10; call++) {
+    for (int call = 0; call < 11; call++) {
         for (allowed = 0;; allowed++) {
             requests = 0;
             memset(out, 0xee, sizeof out);
@@ -706,14 +727,15 @@ static void test_memory(void) {
                 : call == 6 ? commonware_set_read(20, OF(committee), 0, 256).status
                 : call == 7 ? commonware_map_read(20, 8, OF(empty), 0, 256).status
                 : call == 8 ? commonware_set_index(keys[0], 32, keys[0], 32).status
-                            : commonware_set_write(32, keys[0], 160, OF(committee)).status;
+                : call == 9 ? commonware_set_write(32, keys[0], 160, OF(committee)).status
+                            : commonware_map_write(20, 12, keys[0], 160, OF(committee)).status;
             CHECK(live == 0);
             if (status == COMMONWARE_OK) {
                 break;
             }
             CHECK(status == COMMONWARE_MEMORY && out[0] == 0xeeeeeeee && committee[1] == 0xee);
         }
-        CHECK(allowed == requests && (allowed > 0) == (call == 0 || call == 9));
+        CHECK(allowed == requests && (allowed > 0) == (call == 0 || call > 8));
         printf("call %d: each of %zu requests refused\n", call, allowed);
     }
     allowed = SIZE_MAX;
@@ -728,6 +750,7 @@ int main(void) {
     test_set_index();
     test_set_write();
     test_map();
+    test_map_write();
     test_certificate();
     test_conflict();
     test_slots();

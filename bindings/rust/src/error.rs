@@ -75,7 +75,7 @@ pub enum EncodeError {
     NotStrict(usize),
     /// Keys of no bytes: how many there are can't be told.
     NoSize,
-    /// This number of bytes follows the last whole key.
+    /// This number of bytes follows the last whole key, or the last whole pair of a map.
     NotWhole(usize),
     /// An allocation failed. This says nothing of what was to be written.
     Memory,
@@ -103,7 +103,7 @@ impl fmt::Display for EncodeError {
                 write!(f, "signer {place} isn't greater than the one before it")
             }
             EncodeError::NoSize => f.write_str("keys of no bytes"),
-            EncodeError::NotWhole(count) => write!(f, "{count} bytes after the last whole key"),
+            EncodeError::NotWhole(count) => write!(f, "{count} bytes after the last whole item"),
             EncodeError::Memory => f.write_str("out of memory"),
         }
     }

@@ -1,7 +1,8 @@
 //! Maps of keys and values, each of one size, in their encoding.
 
 use crate::items::{Items, List};
-use crate::{Refusal, SetView, raw, status};
+use crate::room::zeros;
+use crate::{EncodeError, Refusal, SetView, raw, status};
 use std::iter::Zip;
 use std::ops::RangeInclusive;
 
@@ -89,6 +90,42 @@ impl<'a> MapView<'a> {
             (map, []) => Ok(map),
             (_, rest) => Err(Refusal::LeftOver(rest.len())),
         }
+    }
+
+    /// Encodes the map of these pairs in the order of their keys: each is a key of `key_size` bytes
+    /// and then its value of `value_size`, one pair after another. They may come in any order. Of
+    /// pairs with equal keys the first is written.
+    ///
+    /// # Errors
+    ///
+    /// `NoSize` where `key_size` is 0, `NotWhole`, `InvalidLength` where the distinct keys are more
+    /// than 4294967295, and `Memory`.
+    ///
+    /// ```
+    /// # use commonware_proved::{EncodeError, MapView};
+    /// let pairs = [8, 1, 2, 7, 3, 4, 8, 5, 6];
+    /// assert_eq!(MapView::encode(1, 2, &pairs)?, [2, 7, 8, 2, 3, 4, 1, 2]);
+    /// assert_eq!(MapView::encode(1, 1, &pairs), Err(EncodeError::NotWhole(1)));
+    /// assert_eq!(MapView::encode(0, 3, &pairs), Err(EncodeError::NoSize));
+    /// # Ok::<(), EncodeError>(())
+    /// ```
+    pub fn encode(
+        key_size: usize,
+        value_size: usize,
+        pairs: &[u8],
+    ) -> Result<Vec<u8>, EncodeError> {
+        let mut out = zeros(10 + pairs.len()).ok_or(EncodeError::Memory)?;
+        // SAFETY: each pointer and the length after it are those of one slice; `out` is a new one.
+        let view = unsafe {
+            let (from, length) = (pairs.as_ptr(), pairs.len());
+            let (room, most) = (out.as_mut_ptr(), out.len());
+            raw::commonware_map_write(key_size, value_size, from, length, room, most)
+        };
+        if view.status != status::OK {
+            return Err(EncodeError::of(view.status, view.number));
+        }
+        out.truncate(view.size);
+        Ok(out)
     }
 
     /// Returns how many pairs there are.

@@ -159,6 +159,13 @@ fn writing_a_set_returns_each_allocation_failure() {
 }
 
 #[test]
+fn writing_a_map_returns_each_allocation_failure() {
+    let pairs: Vec<u8> = (0..200u8).rev().flat_map(|i| [i; 28]).collect();
+    let requests = refuse_each(&EncodeError::Memory, || MapView::encode(20, 8, &pairs));
+    assert!(requests > 0);
+}
+
+#[test]
 fn writing_a_certificate_allocates_nothing() {
     let signers: Vec<u32> = (0..200).collect();
     let requests = refuse_each(&EncodeError::Memory, || Certificate::encode(b"x", &signers));

@@ -1,5 +1,5 @@
-//! Sets of keys of any size are written as by a sort and a removal of repeats: 200,000 random cases,
-//! or as many as COMMONWARE_CASES says.
+//! Sets and maps of any size are written as by a sort and a removal of repeats: 200,000 random cases
+//! of each, or as many as COMMONWARE_CASES says.
 
 #[allow(dead_code, reason = "the other tests use the rest")]
 mod common;
@@ -10,7 +10,7 @@ mod raw;
 use common::naive::varint;
 use common::random::Random;
 use common::seen::Seen;
-use commonware_proved::{Member, SetView};
+use commonware_proved::{MapView, Member, SetView};
 use std::env;
 
 /// Statuses of the library.
@@ -149,4 +149,102 @@ fn many_keys_in_falling_order_are_written() {
     let key = |i: u32| [[0; 28].as_slice(), &i.to_be_bytes()].concat();
     let keys: Vec<u8> = (0..70_000).rev().flat_map(key).collect();
     assert_eq!(try_write(32, &keys, 5 + keys.len()), "ok");
+}
+
+/// Returns the status, the count, the number and the size.
+fn map_write(sizes: (usize, usize), pairs: &[u8], out: &mut [u8]) -> (u32, usize, usize, usize) {
+    // SAFETY: each pointer and the length after it are those of one slice.
+    let view = unsafe {
+        let (from, length) = (pairs.as_ptr(), pairs.len());
+        raw::commonware_map_write(sizes.0, sizes.1, from, length, out.as_mut_ptr(), out.len())
+    };
+    (view.status, view.count, view.number, view.size)
+}
+
+/// Returns the encoding of the map by a stable sort, and how many pairs it has.
+fn naive_map(sizes: (usize, usize), pairs: &[u8]) -> (Vec<u8>, usize) {
+    let each = pairs.chunks_exact(sizes.0 + sizes.1);
+    let mut each: Vec<(&[u8], &[u8])> = each.map(|pair| pair.split_at(sizes.0)).collect();
+    each.sort_by_key(|pair| pair.0);
+    each.dedup_by_key(|pair| pair.0);
+    let mut bytes = varint(each.len() as u64);
+    bytes.extend(each.iter().flat_map(|pair| pair.0));
+    bytes.extend(varint(each.len() as u64));
+    bytes.extend(each.iter().flat_map(|pair| pair.1));
+    (bytes, each.len())
+}
+
+/// Compares one call with the naive one, and returns what came of it.
+fn try_map_write(sizes: (usize, usize), pairs: &[u8], room: usize) -> &'static str {
+    let mut out = vec![UNTOUCHED; room];
+    let told = map_write(sizes, pairs, &mut out);
+    let is_untouched = out.iter().all(|byte| *byte == UNTOUCHED);
+    if sizes.0 == 0 {
+        assert_eq!((told, is_untouched), ((NO_SIZE, 0, 0, 0), true));
+        return "no size";
+    }
+    let over = match sizes.0.checked_add(sizes.1) {
+        Some(size) => pairs.len() % size,
+        None => pairs.len(),
+    };
+    if over > 0 {
+        assert_eq!((told, is_untouched), ((NOT_WHOLE, 0, over, 0), true));
+        return "not whole";
+    }
+    let (bytes, count) = match pairs {
+        [] => (vec![0, 0], 0),
+        pairs => naive_map(sizes, pairs),
+    };
+    if room < bytes.len() {
+        assert_eq!((told, is_untouched), ((ROOM, count, 0, bytes.len()), true));
+        return "room";
+    }
+    assert_eq!(told, (OK, count, 0, bytes.len()));
+    assert_eq!(out[..bytes.len()], bytes);
+    assert!(out[bytes.len()..].iter().all(|byte| *byte == UNTOUCHED));
+    assert_eq!(
+        MapView::encode(sizes.0, sizes.1, pairs).as_deref(),
+        Ok(&bytes[..])
+    );
+    "ok"
+}
+
+#[test]
+fn maps_are_written_as_by_a_stable_sort() {
+    let mut random = Random(47);
+    let mut seen = Seen::default();
+    for _ in 0..cases() {
+        let size = |random: &mut Random| match random.below(24) {
+            at @ 0..=20 => at,
+            at => [32, 33, 48, 96][at % 4],
+        };
+        let sizes = (size(&mut random), size(&mut random) / 2);
+        let mut pairs = some_keys(&mut random, (sizes.0 + sizes.1).max(1));
+        if sizes.0 > 0 && random.below(2) == 0 {
+            // Equal keys with other values.
+            for pair in pairs.chunks_mut(sizes.0 + sizes.1) {
+                let end = sizes.0.min(pair.len());
+                pair[..end].fill(random.below(3) as u8);
+            }
+        }
+        let room = some_room(&mut random, 10 + pairs.len());
+        seen.note(try_map_write(sizes, &pairs, room));
+    }
+    seen.assert_each(4, cases() / 100);
+}
+
+#[test]
+fn sizes_of_pairs_whose_sum_wraps_have_a_result() {
+    for sizes in [
+        (1, usize::MAX),
+        (usize::MAX, 1),
+        (usize::MAX, usize::MAX),
+        (1 << 63, 1 << 63),
+    ] {
+        assert_eq!(try_map_write(sizes, &[1, 2], 9), "not whole");
+        assert_eq!(try_map_write(sizes, &[], 9), "ok");
+        assert_eq!(try_map_write(sizes, &[], 1), "room");
+    }
+    assert_eq!(try_map_write((1, 0), &[3, 1, 2, 1], 9), "ok");
+    assert_eq!(try_map_write((0, usize::MAX), &[], 9), "no size");
 }

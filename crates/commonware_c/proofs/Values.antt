@@ -1,13 +1,13 @@
 -- What is kept of a list of references, by what they refer to.
 use Rattle.std.proofs.Common.{◌≡◌, ◌∙◌, ◌+◌, ◌<◌, ℕ, Bool, List, [], ◌∷◌, ◌++◌, Bor, length, map, get_or, arith, ap, inl, inr, refl, sym, subst, subst₂}
-use Rattle.std.specs.Prelude.{Err, IfOk, None, Ok, Result, Some, false}
+use Rattle.std.specs.Prelude.{Err, IfOk, None, Ok, Option, Result, Some, false}
 use Rattle.std.specs.List.{Contains, flat_map}
 use Rattle.std.specs.Option.{option_map}
 use Rattle.std.specs.declared.cmp.Ordering.{Ordering}
 use Rattle.std.specs.declared.cmp.Ordering.TheVariants.{Less}
 use Rattle.std.specs.Iterator.{Drains, YieldsFirstRef}
-use Rattle.std.proofs.lemmas.Iterator.Consumers.{YieldsList-from_first}
-use Rattle.std.proofs.lemmas.Iterator.{items_from_drains}
+use Rattle.std.proofs.lemmas.Iterator.Consumers.{YieldsList-at, YieldsList-from_first}
+use Rattle.std.proofs.lemmas.Iterator.{YieldsList, items_from_drains}
 use Rattle.std.proofs.lemmas.List.{get_or-map, get_or_default, length-map}
 use Rattle.std.proofs.lemmas.Option.{same_Some, slice_get-map, slice_get_cases, slice_get_within}
 use Rattle.commonware_sequence.specs.FixedBytes.{own_bytes}
@@ -68,14 +68,23 @@ pub flat_values : (xs : List (Bor (List ℕ))) → flat_map (λ k. k.now) xs ≡
 flat_values [] = refl
 flat_values (x ∷ xs) = ap (λ t. x.now ++ t) (flat_values xs)
 
--- the set of the items of an iterator of references, by what they refer to
+-- what is kept of all that an iterator gives, by what it refers to
+pub dedup_of_drawn : {R X S E : Type 0} (value : R → X) (eq : X → X → Bool) (cmp : X → X → Ordering) (steps : S → Option R → S → Type 0) (first : S)
+    (all : List X) (r : Result (List R) E) → YieldsList steps value first all
+    → IfOk r (λ made. (s : S) × (xs : List R) × (s ≡ first) × Drains steps s xs × IsDedup (eq_by value eq cmp) (cmp_by value eq cmp) xs made)
+    → IfOk r (λ made. IsDedup eq cmp all (map value made))
+dedup_of_drawn value eq cmp steps first all (Ok made) yields (s, xs, from, drained, kept) =
+    let drawn : map value xs ≡ all = items_from_drains xs (drained.1.0, drained.1.1, λ _. (drained.0, drained.1.2)) (YieldsList-at from yields) in
+    subst (λ ys. IsDedup eq cmp ys (map value made)) drawn (dedup_values value eq cmp xs made kept)
+dedup_of_drawn value eq cmp steps first all (Err e) yields h = tt
+
+-- the set of the items of an iterator of references
 pub dedup_of_items : {X E : Type 0} (eq : X → X → Bool) (cmp : X → X → Ordering) (items it : List X) (r : Result (List (Bor X)) E)
     (P : List (Bor X) → List (Bor X) → Type 0) → it ≡ items
     → IfOk r (λ made. (s : List X) × (xs : List (Bor X)) × (s ≡ it) × Drains (YieldsFirstRef (λ left. left)) s xs
     × (IsDedup (eq_by (λ k. k.now) eq cmp) (cmp_by (λ k. k.now) eq cmp) xs made × P xs made))
     → IfOk r (λ made. IsDedup eq cmp items (map (λ k. k.now) made))
 dedup_of_items eq cmp items it (Ok made) P same (s, xs, from, drained, kept) =
-    let all : map (λ k. k.now) xs ≡ items =
-    items_from_drains xs (drained.1.0, drained.1.1, λ _. (drained.0, drained.1.2)) (YieldsList-from_first (λ k. k.now) (λ left. left) items (from ∙ same)) in
-    subst (λ ys. IsDedup eq cmp ys (map (λ k. k.now) made)) all (dedup_values (λ k. k.now) eq cmp xs made kept.0)
+    dedup_of_drawn {E = Unit {0}} (λ k. k.now) eq cmp (YieldsFirstRef (λ left. left)) it items (Ok made) (YieldsList-from_first (λ k. k.now) (λ left. left) items same)
+    (s, xs, from, drained, kept.0)
 dedup_of_items eq cmp items it (Err e) P same h = tt

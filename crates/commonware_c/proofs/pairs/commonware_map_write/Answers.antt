@@ -1,0 +1,10 @@
+use Rattle.std.proofs.Common.{◌+◌, arith}
+use Rattle.commonware_views.specs.laws.ItemLaws.{none_left_over}
+use Rattle.commonware_c.proofs.pairs.commonware_map_write.Goals as goal
+
+pub returns-in-Ok-clause-not_whole : goal.returns-in-Ok-clause-not_whole
+returns-in-Ok-clause-not_whole c =
+    let whole = none_left_over (c.args.key_size + c.args.value_size) c.args.pairs.now c.in-Ok.rows c.in-Ok.ensures.rows in (
+      (λ e. absurd (omega (arith, e, (c.write_rows.ensures.else_memory (λ ok. omega (arith, e, ok)) (λ ok. omega (arith, e, ok)) (λ ok. omega (arith, e, ok))).0))),
+      (λ w. absurd (w.1 whole)),
+    )

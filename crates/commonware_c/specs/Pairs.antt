@@ -1,0 +1,26 @@
+-- What a caller in C has written of pairs of keys and values, each of one size.
+use Rattle.std.specs.Prelude.{◌≡◌, ℕ, ◌+◌, ◌*◌, ◌≤◌, List, drop, length, map, nat_eq, take}
+use Rattle.std.specs.Cmp.Lexicographic.{pointwise}
+use Rattle.commonware_map.specs.Maps.{map_enc}
+use Rattle.commonware_map.specs.Pairs.{on_keys}
+use Rattle.commonware_ordered.specs.Dedup.{IsDedup}
+use Rattle.commonware_sequence.specs.FixedBytes.{bytes_cmp, own_bytes}
+
+-- a row is a key of `key_size` bytes, and then its value
+abbrev pub pair_of : ℕ → List ℕ → List ℕ × List ℕ
+pair_of key_size row = (take key_size row, drop key_size row)
+
+-- the pairs are those of the rows in the order of their keys, of those with equal keys the first
+abbrev pub IsFirstOfEach : ℕ → List (List ℕ) → List (List ℕ × List ℕ) → Type 0
+IsFirstOfEach key_size rows =
+    IsDedup (on_keys (pointwise nat_eq)) (on_keys bytes_cmp) (map (pair_of key_size) rows)
+
+-- The map has the first pair of each key, in the order of the keys: `count` of them, no more than the rows, and `bytes`
+-- bytes.
+pub record IsMapOf (key_size value_size : ℕ) (rows : List (List ℕ)) (pairs : List (List ℕ × List ℕ)) (count bytes : ℕ) :
+    Type 0 where
+  pub firsts : IsFirstOfEach key_size rows pairs
+  pub count_is : count ≡ length pairs
+  pub count_most : count ≤ length rows
+  pub bytes_is : bytes ≡ length (map_enc own_bytes own_bytes pairs)
+  pub bytes_most : bytes ≤ 10 + (key_size + value_size) * count
