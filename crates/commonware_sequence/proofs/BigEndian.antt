@@ -2,11 +2,12 @@
 use Rattle.std.specs.Cmp.Lexicographic.{slice_cmp}
 use Rattle.std.specs.Slice.Scan.{big_endian}
 use Rattle.std.specs.Ordering.{ordering_then}
-use Rattle.std.proofs.Common.{◌≡◌, ℕ, zero, suc, ◌+◌, ◌*◌, ◌<◌, ◌≤◌, List, [], ◌∷◌, length, get_or, take, drop, length-drop, nat_cmp, Ordering, Less, Equal, Greater, arith, ap, sym, subst, subst₂, refl, ◌∙◌}
-use Rattle.std.proofs.lemmas.List.{drop-drop}
+use Rattle.std.proofs.Common.{◌≡◌, ℕ, zero, suc, ◌+◌, ◌*◌, ◌<◌, ◌≤◌, List, [], ◌∷◌, ◌++◌, length, min, get_or, take, drop, length-drop, nat_cmp, Ordering, Less, Equal, Greater, arith, ap, sym, subst, subst₂, refl, ◌∙◌}
+use Rattle.std.proofs.lemmas.List.{drop-take, take-take}
+use Rattle.std.proofs.Math.Seq.{take-add}
 use Rattle.std.proofs.lemmas.Map.Lookups.{exact_unsigned}
 use Rattle.std.proofs.lemmas.Cmp.{by_ranked, ranked, nat_cmp_total, tied_itself}
-use Rattle.commonware_sequence.specs.BigEndian.{number_at, IsDetermined}
+use Rattle.commonware_sequence.specs.BigEndian.{number_at, HaveSamePrefix}
 
 -- each number of the list is a byte
 abbrev pub Bytes : List ℕ → Type 0
@@ -62,37 +63,83 @@ numbers_in_order (suc n) (x ∷ xs) (y ∷ ys) a p q h g =
     (λ e. subst (λ z. slice_cmp nat_cmp xs ys ≡ ordering_then (nat_cmp (big_endian (a * 256 + x) (take n xs)) (big_endian (a * 256 + z) (take n ys))) rest) e
     (numbers_in_order n xs ys (a * 256 + x) p1 q1 h1 g1))
 
+-- numbers that are the same are so for the same bytes
+numbers_same : (n : ℕ) (xs ys : List ℕ) (a b : ℕ) → n ≤ length xs → n ≤ length ys → Bytes xs → Bytes ys
+    → big_endian a (take n xs) ≡ big_endian b (take n ys) → (a ≡ b) × (take n xs ≡ take n ys)
+numbers_same zero xs ys a b p q h g e = (e, refl)
+numbers_same (suc n) [] ys a b p q h g e = absurd (omega (arith, p))
+numbers_same (suc n) (x ∷ xs) [] a b p q h g e = absurd (omega (arith, q))
+numbers_same (suc n) (x ∷ xs) (y ∷ ys) a b p q h g e =
+    let small : x < 256 = h 0 in
+    let small_too : y < 256 = g 0 in
+    let (first, rest) = numbers_same n xs ys (a * 256 + x) (b * 256 + y) (omega (arith, p)) (omega (arith, q)) (λ k. h (suc k)) (λ k. g (suc k)) e in
+    let byte : x ≡ y = omega arith in
+    (omega arith, ap (λ z. z ∷ take n xs) byte ∙ ap (λ l. y ∷ l) rest)
+
 -- ---- from a place on
 
--- lists whose order is determined up to a place by the same numbers have it determined by those of the n bytes from there on
-pub determined_further : (n i : ℕ) (xs ys : List ℕ) (a b : ℕ) → i + n ≤ length xs → i + n ≤ length ys → Bytes xs → Bytes ys
-    → IsDetermined xs ys i a b → a ≡ b → IsDetermined xs ys (i + n) (number_at n i xs) (number_at n i ys)
-determined_further n i xs ys a b p q h g is level =
-    let p1 : n ≤ length (drop i xs) = omega (arith, p, length-drop i xs) in
-    let q1 : n ≤ length (drop i ys) = omega (arith, q, length-drop i ys) in
-    is ∙ ap (λ o. ordering_then o (slice_cmp nat_cmp (drop i xs) (drop i ys))) (ap (λ z. nat_cmp a z) (sym level) ∙ tied_itself nat_cmp_total a)
-    ∙ numbers_in_order n (drop i xs) (drop i ys) 0 p1 q1 (bytes_past i xs h) (bytes_past i ys g)
-    ∙ ap (λ l. ordering_then (nat_cmp (number_at n i xs) (number_at n i ys)) (slice_cmp nat_cmp l (drop n (drop i ys)))) (drop-drop n i xs)
-    ∙ ap (λ l. ordering_then (nat_cmp (number_at n i xs) (number_at n i ys)) (slice_cmp nat_cmp (drop (i + n) xs) l)) (drop-drop n i ys)
+-- lists with the same first byte compare as what follows it
+first_same : (x y : ℕ) (xs ys : List ℕ) → x ≡ y → slice_cmp nat_cmp (x ∷ xs) (y ∷ ys) ≡ slice_cmp nat_cmp xs ys
+first_same x y xs ys e =
+    ap (λ o. ordering_then o (slice_cmp nat_cmp xs ys)) (ap (λ z. nat_cmp x z) (sym e) ∙ tied_itself nat_cmp_total x)
 
--- what determines an order is the order
-then_apart : (o rest : Ordering) → ¬ (o ≡ Equal) → o ≡ ordering_then o rest
+-- lists that begin with the same bytes compare as what is past these
+past_same : (i : ℕ) (xs ys : List ℕ) → HaveSamePrefix i xs ys → slice_cmp nat_cmp xs ys ≡ slice_cmp nat_cmp (drop i xs) (drop i ys)
+past_same zero xs ys same = refl
+past_same (suc i) [] [] same = refl
+past_same (suc i) [] (y ∷ ys) same = absurd (omega (arith, ap length same))
+past_same (suc i) (x ∷ xs) [] same = absurd (omega (arith, ap length same))
+past_same (suc i) (x ∷ xs) (y ∷ ys) same =
+    first_same x y xs ys (ap (λ l. get_or l 0 x) same) ∙ past_same i xs ys (ap (drop 1) same)
+
+-- what decides is the order
+then_apart : (o rest : Ordering) → ¬ (o ≡ Equal) → ordering_then o rest ≡ o
 then_apart Less rest other = refl
 then_apart Greater rest other = refl
 then_apart Equal rest other = absurd (other refl)
 
--- numbers that differ tell the order
-pub apart_decides : (i : ℕ) (xs ys : List ℕ) (a b : ℕ) → IsDetermined xs ys i a b → ¬ (a ≡ b) → nat_cmp a b ≡ slice_cmp nat_cmp xs ys
-apart_decides i xs ys a b is other =
-    then_apart (nat_cmp a b) (slice_cmp nat_cmp (drop i xs) (drop i ys)) (λ e. other (exact_unsigned a b e)) ∙ sym is
+-- words that differ tell the order
+pub word_decides : (i : ℕ) (xs ys : List ℕ) → i + 8 ≤ length xs → i + 8 ≤ length ys → Bytes xs → Bytes ys
+    → HaveSamePrefix i xs ys → ¬ (number_at 8 i xs ≡ number_at 8 i ys)
+    → nat_cmp (number_at 8 i xs) (number_at 8 i ys) ≡ slice_cmp nat_cmp xs ys
+word_decides i xs ys p q h g same other =
+    let p1 : 8 ≤ length (drop i xs) = omega (arith, p, length-drop i xs) in
+    let q1 : 8 ≤ length (drop i ys) = omega (arith, q, length-drop i ys) in
+    let numbers = nat_cmp (number_at 8 i xs) (number_at 8 i ys) in
+    let rest = slice_cmp nat_cmp (drop 8 (drop i xs)) (drop 8 (drop i ys)) in
+    sym (past_same i xs ys same ∙ numbers_in_order 8 (drop i xs) (drop i ys) 0 p1 q1 (bytes_past i xs h) (bytes_past i ys g)
+    ∙ then_apart numbers rest (λ e. other (exact_unsigned (number_at 8 i xs) (number_at 8 i ys) e)))
 
--- and numbers that don't leave it to what is past the place
-pub alike_settles : (i : ℕ) (xs ys : List ℕ) (a b : ℕ) → IsDetermined xs ys i a b → a ≡ b → IsDetermined xs ys i 0 0
-alike_settles i xs ys a b is level =
-    is ∙ ap (λ o. ordering_then o (slice_cmp nat_cmp (drop i xs) (drop i ys))) (ap (λ z. nat_cmp a z) (sym level) ∙ tied_itself nat_cmp_total a)
+-- the same bytes are the same words
+pub same_word : (i : ℕ) (xs ys : List ℕ) → HaveSamePrefix (i + 8) xs ys → number_at 8 i xs ≡ number_at 8 i ys
+same_word i xs ys same = ap (big_endian 0) (sym (drop-take i 8 xs) ∙ ap (drop i) same ∙ drop-take i 8 ys)
 
--- one word more
-pub word_on : (i : ℕ) (xs ys : List ℕ) (a b : ℕ) → i + 8 ≤ length xs → i + 8 ≤ length ys → Bytes xs → Bytes ys
-    → IsDetermined xs ys i 0 0 → a ≡ number_at 8 i xs → b ≡ number_at 8 i ys → IsDetermined xs ys (i + 8) a b
-word_on i xs ys a b p q h g is e f =
-    subst₂ (IsDetermined xs ys (i + 8)) (sym e) (sym f) (determined_further 8 i xs ys 0 0 p q h g is refl)
+-- and words that are the same are the same bytes
+pub word_on : (i : ℕ) (xs ys : List ℕ) → i + 8 ≤ length xs → i + 8 ≤ length ys → Bytes xs → Bytes ys
+    → HaveSamePrefix i xs ys → number_at 8 i xs ≡ number_at 8 i ys → HaveSamePrefix (i + 8) xs ys
+word_on i xs ys p q h g same e =
+    let p1 : 8 ≤ length (drop i xs) = omega (arith, p, length-drop i xs) in
+    let q1 : 8 ≤ length (drop i ys) = omega (arith, q, length-drop i ys) in
+    let (_, words) = numbers_same 8 (drop i xs) (drop i ys) 0 0 p1 q1 (bytes_past i xs h) (bytes_past i ys g) e in
+    take-add i 8 xs ∙ ap (λ l. l ++ take 8 (drop i xs)) same ∙ ap (λ l. take i ys ++ l) words ∙ sym (take-add i 8 ys)
+
+-- numbers that are one more each compare as before
+one_more : (a b : ℕ) → nat_cmp (suc a) (suc b) ≡ nat_cmp a b
+one_more a b = by_ranked (a < b) (a ≡ b) (b < a) (nat_cmp a b) (ranked a b _ refl)
+    (λ e l. less (suc a) (suc b) (omega arith) ∙ sym e)
+    (λ e l. ap (λ z. nat_cmp (suc a) (suc z)) (sym l) ∙ tied_itself nat_cmp_total (suc a) ∙ sym e)
+    (λ e g. greater (suc a) (suc b) (omega arith) ∙ sym e)
+
+-- lists of which the shorter is the other's prefix are in the order of their lengths
+pub lengths_decide : (n : ℕ) (xs ys : List ℕ) → n ≡ min (length xs) (length ys) → HaveSamePrefix n xs ys
+    → nat_cmp (length xs) (length ys) ≡ slice_cmp nat_cmp xs ys
+lengths_decide n [] [] is same = refl
+lengths_decide n [] (y ∷ ys) is same = less 0 (suc (length ys)) (omega arith)
+lengths_decide n (x ∷ xs) [] is same = greater (suc (length xs)) 0 (omega arith)
+lengths_decide zero (x ∷ xs) (y ∷ ys) is same = absurd (omega (arith, is))
+lengths_decide (suc n) (x ∷ xs) (y ∷ ys) is same =
+    one_more (length xs) (length ys) ∙ lengths_decide n xs ys (omega (arith, is)) (ap (drop 1) same) ∙ sym (first_same x y xs ys (ap (λ l. get_or l 0 x) same))
+
+-- lists that begin with the same bytes begin with the same fewer ones
+pub fewer_same : (i n : ℕ) (xs ys : List ℕ) → i ≤ n → HaveSamePrefix n xs ys → HaveSamePrefix i xs ys
+fewer_same i n xs ys le same = sym (take-take i n xs le) ∙ ap (take i) same ∙ take-take i n ys le

@@ -1,6 +1,6 @@
 //! The order of lists of bytes, found by words of eight bytes.
-ghost use Rattle.std.specs.Prelude.{◌≡◌, ◌+◌, ◌≤◌, IfNone, IfSome, length};
-ghost use Rattle.commonware_sequence.specs.BigEndian.{IsDetermined, number_at};
+ghost use Rattle.std.specs.Prelude.{◌≡◌, ◌+◌, ◌<◌, ◌≤◌, ◌⊎◌, IfNone, IfSome, length};
+ghost use Rattle.commonware_sequence.specs.BigEndian.{HaveSamePrefix, number_at};
 ghost use Rattle.commonware_sequence.specs.FixedBytes.{bytes_cmp};
 
 use std::cmp::Ordering;
@@ -25,41 +25,69 @@ fn word(bytes: &[u8], at: usize) -> u64
 }
 
 /// Returns the order of two lists of bytes that don't differ up to a place, where the next eight
-/// bytes tell it.
+/// bytes, known as numbers, tell it.
 #[inline(always)]
-fn order_by_word(mine: &[u8], others: &[u8], at: usize) -> Option<Ordering>
+fn order_by_numbers(a: u64, b: u64, mine: &[u8], others: &[u8], at: usize) -> Option<Ordering>
     requires mine { at + 8 ≤ length mine.now }
     requires others { at + 8 ≤ length others.now }
-    requires settled { IsDetermined mine.now others.now at 0 0 }
+    requires number { a ≡ number_at 8 at mine.now }
+    requires other_number { b ≡ number_at 8 at others.now }
+    requires same { HaveSamePrefix at mine.now others.now }
     ensures some { IfSome result (λ order. order ≡ bytes_cmp mine.now others.now) }
-    ensures none { IfNone result (IsDetermined mine.now others.now (at + 8) 0 0) }
+    ensures apart { IfSome result (λ _. ¬ HaveSamePrefix (at + 8) mine.now others.now) }
+    ensures none { IfNone result (HaveSamePrefix (at + 8) mine.now others.now) }
 {
-    let a = word(mine, at);
-    let b = word(others, at);
     if a == b {
         return None;
     }
     Some(a.cmp(&b))
 }
 
-/// Returns the order of two lists of bytes that don't differ up to a place.
+/// The same, with these bytes read.
 #[inline(always)]
-fn order_past(mine: &[u8], others: &[u8], at: usize) -> Ordering
-    requires mine { at ≤ length mine.now }
-    requires others { at ≤ length others.now }
-    requires settled { IsDetermined mine.now others.now at 0 0 }
-    ensures { result ≡ bytes_cmp mine.now others.now }
+fn order_by_word(mine: &[u8], others: &[u8], at: usize) -> Option<Ordering>
+    requires mine { at + 8 ≤ length mine.now }
+    requires others { at + 8 ≤ length others.now }
+    requires same { HaveSamePrefix at mine.now others.now }
+    ensures some { IfSome result (λ order. order ≡ bytes_cmp mine.now others.now) }
+    ensures none { IfNone result (HaveSamePrefix (at + 8) mine.now others.now) }
 {
-    mine[at..].cmp(&others[at..])
+    order_by_numbers(word(mine, at), word(others, at), mine, others, at)
 }
 
-/// Returns the order of two lists of bytes that don't differ in the first eight. Two more words are
-/// compared as such. It is not inlined, since lists mostly differ in the first.
+/// Returns the order of two lists of eight bytes or more that don't differ up to a place. The last
+/// word overlaps the one before it, so that no byte is compared by itself.
 #[inline(never)]
+fn order_past(mine: &[u8], others: &[u8], from: usize) -> Ordering
+    requires mine { 8 ≤ length mine.now }
+    requires others { 8 ≤ length others.now }
+    requires inside { from ≤ length mine.now }
+    requires inside_others { from ≤ length others.now }
+    requires same { HaveSamePrefix from mine.now others.now }
+    ensures { result ≡ bytes_cmp mine.now others.now }
+{
+    let shorter = mine.len().min(others.len());
+    let mut at = from;
+    while at + 8 <= shorter {
+        if let Some(order) = order_by_word(mine, others, at) {
+            return order;
+        }
+        at += 8;
+    }
+    if let Some(order) = order_by_word(mine, others, shorter - 8) {
+        return order;
+    }
+    mine.len().cmp(&others.len())
+}
+
+/// Returns the order of two lists of bytes that don't differ in the first eight. The second word and
+/// the third, or the last where that is before the third, are compared inline, and what follows by a
+/// call, since most lists differ before.
+#[inline(always)]
 fn order_past_a_word(mine: &[u8], others: &[u8]) -> Ordering
     requires mine { 8 ≤ length mine.now }
     requires others { 8 ≤ length others.now }
-    requires settled { IsDetermined mine.now others.now 8 0 0 }
+    requires same { HaveSamePrefix 8 mine.now others.now }
     ensures { result ≡ bytes_cmp mine.now others.now }
 {
     let shorter = mine.len().min(others.len());
@@ -69,13 +97,19 @@ fn order_past_a_word(mine: &[u8], others: &[u8]) -> Ordering
     if let Some(order) = order_by_word(mine, others, 8) {
         return order;
     }
-    if shorter < 24 {
-        return order_past(mine, others, 16);
-    }
-    if let Some(order) = order_by_word(mine, others, 16) {
+    let third = (shorter - 8).min(16);
+    if let Some(order) = order_by_word(mine, others, third) {
         return order;
     }
-    order_past(mine, others, 24)
+    order_past(mine, others, third + 8)
+}
+
+/// Returns the order of two lists of bytes, of which one has no whole word.
+#[inline(always)]
+fn order_of_short(mine: &[u8], others: &[u8]) -> Ordering
+    ensures { result ≡ bytes_cmp mine.now others.now }
+{
+    mine.cmp(others)
 }
 
 /// Returns the order of two lists of bytes, whose first eight are known as numbers where there are
@@ -87,10 +121,10 @@ fn order_from(a: u64, b: u64, mine: &[u8], others: &[u8]) -> Ordering
     ensures { result ≡ bytes_cmp mine.now others.now }
 {
     if mine.len() < 8 || others.len() < 8 {
-        return order_past(mine, others, 0);
+        return order_of_short(mine, others);
     }
-    if a != b {
-        return a.cmp(&b);
+    if let Some(order) = order_by_numbers(a, b, mine, others, 0) {
+        return order;
     }
     order_past_a_word(mine, others)
 }
@@ -123,6 +157,22 @@ impl<'a> Prefixed<'a> {
     {
         let first = if bytes.len() < 8 { 0 } else { word(bytes, 0) };
         Prefixed { bytes, first }
+    }
+
+    /// Returns the order of the two lists of bytes where their first eight bytes tell it, and `None`
+    /// where these are the same, or where a list has fewer.
+    #[inline(always)]
+    pub fn order_by_prefix(&self, other: &Prefixed<'_>) -> Option<Ordering>
+        ensures some { IfSome result (λ order. order ≡ bytes_cmp self.now other.now) }
+        ensures told { IfSome result (λ _. (8 ≤ length self.now) × (8 ≤ length other.now)
+            × ¬ HaveSamePrefix 8 self.now other.now) }
+        ensures none { IfNone result ((length self.now < 8) ⊎ ((length other.now < 8)
+            ⊎ HaveSamePrefix 8 self.now other.now)) }
+    {
+        if self.bytes.len() < 8 || other.bytes.len() < 8 {
+            return None;
+        }
+        order_by_numbers(self.first, other.first, self.bytes, other.bytes, 0)
     }
 
     /// Returns the order of the two lists of bytes, as `bytes_order` does. It allocates nothing.

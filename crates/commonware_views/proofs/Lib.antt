@@ -4,3 +4,4 @@ pub mod Exact
 pub mod Found
 pub mod NoGap
 pub mod Pairs
+pub mod Rising

@@ -46,7 +46,7 @@ pub enum NotWhole {
     /// Items of no bytes: how many there are can't be told.
     #[error("items of no bytes")]
     NoSize,
-    /// So many bytes are left after the last whole item.
+    /// How many bytes are left after the last whole item.
     #[error("{0} bytes after the last whole item")]
     LeftOver(usize),
 }

@@ -1,17 +1,8 @@
-use Rattle.std.proofs.Common.{◌≡◌, ◌∙◌, ◌+◌, ◌-◌, ◌*◌, ◌<◌, [], take, drop, true, false, arith, inl, inr, ap, refl, sym, subst₂}
-use Rattle.std.proofs.lemmas.Bool.{cases_lt}
+use Rattle.std.proofs.Common.{◌≡◌, ◌∙◌, ◌+◌, ◌-◌, ◌*◌, ◌<◌, [], take, drop, true, false, arith, ap, refl, sym}
 use Rattle.std.specs.Ordering.{is_lt}
-use Rattle.std.specs.declared.cmp.Ordering.{Ordering}
-use Rattle.std.specs.declared.cmp.Ordering.TheVariants.{Less, Equal, Greater}
-use Rattle.commonware_sequence.specs.FixedBytes.{bytes_cmp}
-use Rattle.commonware_views.proofs.Chunks.{chunk_at, chunks_count}
+use Rattle.commonware_views.proofs.Chunks.{chunks_count}
+use Rattle.commonware_views.proofs.Rising.{both_rise, less_from_test, one_more_rises}
 use Rattle.commonware_views.proofs.order.are_strict.Goals as goal
-
--- only `Less` passes the test
-less_from_test : (o : Ordering) → true ≡ is_lt o → o ≡ Less
-less_from_test Less e = refl
-less_from_test Equal e = cc
-less_from_test Greater e = cc
 
 pub returns-then-count-lt2 : goal.returns-then-count-lt2
 returns-then-count-lt2 c = (
@@ -19,49 +10,30 @@ returns-then-count-lt2 c = (
   (λ _. refl),
 )
 
-pub returns-then-not-is_lt : goal.returns-then-not-is_lt
-returns-then-not-is_lt c = (
+pub returns-in-Some-2 : goal.returns-in-Some-2
+returns-in-Some-2 c = (
   (λ t. absurd (cc)),
   (λ strict.
-      let size = c.args.size in
-      let count = c.args.count in
-      let i = c.loop-i.i in
-      let s = c.args.bytes.now in
-      let same : i - 1 + 1 ≡ i = omega (arith, c.loop-i.invariant.0) in
-      let inside : i - 1 + 1 < count = omega (arith, same, c.loop-i-test.true) in
-      let one = chunk_at size count (i - 1) s [] (omega (arith, inside)) ∙ sym c.loop-i.invariant.2 in
-      let next = chunk_at size count (i - 1 + 1) s [] inside ∙ ap (λ n. take size (drop (n * size) s)) same
-      ∙ sym c.item_at-in-loop-i.ensures ∙ sym c.new-item.ensures in
-      let less = strict (i - 1) [] (omega (arith, inside, chunks_count size count s)) in
-      let told : bytes_cmp c.loop-i.last c.new-item.result ≡ Less = subst₂ (λ x y. bytes_cmp x y ≡ Less) one next less in
-      let yes : is_lt c.order.result ≡ true = ap is_lt (c.order.ensures ∙ told) in
-      let never : false ≡ true = sym c.if-not-is_lt.true ∙ c.is_lt.ensures ∙ yes in
+      let here = c.new-item.ensures ∙ c.item_at-in-loop-i.ensures in
+      let told = both_rise c.args.size c.args.count c.loop-i.i c.args.bytes.now c.loop-i.last c.new-item.result c.loop-i.invariant.0 c.loop-i-test.true c.loop-i.invariant.2 here strict in
+      let yes : is_lt c.in-Some.order ≡ true = ap is_lt (c.in-Some.ensures.some ∙ told) in
+      let never : false ≡ true = sym c.if-is_lt.false ∙ c.is_lt.ensures ∙ yes in
       absurd (cc)),
 )
 
 pub loop-i-preserved : goal.loop-i-preserved
 loop-i-preserved c =
     let size = c.args.size in
-    let count = c.args.count in
     let i = c.loop-i.i in
     let s = c.args.bytes.now in
     let item = c.new-item.result in
     let here : item ≡ take size (drop (i * size) s) = c.new-item.ensures ∙ c.item_at-in-loop-i.ensures in
-    let less : bytes_cmp c.loop-i.last item ≡ Less =
-    sym c.order.ensures ∙ less_from_test c.order.result (sym c.if-not-is_lt.false ∙ c.is_lt.ensures) in
+    let less = sym c.in-Some.ensures.some ∙ less_from_test c.in-Some.order (sym c.if-is_lt.true ∙ c.is_lt.ensures) in
     let back : i ≡ i + 1 - 1 = omega arith in (
       omega arith,
       omega (arith, c.loop-i-test.true),
       here ∙ ap (λ n. take size (drop (n * size) s)) back,
-      λ k d h. elim (cases_lt (k + 1) i) [
-        | inl before ↦ c.loop-i.invariant.3 k d before
-        | inr last ↦
-            let same : k + 1 ≡ i = omega (arith, h, last) in
-            let first : k ≡ i - 1 = omega (arith, same) in
-            let one = chunk_at size count k s d (omega (arith, same, c.loop-i-test.true)) ∙ ap (λ n. take size (drop (n * size) s)) first ∙ sym c.loop-i.invariant.2 in
-            let next = chunk_at size count (k + 1) s d (omega (arith, same, c.loop-i-test.true)) ∙ ap (λ n. take size (drop (n * size) s)) same ∙ sym here in
-            subst₂ (λ x y. bytes_cmp x y ≡ Less) (sym one) (sym next) less
-      ],
+      one_more_rises size c.args.count i s c.loop-i.last item c.loop-i.invariant.0 c.loop-i-test.true c.loop-i.invariant.2 here less c.loop-i.invariant.3,
     )
 
 pub returns : goal.returns
