@@ -41,7 +41,7 @@ IsCertifiedOf k n s certificate =
     IsModel k n × IsWhole s certificate
     × ((f : ℕ) × IsFaultTolerance k n f × AreQuorum (λ _. f) n certificate.1)
 
--- the view tells of the certificate
+-- the view tells of the certificate, and where its parts are
 pub record IsToldOf (k n : ℕ) (s : List ℕ) (view : CheckView) : Type 0 where
   pub value : List ℕ
   pub signers : List ℕ
@@ -49,7 +49,9 @@ pub record IsToldOf (k n : ℕ) (s : List ℕ) (view : CheckView) : Type 0 where
   pub signers_is : view.signers ≡ length signers
   pub number_is : view.number ≡ 0
   pub value_stands : StandAt s view.value_start view.value_length value
+  pub value_place : IsValueAt value view
   pub slot : TellsSlot s value view
+  pub slot_place : IsSlotIn value view
 
 -- The first reason for which s is no certificate of a quorum: each case says that those before it don't hold.
 pub data IsUncertified (k n : ℕ) (s : List ℕ) (status number : ℕ) : Type 0 where

@@ -1,6 +1,7 @@
 //! The encoding of a map of keys and values, each of one size, decoded in place.
-ghost use Rattle.std.specs.Prelude.{◌≡◌, ◌≢◌, ◌↔◌, ℕ, List, length};
+ghost use Rattle.std.specs.Prelude.{◌≡◌, ◌≢◌, ◌↔◌, ◌+◌, ◌*◌, ℕ, List, length};
 ghost use Rattle.std.specs.Map.{keys_of, values_of};
+ghost use Rattle.commonware_base.specs.Varint.{varint};
 ghost use Rattle.commonware_views.specs.Lists.{StandBy};
 ghost use Rattle.commonware_views.specs.Maps.{IsSizedMapOf, sized_map_fault};
 ghost use Rattle.commonware_c.specs.Committees.{between};
@@ -46,6 +47,9 @@ pub extern "C" fn commonware_map_read(
         × (result.count ≡ length pairs) × (result.left ≡ length rest)
         × StandBy key_size input.now result.keys (keys_of pairs)
         × StandBy value_size input.now result.values (values_of pairs) }
+    ensures keys { result.status ≡ 0 → result.keys ≡ length (varint result.count) }
+    ensures values { result.status ≡ 0 → result.values
+        ≡ result.keys + key_size * result.count + length (varint result.count) }
     ensures refused { result.status ≢ 0
         → IsRefusedWith (sized_map_fault key_size value_size (between least most) input.now)
         (Unit {0}) result.status result.number }

@@ -1,5 +1,6 @@
 //! The encoding of a set of keys of one size, decoded in place.
 ghost use Rattle.std.specs.Prelude.{◌≡◌, ◌≢◌, ◌↔◌, ℕ, List, length};
+ghost use Rattle.commonware_base.specs.Varint.{varint};
 ghost use Rattle.commonware_views.specs.Lists.{StandBy};
 ghost use Rattle.commonware_views.specs.Sets.{IsKeySetOf, key_set_fault};
 ghost use Rattle.commonware_c.specs.Committees.{between};
@@ -42,6 +43,7 @@ pub extern "C" fn commonware_set_read(
         × IsKeySetOf size (between least most) input.now keys rest
         × (result.count ≡ length keys) × (result.left ≡ length rest)
         × StandBy size input.now result.start keys }
+    ensures start { result.status ≡ 0 → result.start ≡ length (varint result.count) }
     ensures refused { result.status ≢ 0
         → IsRefusedWith (key_set_fault size (between least most) input.now)
         (Unit {0}) result.status result.number }

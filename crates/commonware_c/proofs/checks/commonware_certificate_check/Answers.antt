@@ -14,6 +14,8 @@ returns-in-Ok-clause-accepted c = λ _.
       signers_is = told.signers signers at;
       number_is = told.number;
       value_stands = value_at c.args.input.now value signers c.view_of.result certified.1 told.value;
+      value_place = told.value;
+      slot_place = told.slot;
       slot = slot_at c.args.input.now value signers c.view_of.result certified.1 told.value told.slot;
     }
 

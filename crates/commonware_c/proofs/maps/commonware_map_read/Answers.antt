@@ -1,13 +1,15 @@
-use Rattle.std.proofs.Common.{rules, ◌≡◌, ◌∙◌, ◌+◌, ◌-◌, ◌++◌, length, subst, sym, ap, arith}
-use Rattle.std.specs.List.{flat_map}
+use Rattle.std.proofs.Common.{rules, ◌≡◌, ◌∙◌, ◌+◌, ◌-◌, ◌*◌, ◌++◌, ℕ, List, [], ◌∷◌, length, subst, sym, ap, arith}
+use Rattle.std.specs.List.{AllByRecursion, flat_map}
 use Rattle.std.specs.Map.{keys_of, values_of}
+use Rattle.std.proofs.Math.Nat.{mul_comm}
 use Rattle.std.proofs.lemmas.List.{append_assoc, length-append}
-use Rattle.std.proofs.lemmas.Map.Entries.{length-keys_of}
+use Rattle.std.proofs.lemmas.Map.Entries.{length-keys_of, length-values_of}
 use Rattle.commonware_base.specs.Lists.{list_enc}
 use Rattle.commonware_base.specs.Source.{rest_of}
 use Rattle.commonware_base.specs.Varint.{varint}
-use Rattle.commonware_sequence.specs.FixedBytes.{own_bytes}
+use Rattle.commonware_sequence.specs.FixedBytes.{IsOfSize, own_bytes}
 use Rattle.commonware_views.specs.Lists.{StandBy}
+use Rattle.commonware_views.specs.laws.ItemLaws.{AreLong, items_length}
 use Rattle.commonware_views.specs.laws.PlaceLaws.{items_stand, stand_on}
 use Rattle.commonware_c.specs.Committees.{between}
 use Rattle.commonware_c.proofs.maps.commonware_map_read.Goals as goal
@@ -48,4 +50,35 @@ returns-in-Ok-clause-accepted c = λ _.
       c.remaining.ensures,
       subst (λ n. StandBy ks c.args.input.now n keys) (sym start) (subst (λ s. StandBy ks s (length (varint (length keys))) keys) (sym whole) key_places),
       subst (λ n. StandBy vs c.args.input.now n values) (sym at) (subst (λ s. StandBy vs s (length front + length (varint (length values))) values) (sym whole) value_places),
+    )
+
+-- items of a size have its length
+long_of_size : (size : ℕ) (items : List (List ℕ)) → AllByRecursion (IsOfSize size) items → AreLong size items
+long_of_size size [] each = each
+long_of_size size (x ∷ items) (here, each) = (here.count, long_of_size size items each)
+
+-- the values follow the keys and their own number
+pub returns-in-Ok-clause-values : goal.returns-in-Ok-clause-values
+returns-in-Ok-clause-values c = λ _.
+    let pairs = c.in-Ok.pairs in
+    let ks = c.args.key_size in
+    let keys = keys_of pairs in
+    let values = values_of pairs in
+    let many : c.len-count.result ≡ length keys = c.len-count.ensures ∙ sym (length-keys_of pairs) in
+    let many_values : c.len-count.result ≡ length values = c.len-count.ensures ∙ sym (length-values_of pairs) in
+    let key_bytes : length (flat_map own_bytes keys) ≡ ks * c.len-count.result =
+    items_length ks keys (long_of_size ks keys c.in-Ok.ensures.accepted.writable.0.list.each) ∙ mul_comm (length keys) ks ∙ ap (λ n. ks * n) (sym many) in
+    omega (
+      arith,
+      key_bytes,
+      ap (λ n. length (varint n)) many,
+      ap (λ n. length (varint n)) many_values,
+      c.encode_size.ensures,
+      ap length (c.as_bytes.ensures ∙ ap (flat_map own_bytes) c.values.ensures),
+      c.position.ensures.position,
+      c.new-source.ensures.position,
+      c.in-Ok.ensures.consumed.position,
+      length-append (list_enc own_bytes keys) (list_enc own_bytes values),
+      length-append (varint (length keys)) (flat_map own_bytes keys),
+      length-append (varint (length values)) (flat_map own_bytes values),
     )
