@@ -1,5 +1,5 @@
 //! The numbers that the collections are built of.
-ghost use Rattle.std.specs.Prelude.{◌≡◌, ◌*◌, ◌/◌, ◌%◌, ◌^◌, ◌++◌, IfOk, bit_xor, length, replicate};
+ghost use Rattle.std.specs.Prelude.{◌≡◌, ◌-◌, ◌*◌, ◌/◌, ◌%◌, ◌^◌, ◌++◌, ◌≤◌, IfOk, bit_xor, length, replicate};
 ghost use Rattle.std.specs.Int.{to_be_bytes, w32};
 
 use std::alloc::{AllocError, Global};
@@ -41,11 +41,12 @@ pub fn rising(alloc: Global, count: u32) -> Result<Vec<u32>, AllocError>
         .collect(alloc)
 }
 
-/// The four bytes of the number, the most significant first, and then 28 zeros.
-pub fn wide_bytes(number: u32) -> [u8; 32]
-    ensures { result ≡ to_be_bytes w32 number ++ replicate 28 0 }
+/// The four bytes of the number, the most significant first, and then zeros.
+pub fn wide_bytes<const N: usize>(number: u32) -> [u8; N]
+    requires { 4 ≤ N }
+    ensures { result ≡ to_be_bytes w32 number ++ replicate (N - 4) 0 }
 {
-    let mut bytes = [0u8; 32];
+    let mut bytes = [0u8; N];
     bytes[..4].copy_from_slice(&number.to_be_bytes());
     bytes
 }

@@ -119,6 +119,10 @@ wide_dedup 10 20 5000000
 wide_write 10 642 5000000
 wide_read 10 20 5000000
 wide_position 10 90 5000000
+wide48_dedup 10 20 5000000
+wide48_write 10 962 5000000
+wide48_read 10 20 5000000
+wide48_position 10 90 5000000
 bimap_try_iter 10 20 5000000
 bimap_get_key 10 38607442988 5000000
 ";
