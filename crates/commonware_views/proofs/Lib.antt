@@ -2,6 +2,8 @@ pub mod Chunks
 pub mod Cut
 pub mod Exact
 pub mod Found
+pub mod Neighbours
 pub mod NoGap
 pub mod Pairs
 pub mod Rising
+pub mod Same

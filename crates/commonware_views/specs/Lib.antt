@@ -1,4 +1,5 @@
 pub mod Lists
 pub mod Maps
+pub mod Repeats
 pub mod Sets
 pub mod laws

@@ -9,10 +9,12 @@ mod items;
 mod list;
 mod map;
 mod order;
+mod repeats;
 mod search;
 mod set;
 
 pub use items::Items;
 pub use list::{ListView, NotWhole};
 pub use map::MapView;
+pub use repeats::NoRoom;
 pub use set::SetView;
