@@ -80,9 +80,9 @@ fn order_past(mine: &[u8], others: &[u8], from: usize) -> Ordering
     mine.len().cmp(&others.len())
 }
 
-/// Returns the order of two lists of bytes that don't differ in the first eight. The second word and
-/// the third, or the last where that is before the third, are compared inline, and what follows by a
-/// call, since most lists differ before.
+/// Returns the order of two lists of bytes that don't differ in the first eight. The second word
+/// and the third, or the last where that is before the third, are compared inline, and what follows
+/// by a call, since most lists differ before.
 #[inline(always)]
 fn order_past_a_word(mine: &[u8], others: &[u8]) -> Ordering
     requires mine { 8 ≤ length mine.now }
@@ -159,8 +159,8 @@ impl<'a> Prefixed<'a> {
         Prefixed { bytes, first }
     }
 
-    /// Returns the order of the two lists of bytes where their first eight bytes tell it, and `None`
-    /// where these are the same, or where a list has fewer.
+    /// Returns the order of the two lists of bytes where their first eight bytes tell it, and
+    /// `None` where these are the same, or where a list has fewer.
     #[inline(always)]
     pub fn order_by_prefix(&self, other: &Prefixed<'_>) -> Option<Ordering>
         ensures some { IfSome result (λ order. order ≡ bytes_cmp self.now other.now) }

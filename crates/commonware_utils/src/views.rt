@@ -1,3 +1,3 @@
 //! Lists, sets and maps of byte sequences of one size, read in place.
 
-pub use commonware_views::{Items, ListView, MapView, NotWhole, SetView};
+pub use commonware_views::{Items, ListView, MapView, NoRoom, NotWhole, SetView};

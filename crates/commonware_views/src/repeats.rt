@@ -9,13 +9,14 @@ use std::cmp::Ordering;
 /// How many positions have a number of 32 bits.
 const MOST_POSITIONS: usize = 4_294_967_296;
 
-/// Why the positions of the items of a list don't go into a room.
+/// Why the positions of the items of a list don't go into a room: three items into a room of two
+/// places are `Short(3)`.
 #[derive(Clone, Copy, Debug, PartialEq, Eq, thiserror::Error)]
 pub enum NoRoom {
-    /// The room has fewer places than there are items, which are so many.
+    /// The room has fewer places than this number of items.
     #[error("room for {0} positions is needed")]
     Short(usize),
-    /// There are so many items that not each position has a number of 32 bits.
+    /// There are this many items, and not each position has a number of 32 bits.
     #[error("{0} items are more than positions of 32 bits")]
     TooMany(usize),
 }

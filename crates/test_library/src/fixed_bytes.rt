@@ -6,7 +6,7 @@ ghost use Rattle.std.specs.Prelude.{◌≤◌};
 use crate::many_at_once::{MANY, Row, are_appended_to_each, lowest, read, written};
 use crate::readings::outcome;
 use crate::refused_codec::{ACTS, Act, Trial};
-use commonware_sequence::{FixedBytes, U64, bytes_order};
+use commonware_sequence::{FixedBytes, Prefixed, U64, bytes_order};
 use commonware_utils::codec::{Error, RangeCfg};
 use commonware_utils::ordered::{BiMap, Map, Set};
 use std::alloc::{AllocError, Global};
@@ -183,28 +183,41 @@ fn bytes_of_each_length(rt: HostRuntime) {
     assert!(rt; holds::<48>(alloc) && holds::<96>(alloc));
 }
 
+/// The order that two slices have by their first eight bytes, or `None` where these don't tell it.
+fn order_of_starts(slice: &[u8], other: &[u8]) -> Option<Ordering> {
+    let starts = (slice.first_chunk::<8>(), other.first_chunk::<8>());
+    let (Some(start), Some(others)) = starts else {
+        return None;
+    };
+    Some(start.cmp(others)).filter(|order| order.is_ne())
+}
+
 /// Whether a slice is in its order, both ways, with the same where a byte is another.
-fn is_in_order(slice: &[u8], others: &[u8; 20], at: usize) -> bool {
+fn is_in_order(slice: &[u8], others: &[u8; 41], at: usize) -> bool {
     let mut changed = *others;
     if let Some(byte) = changed.get_mut(at) {
         *byte = byte.wrapping_add(100);
     }
-    for length in 0..=20 {
+    for length in 0..=41 {
         let other = &changed[..length];
         let order = bytes_order(slice, other);
         if order != slice.cmp(other) || order.reverse() != bytes_order(other, slice) {
+            return false;
+        }
+        let by_prefix = Prefixed::new(slice).order_by_prefix(&Prefixed::new(other));
+        if by_prefix != order_of_starts(slice, other) {
             return false;
         }
     }
     true
 }
 
-/// Slices of 0 to 20 bytes, beside slices of 0 to 20 bytes that differ at each place, or at none.
+/// Slices of 0 to 41 bytes, beside slices of 0 to 41 bytes that differ at each place, or at none.
 #[test]
 fn slices_are_in_the_order_of_std(rt: HostRuntime) {
-    let bytes: [u8; 20] = bytes(5);
-    for length in 0..=20 {
-        for at in 0..=20 {
+    let bytes: [u8; 41] = bytes(5);
+    for length in 0..=41 {
+        for at in 0..=41 {
             assert!(rt; is_in_order(&bytes[..length], &bytes, at), "{length}, {at}");
         }
     }

@@ -50,6 +50,8 @@ mod refusing_heaps;
 #[cfg(test)]
 mod repeat_or_refusal;
 #[cfg(test)]
+mod repeats;
+#[cfg(test)]
 mod scripted_devices;
 #[cfg(test)]
 mod sorted_pairs;
