@@ -20,9 +20,9 @@
  * at once. The functions that allocate aren't for signal handlers, nor for a forked child of a process
  * with threads.
  *
- * Memory. commonware_committee_write, commonware_set_write and commonware_map_write allocate, and free
- * all of it before they return; the others allocate nothing, and never return COMMONWARE_MEMORY. The archive holds a heap over malloc,
- * realloc and free. A program with an allocator of its own defines these three instead, with C
+ * Memory. commonware_committee_write, commonware_set_write, commonware_map_write and
+ * commonware_map_write_unique allocate, and free all of it before they return; the others allocate nothing,
+ * and never return COMMONWARE_MEMORY. The archive holds a heap over malloc, realloc and free. A program with an allocator of its own defines these three instead, with C
  * linkage and all of them, and the linker takes them:
  *
  *     struct tried { bool ok; unsigned char *block; };
@@ -73,7 +73,8 @@ enum commonware_status {
     COMMONWARE_NO_SLOT = 14,       /* the value is no decision for a slot */
     COMMONWARE_OTHER_SLOT = 15,    /* the values are for two different slots */
     COMMONWARE_NO_SIZE = 16,       /* the key has no bytes, and no number of such can be told */
-    COMMONWARE_NOT_WHOLE = 17      /* bytes follow the last whole key */
+    COMMONWARE_NOT_WHOLE = 17,     /* bytes follow the last whole key */
+    COMMONWARE_REPEATED_KEY = 19   /* a pair has the key of an earlier one */
 };
 
 /* How many of n participants may be faulty at a resilience n >= kf + 1: the greatest f that fits. It is
@@ -120,10 +121,12 @@ commonware_place_view commonware_committee_index(
 
 /* What was written, or would be. */
 typedef struct {
-    uint32_t status; /* OK, INVALID_LENGTH, NOT_STRICT, MEMORY, ROOM, NO_SIZE or NOT_WHOLE */
+    uint32_t status; /* OK, INVALID_LENGTH, NOT_STRICT, MEMORY, ROOM, NO_SIZE or NOT_WHOLE; of
+                      * commonware_map_write_unique also REPEATED_KEY */
     size_t count;    /* at OK and ROOM: how many members, keys, pairs or signers there are */
     size_t number;   /* at INVALID_LENGTH: the length; at NOT_STRICT: the index of a signer in `signers`;
-                      * at NOT_WHOLE: how many bytes follow the last whole key or pair */
+                      * at NOT_WHOLE: how many bytes follow the last whole key or pair;
+                      * at REPEATED_KEY: the index of a pair in `pairs` */
     size_t size;     /* at OK: how many bytes were written; at ROOM: how many `out` has to have */
 } commonware_written_view;
 
@@ -211,6 +214,16 @@ commonware_map_view commonware_map_read(
  * the sum of both sizes, which never wraps, doesn't divide `pairs_length`; INVALID_LENGTH where the
  * distinct keys are more than 4294967295. Never NOT_STRICT. */
 commonware_written_view commonware_map_write(
+    size_t key_size, size_t value_size, const uint8_t *pairs, size_t pairs_length, uint8_t *out,
+    size_t out_length);
+
+/* Writes the map of these pairs as commonware_map_write does, where no key repeats: OK then, with all
+ * pairs. Where one does, no pair is dropped for it, but REPEATED_KEY returned with the least index of
+ * a pair whose key an earlier pair has. The status is the first of these: NO_SIZE, NOT_WHOLE,
+ * REPEATED_KEY or MEMORY as they come, INVALID_LENGTH, ROOM; where there is memory, REPEATED_KEY
+ * exactly where the pairs are whole and a key repeats. 10 + pairs_length bytes always suffice. Never
+ * NOT_STRICT. */
+commonware_written_view commonware_map_write_unique(
     size_t key_size, size_t value_size, const uint8_t *pairs, size_t pairs_length, uint8_t *out,
     size_t out_length);
 

@@ -77,6 +77,8 @@ pub enum EncodeError {
     NoSize,
     /// This number of bytes follows the last whole key, or the last whole pair of a map.
     NotWhole(usize),
+    /// The pair at this index has the key of an earlier one.
+    RepeatedKey(usize),
     /// An allocation failed. This says nothing of what was to be written.
     Memory,
 }
@@ -89,6 +91,7 @@ impl EncodeError {
             status::NOT_STRICT => EncodeError::NotStrict(number),
             status::NO_SIZE => EncodeError::NoSize,
             status::NOT_WHOLE => EncodeError::NotWhole(number),
+            status::REPEATED_KEY => EncodeError::RepeatedKey(number),
             status::MEMORY => EncodeError::Memory,
             _ => unreachable!("with enough space no writer returns status {status}"),
         }
@@ -104,6 +107,7 @@ impl fmt::Display for EncodeError {
             }
             EncodeError::NoSize => f.write_str("keys of no bytes"),
             EncodeError::NotWhole(count) => write!(f, "{count} bytes after the last whole item"),
+            EncodeError::RepeatedKey(place) => write!(f, "pair {place} has the key of an earlier one"),
             EncodeError::Memory => f.write_str("out of memory"),
         }
     }

@@ -128,6 +128,39 @@ impl<'a> MapView<'a> {
         Ok(out)
     }
 
+    /// Encodes the map of these pairs as [`MapView::encode`] does, where no key repeats.
+    ///
+    /// # Errors
+    ///
+    /// `RepeatedKey`, with the index of the first pair whose key an earlier pair has, and those of
+    /// `encode`.
+    ///
+    /// ```
+    /// # use commonware_proved::{EncodeError, MapView};
+    /// assert_eq!(MapView::encode_unique(1, 2, &[8, 1, 2, 7, 3, 4])?, [2, 7, 8, 2, 3, 4, 1, 2]);
+    /// let pairs = [8, 1, 2, 7, 3, 4, 8, 5, 6];
+    /// assert_eq!(MapView::encode_unique(1, 2, &pairs), Err(EncodeError::RepeatedKey(2)));
+    /// # Ok::<(), EncodeError>(())
+    /// ```
+    pub fn encode_unique(
+        key_size: usize,
+        value_size: usize,
+        pairs: &[u8],
+    ) -> Result<Vec<u8>, EncodeError> {
+        let mut out = zeros(10 + pairs.len()).ok_or(EncodeError::Memory)?;
+        // SAFETY: each pointer and the length after it are those of one slice; `out` is a new one.
+        let view = unsafe {
+            let (from, length) = (pairs.as_ptr(), pairs.len());
+            let (room, most) = (out.as_mut_ptr(), out.len());
+            raw::commonware_map_write_unique(key_size, value_size, from, length, room, most)
+        };
+        if view.status != status::OK {
+            return Err(EncodeError::of(view.status, view.number));
+        }
+        out.truncate(view.size);
+        Ok(out)
+    }
+
     /// Returns how many pairs there are.
     ///
     /// ```

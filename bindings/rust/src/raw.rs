@@ -134,6 +134,14 @@ unsafe extern "C" {
         out: *mut u8,
         out_length: usize,
     ) -> WrittenView;
+    pub fn commonware_map_write_unique(
+        key_size: usize,
+        value_size: usize,
+        pairs: *const u8,
+        pairs_length: usize,
+        out: *mut u8,
+        out_length: usize,
+    ) -> WrittenView;
     pub fn commonware_certificate_read(
         input: *const u8,
         input_length: usize,

@@ -6,6 +6,7 @@ pub mod Made
 pub mod Offsets
 pub mod EncodingLemmas
 pub mod Spliced
+pub mod Repeats
 pub mod Rows
 pub mod SignedBoth
 pub mod WrittenIndices

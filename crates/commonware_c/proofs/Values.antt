@@ -23,7 +23,7 @@ module _ {R X : Type 0} (value : R → X) (eq : X → X → Bool) (cmp : X → X
   cmp_by x y = cmp (value x) (value y)
 
   -- the list of the values of a strictly increasing list is
-  strict_values : (r : List R) → IsStrict cmp_by r → IsStrict cmp (map value r)
+  pub strict_values : (r : List R) → IsStrict cmp_by r → IsStrict cmp (map value r)
   strict_values [] strict k d h = absurd (omega (arith, h))
   strict_values (y ∷ r) strict k d h =
       let within : k + 1 < length (y ∷ r) = omega (arith, h, length-map (y ∷ r) value) in

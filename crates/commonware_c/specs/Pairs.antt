@@ -1,9 +1,11 @@
 -- What a caller in C has written of pairs of keys and values, each of one size.
-use Rattle.std.specs.Prelude.{◌≡◌, ℕ, ◌+◌, ◌*◌, ◌≤◌, List, drop, length, map, nat_eq, take}
+use Rattle.std.specs.Prelude.{◌≡◌, ℕ, ◌+◌, ◌*◌, ◌<◌, ◌≤◌, List, Some, drop, length, map, nat_eq, slice_get, take}
 use Rattle.std.specs.Cmp.Lexicographic.{pointwise}
+use Rattle.std.specs.List.Sorted.{IsPermutation}
 use Rattle.commonware_map.specs.Maps.{map_enc}
 use Rattle.commonware_map.specs.Pairs.{on_keys}
 use Rattle.commonware_ordered.specs.Dedup.{IsDedup}
+use Rattle.commonware_ordered.specs.Strict.{IsStrict}
 use Rattle.commonware_sequence.specs.FixedBytes.{bytes_cmp, own_bytes}
 
 -- a row is a key of `key_size` bytes, and then its value
@@ -22,5 +24,31 @@ pub record IsMapOf (key_size value_size : ℕ) (rows : List (List ℕ)) (pairs :
   pub firsts : IsFirstOfEach key_size rows pairs
   pub count_is : count ≡ length pairs
   pub count_most : count ≤ length rows
+  pub bytes_is : bytes ≡ length (map_enc own_bytes own_bytes pairs)
+  pub bytes_most : bytes ≤ 10 + (key_size + value_size) * count
+
+-- the row at the index has the key of an earlier row
+abbrev pub RepeatsKey : ℕ → List (List ℕ) → ℕ → Type 0
+RepeatsKey key_size rows index =
+    (row : List ℕ) × (slice_get rows index ≡ Some row)
+    × (earlier : ℕ) × (other : List ℕ) × (earlier < index) × (slice_get rows earlier ≡ Some other)
+    × (take key_size other ≡ take key_size row)
+
+-- the index is that of the first row that has the key of an earlier one
+abbrev pub IsFirstRepeat : ℕ → List (List ℕ) → ℕ → Type 0
+IsFirstRepeat key_size rows index = RepeatsKey key_size rows index × ((i : ℕ) → i < index → ¬ RepeatsKey key_size rows i)
+
+-- no row has the key of an earlier one, and the pairs are those of all rows, in the order of their keys
+pub record AreAllPairs (key_size : ℕ) (rows : List (List ℕ)) (pairs : List (List ℕ × List ℕ)) : Type 0 where
+  pub distinct : (i : ℕ) → ¬ RepeatsKey key_size rows i
+  pub all : IsPermutation (map (pair_of key_size) rows) pairs
+  pub strict : IsStrict (on_keys bytes_cmp) pairs
+
+-- The map has the pairs of all rows, no two of which have one key, in the order of the keys: as many as there are rows,
+-- and `bytes` bytes.
+pub record IsMapOfAll (key_size value_size : ℕ) (rows : List (List ℕ)) (pairs : List (List ℕ × List ℕ)) (count bytes : ℕ) :
+    Type 0 where
+  pub are_all : AreAllPairs key_size rows pairs
+  pub count_is : count ≡ length rows
   pub bytes_is : bytes ≡ length (map_enc own_bytes own_bytes pairs)
   pub bytes_most : bytes ≤ 10 + (key_size + value_size) * count

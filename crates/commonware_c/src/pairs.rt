@@ -60,7 +60,7 @@ pub extern "C" fn commonware_map_write(
 
 /// Returns the rows that these bytes are, or how many bytes follow the last whole one. Where a row
 /// has 2^64 bytes or more, there is none.
-fn rows_of(key_size: usize, value_size: usize, pairs: &[u8]) -> Result<ListView<'_>, usize>
+pub(crate) fn rows_of(key_size: usize, value_size: usize, pairs: &[u8]) -> Result<ListView<'_>, usize>
     requires { key_size ≢ 0 }
     ensures rows { IfOk result (AreItemsOf (key_size + value_size) pairs.now) }
     ensures left_over { IfErr result (λ count. (0 < count)
@@ -113,12 +113,42 @@ fn write_rows(
         → (result.count ≡ 0) × (result.size ≡ 0) }
     ensures untouched { result.status ≢ 0 → out.new ≡ out.old }
 {
-    // The prover knows of a slice that its bytes are fewer than 2^63, so those of the map have a
-    // number. Nothing else is done with it.
-    let _ = rows.as_bytes();
     let Ok(map) = map_of(alloc, key_size, rows) else {
         return refused(MEMORY, 0);
     };
+    write_map(key_size, value_size, rows, &map, out)
+}
+
+/// Encodes a map of the first pairs of these rows, one for each key, as `commonware_map_write`
+/// does. Nothing is allocated.
+pub(crate) fn write_map(
+    key_size: usize,
+    value_size: usize,
+    rows: &ListView<'_>,
+    map: &Map<&[u8], &[u8], Global>,
+    out: &mut [u8],
+) -> WrittenView
+    requires long { AreLong (key_size + value_size) rows.now }
+    requires firsts { IsFirstOfEach key_size rows.now (map (λ p. (p.0.now, p.1.now)) map.now) }
+    ensures written { result.status ≡ 0
+        → IsMapOf key_size value_size rows.now (map (λ p. (p.0.now, p.1.now)) map.now)
+        result.count result.size
+        × (out.new ≡ spliced 0
+        (map_enc own_bytes own_bytes (map (λ p. (p.0.now, p.1.now)) map.now)) out.old) }
+    ensures room { result.status ≡ 11
+        → IsMapOf key_size value_size rows.now (map (λ p. (p.0.now, p.1.now)) map.now)
+        result.count result.size × (length out.old < result.size) }
+    ensures long { result.status ≡ 3
+        → (result.number ≡ length map.now) × (2 ^ 32 ≤ length map.now) }
+    ensures status { (result.status ≡ 0) ⊎ (result.status ≡ 11) ⊎ (result.status ≡ 3) }
+    ensures no_number { (result.status ≡ 0) ⊎ (result.status ≡ 11) → result.number ≡ 0 }
+    ensures nothing_else { result.status ≢ 0 → result.status ≢ 11
+        → (result.count ≡ 0) × (result.size ≡ 0) }
+    ensures untouched { result.status ≢ 0 → out.new ≡ out.old }
+{
+    // The prover knows of a slice that its bytes are fewer than 2^63, so those of the map have a
+    // number. Nothing else is done with it.
+    let _ = rows.as_bytes();
     let count = map.len();
     if count > u32::MAX as usize {
         return refused(INVALID_LENGTH, count);
@@ -156,7 +186,15 @@ fn map_of<'a>(
             |row| -> (&[u8], &[u8])
                 ensures key { result.0.now ≡ take key_size row.now }
                 ensures value { result.1.now ≡ drop key_size row.now }
-            { row.split_at(key_size.min(row.len())) },
+            { key_and_value(key_size, row) },
         ),
     )
+}
+
+/// Returns the key that a row begins with, and the value after it.
+pub(crate) fn key_and_value(key_size: usize, row: &[u8]) -> (&[u8], &[u8])
+    ensures key { result.0.now ≡ take key_size row.now }
+    ensures value { result.1.now ≡ drop key_size row.now }
+{
+    row.split_at(key_size.min(row.len()))
 }

@@ -58,6 +58,9 @@ pub(crate) const NO_SIZE: u32 = 16;
 /// Bytes follow the last whole item.
 pub(crate) const NOT_WHOLE: u32 = 17;
 
+/// A row has the key of an earlier one.
+pub(crate) const REPEATED_KEY: u32 = 19;
+
 /// Returns the status and the number of an error.
 #[inline(always)]
 pub(crate) fn status_of(error: &Error) -> (u32, usize)

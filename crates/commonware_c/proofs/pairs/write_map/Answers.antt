@@ -13,7 +13,7 @@ use Rattle.commonware_c.specs.Splices.{spliced}
 use Rattle.commonware_c.proofs.Rows.{is_map, keys_bytes, pairs_fit, values_bytes}
 use Rattle.commonware_c.proofs.Spliced.{length_on, spliced_on}
 use Rattle.commonware_c.proofs.Values.{flat_values}
-use Rattle.commonware_c.proofs.pairs.write_rows.Goals as goal
+use Rattle.commonware_c.proofs.pairs.write_map.Goals as goal
 
 -- what the pairs of references refer to
 abbrev values : List (Bor (List ℕ) × Bor (List ℕ)) → List (List ℕ × List ℕ)
@@ -56,19 +56,19 @@ pub encode_size-requires-clause-fits : goal.encode_size-requires-clause-fits
 encode_size-requires-clause-fits c = omega (arith, varint-length c.len-count.result (omega (arith, c.if-count.false)))
 
 pub overflow_mul-keys_end : goal.overflow_mul-keys_end
-overflow_mul-keys_end c = omega (arith, sums_fit c.args.key_size c.args.value_size c.len-count.result c.args.rows.now c.as_bytes.result.now c.in-Ok.map c.requires c.in-Ok.ensures c.len-count.ensures.len c.as_bytes.ensures c.as_bytes.type_inv.1)
+overflow_mul-keys_end c = omega (arith, sums_fit c.args.key_size c.args.value_size c.len-count.result c.args.rows.now c.as_bytes.result.now c.args.map.now c.requires.long c.requires.firsts c.len-count.ensures.len c.as_bytes.ensures c.as_bytes.type_inv.1)
 
 pub overflow_add-keys_end : goal.overflow_add-keys_end
-overflow_add-keys_end c = omega (arith, c.encode_size.ensures, varint-length c.len-count.result (omega (arith, c.if-count.false)), sums_fit c.args.key_size c.args.value_size c.len-count.result c.args.rows.now c.as_bytes.result.now c.in-Ok.map c.requires c.in-Ok.ensures c.len-count.ensures.len c.as_bytes.ensures c.as_bytes.type_inv.1)
+overflow_add-keys_end c = omega (arith, c.encode_size.ensures, varint-length c.len-count.result (omega (arith, c.if-count.false)), sums_fit c.args.key_size c.args.value_size c.len-count.result c.args.rows.now c.as_bytes.result.now c.args.map.now c.requires.long c.requires.firsts c.len-count.ensures.len c.as_bytes.ensures c.as_bytes.type_inv.1)
 
 pub overflow_mul-view : goal.overflow_mul-view
-overflow_mul-view c = omega (arith, sums_fit c.args.key_size c.args.value_size c.len-count.result c.args.rows.now c.as_bytes.result.now c.in-Ok.map c.requires c.in-Ok.ensures c.len-count.ensures.len c.as_bytes.ensures c.as_bytes.type_inv.1)
+overflow_mul-view c = omega (arith, sums_fit c.args.key_size c.args.value_size c.len-count.result c.args.rows.now c.as_bytes.result.now c.args.map.now c.requires.long c.requires.firsts c.len-count.ensures.len c.as_bytes.ensures c.as_bytes.type_inv.1)
 
 pub overflow_add-view : goal.overflow_add-view
-overflow_add-view c = omega (arith, c.encode_size-2.ensures, varint-length c.len-count.result (omega (arith, c.if-count.false)), sums_fit c.args.key_size c.args.value_size c.len-count.result c.args.rows.now c.as_bytes.result.now c.in-Ok.map c.requires c.in-Ok.ensures c.len-count.ensures.len c.as_bytes.ensures c.as_bytes.type_inv.1)
+overflow_add-view c = omega (arith, c.encode_size-2.ensures, varint-length c.len-count.result (omega (arith, c.if-count.false)), sums_fit c.args.key_size c.args.value_size c.len-count.result c.args.rows.now c.as_bytes.result.now c.args.map.now c.requires.long c.requires.firsts c.len-count.ensures.len c.as_bytes.ensures c.as_bytes.type_inv.1)
 
 pub overflow_add-view-2 : goal.overflow_add-view-2
-overflow_add-view-2 c = omega (arith, c.encode_size.ensures, c.encode_size-2.ensures, varint-length c.len-count.result (omega (arith, c.if-count.false)), sums_fit c.args.key_size c.args.value_size c.len-count.result c.args.rows.now c.as_bytes.result.now c.in-Ok.map c.requires c.in-Ok.ensures c.len-count.ensures.len c.as_bytes.ensures c.as_bytes.type_inv.1)
+overflow_add-view-2 c = omega (arith, c.encode_size.ensures, c.encode_size-2.ensures, varint-length c.len-count.result (omega (arith, c.if-count.false)), sums_fit c.args.key_size c.args.value_size c.len-count.result c.args.rows.now c.as_bytes.result.now c.args.map.now c.requires.long c.requires.firsts c.len-count.ensures.len c.as_bytes.ensures c.as_bytes.type_inv.1)
 
 -- the number of the pairs, and of the map's bytes
 told : (ks vs count front again : ℕ) (rows : List (List ℕ)) (pairs : List (Bor (List ℕ) × Bor (List ℕ))) → AreLong (ks + vs) rows
@@ -80,8 +80,7 @@ told ks vs count front again rows pairs long firsts short same is is_too =
 
 pub returns-then-out-view-clause-room : goal.returns-then-out-view-clause-room
 returns-then-out-view-clause-room c = λ _. (
-  values c.in-Ok.map,
-  told c.args.key_size c.args.value_size c.len-count.result c.encode_size.result c.encode_size-2.result c.args.rows.now c.in-Ok.map c.requires c.in-Ok.ensures c.if-count.false
+  told c.args.key_size c.args.value_size c.len-count.result c.encode_size.result c.encode_size-2.result c.args.rows.now c.args.map.now c.requires.long c.requires.firsts c.if-count.false
       c.len-count.ensures.len c.encode_size.ensures c.encode_size-2.ensures,
   c.if-out-view.true,
 )
@@ -96,7 +95,7 @@ put_items-requires c =
       c.encode_size.ensures,
       c.if-out-view.false,
       ap (λ xs. length (flat_map (λ k. k.now) xs)) (c.as_slice.ensures.items ∙ c.keys.ensures),
-      key_bytes c.args.key_size c.args.value_size c.len-count.result c.args.rows.now c.in-Ok.map c.requires c.in-Ok.ensures c.len-count.ensures.len,
+      key_bytes c.args.key_size c.args.value_size c.len-count.result c.args.rows.now c.args.map.now c.requires.long c.requires.firsts c.len-count.ensures.len,
       length_on 0 (varint count) c.put_varint-keys.new.out c.args.out.now fits c.put_varint-keys.ensures.bytes,
     )
 
@@ -141,12 +140,12 @@ pub put_items-requires-2 : goal.put_items-requires-2
 put_items-requires-2 c =
     let room = c.args.out.now in
     let count = c.len-count.result in
-    let front = list_enc own_bytes (keys_of (values c.in-Ok.map)) in
-    let bytes = front_bytes c.args.key_size c.args.value_size c.len-count.result c.args.rows.now c.in-Ok.map c.requires c.in-Ok.ensures c.len-count.ensures.len in
+    let front = list_enc own_bytes (keys_of (values c.args.map.now)) in
+    let bytes = front_bytes c.args.key_size c.args.value_size c.len-count.result c.args.rows.now c.args.map.now c.requires.long c.requires.firsts c.len-count.ensures.len in
     let both = length-append front (varint count) in
     let fits : length (varint count) + c.args.key_size * count ≤ length room = omega (arith, c.if-out-view.false, c.encode_size.ensures) in
-    let put = number_put c.args.key_size c.args.value_size c.len-count.result c.put_varint-keys.result (c.encode_size.result + c.args.key_size * count) c.args.rows.now c.in-Ok.map c.as_slice.result.now room c.put_varint-keys.new.out c.put_items.new.out c.put_varint-values.new.out
-    c.requires c.in-Ok.ensures c.len-count.ensures.len fits c.put_varint-keys.ensures.place c.put_varint-keys.ensures.bytes (c.as_slice.ensures.items ∙ c.keys.ensures) c.put_items.ensures
+    let put = number_put c.args.key_size c.args.value_size c.len-count.result c.put_varint-keys.result (c.encode_size.result + c.args.key_size * count) c.args.rows.now c.args.map.now c.as_slice.result.now room c.put_varint-keys.new.out c.put_items.new.out c.put_varint-values.new.out
+    c.requires.long c.requires.firsts c.len-count.ensures.len fits c.put_varint-keys.ensures.place c.put_varint-keys.ensures.bytes (c.as_slice.ensures.items ∙ c.keys.ensures) c.put_items.ensures
     (omega (arith, c.encode_size.ensures)) c.put_varint-values.ensures.bytes in
     omega (
       arith,
@@ -155,7 +154,7 @@ put_items-requires-2 c =
       c.encode_size-2.ensures,
       c.if-out-view.false,
       ap (λ xs. length (flat_map (λ k. k.now) xs)) c.values.ensures,
-      value_bytes c.args.key_size c.args.value_size c.len-count.result c.args.rows.now c.in-Ok.map c.requires c.in-Ok.ensures c.len-count.ensures.len,
+      value_bytes c.args.key_size c.args.value_size c.len-count.result c.args.rows.now c.args.map.now c.requires.long c.requires.firsts c.len-count.ensures.len,
       length_on 0 (front ++ varint count) c.put_varint-values.new.out room (omega (arith, bytes, both, c.if-out-view.false, c.encode_size.ensures, c.encode_size-2.ensures)) put,
     )
 
@@ -163,18 +162,17 @@ pub returns-clause-written : goal.returns-clause-written
 returns-clause-written c = λ _.
     let room = c.args.out.now in
     let count = c.len-count.result in
-    let pairs = c.in-Ok.map in
+    let pairs = c.args.map.now in
     let front = list_enc own_bytes (keys_of (values pairs)) in
     let back = flat_map own_bytes (values_of (values pairs)) in
-    let bytes = front_bytes c.args.key_size c.args.value_size c.len-count.result c.args.rows.now pairs c.requires c.in-Ok.ensures c.len-count.ensures.len in
+    let bytes = front_bytes c.args.key_size c.args.value_size c.len-count.result c.args.rows.now pairs c.requires.long c.requires.firsts c.len-count.ensures.len in
     let both = length-append front (varint count) in
     let fits : length (varint count) + c.args.key_size * count ≤ length room = omega (arith, c.if-out-view.false, c.encode_size.ensures) in
     let put = number_put c.args.key_size c.args.value_size c.len-count.result c.put_varint-keys.result (c.encode_size.result + c.args.key_size * count) c.args.rows.now pairs c.as_slice.result.now room c.put_varint-keys.new.out c.put_items.new.out c.put_varint-values.new.out
-    c.requires c.in-Ok.ensures c.len-count.ensures.len fits c.put_varint-keys.ensures.place c.put_varint-keys.ensures.bytes (c.as_slice.ensures.items ∙ c.keys.ensures) c.put_items.ensures
+    c.requires.long c.requires.firsts c.len-count.ensures.len fits c.put_varint-keys.ensures.place c.put_varint-keys.ensures.bytes (c.as_slice.ensures.items ∙ c.keys.ensures) c.put_items.ensures
     (omega (arith, c.encode_size.ensures)) c.put_varint-values.ensures.bytes in
     let counted : count ≡ length (values_of (values pairs)) = c.len-count.ensures.len ∙ sym (number pairs) ∙ sym (length-values_of (values pairs)) in (
-      values pairs,
-      told c.args.key_size c.args.value_size c.len-count.result c.encode_size.result c.encode_size-2.result c.args.rows.now pairs c.requires c.in-Ok.ensures c.if-count.false c.len-count.ensures.len c.encode_size.ensures c.encode_size-2.ensures,
+      told c.args.key_size c.args.value_size c.len-count.result c.encode_size.result c.encode_size-2.result c.args.rows.now pairs c.requires.long c.requires.firsts c.if-count.false c.len-count.ensures.len c.encode_size.ensures c.encode_size-2.ensures,
       c.put_items-2.ensures ∙ ap (λ ys. spliced c.put_varint-values.result (flat_map (λ k. k.now) ys) c.put_varint-values.new.out) c.values.ensures
           ∙ ap (λ t. spliced c.put_varint-values.result t c.put_varint-values.new.out) (flat_values (values_of pairs) ∙ ap (flat_map own_bytes) (values_referred pairs))
           ∙ spliced_on 0 c.put_varint-values.result (front ++ varint count) back c.put_varint-values.new.out room (omega (arith, bytes, both, c.if-out-view.false, c.encode_size.ensures, c.encode_size-2.ensures))
