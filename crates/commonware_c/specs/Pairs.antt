@@ -1,5 +1,6 @@
 -- What a caller in C has written of pairs of keys and values, each of one size.
 use Rattle.std.specs.Prelude.{◌≡◌, ℕ, ◌+◌, ◌*◌, ◌<◌, ◌≤◌, List, Some, drop, length, map, nat_eq, slice_get, take}
+use Rattle.std.specs.Borrow.{Bor}
 use Rattle.std.specs.Cmp.Lexicographic.{pointwise}
 use Rattle.std.specs.List.Sorted.{IsPermutation}
 use Rattle.commonware_map.specs.Maps.{map_enc}
@@ -11,6 +12,10 @@ use Rattle.commonware_sequence.specs.FixedBytes.{bytes_cmp, own_bytes}
 -- a row is a key of `key_size` bytes, and then its value
 abbrev pub pair_of : ℕ → List ℕ → List ℕ × List ℕ
 pair_of key_size row = (take key_size row, drop key_size row)
+
+-- what the references of pairs refer to
+abbrev pub referred : List (Bor (List ℕ) × Bor (List ℕ)) → List (List ℕ × List ℕ)
+referred pairs = map (λ p. (p.0.now, p.1.now)) pairs
 
 -- the pairs are those of the rows in the order of their keys, of those with equal keys the first
 abbrev pub IsFirstOfEach : ℕ → List (List ℕ) → List (List ℕ × List ℕ) → Type 0

@@ -1,10 +1,10 @@
 //! The encoding of a map of keys and values, each of one size, written to a caller's room.
-ghost use Rattle.std.specs.Prelude.{◌≡◌, ◌≢◌, ◌↔◌, ◌⊎◌, ◌+◌, ◌^◌, ◌%◌, ◌<◌, ◌≤◌, ℕ, IfErr, IfOk, List, drop, length, map, take};
+ghost use Rattle.std.specs.Prelude.{◌≡◌, ◌≢◌, ◌↔◌, ◌⊎◌, ◌+◌, ◌^◌, ◌%◌, ◌<◌, ◌≤◌, ℕ, IfErr, IfOk, List, drop, length, take};
 ghost use Rattle.commonware_map.specs.Maps.{map_enc};
 ghost use Rattle.commonware_sequence.specs.FixedBytes.{own_bytes};
 ghost use Rattle.commonware_views.specs.Lists.{AreItemsOf};
 ghost use Rattle.commonware_views.specs.laws.ItemLaws.{AreLong};
-ghost use Rattle.commonware_c.specs.Pairs.{IsFirstOfEach, IsMapOf};
+ghost use Rattle.commonware_c.specs.Pairs.{IsFirstOfEach, IsMapOf, referred};
 ghost use Rattle.commonware_c.specs.Splices.{spliced};
 
 use crate::rooms::{put_items, put_varint};
@@ -129,15 +129,13 @@ pub(crate) fn write_map(
     out: &mut [u8],
 ) -> WrittenView
     requires long { AreLong (key_size + value_size) rows.now }
-    requires firsts { IsFirstOfEach key_size rows.now (map (λ p. (p.0.now, p.1.now)) map.now) }
+    requires firsts { IsFirstOfEach key_size rows.now (referred map.now) }
     ensures written { result.status ≡ 0
-        → IsMapOf key_size value_size rows.now (map (λ p. (p.0.now, p.1.now)) map.now)
-        result.count result.size
-        × (out.new ≡ spliced 0
-        (map_enc own_bytes own_bytes (map (λ p. (p.0.now, p.1.now)) map.now)) out.old) }
+        → IsMapOf key_size value_size rows.now (referred map.now) result.count result.size
+        × (out.new ≡ spliced 0 (map_enc own_bytes own_bytes (referred map.now)) out.old) }
     ensures room { result.status ≡ 11
-        → IsMapOf key_size value_size rows.now (map (λ p. (p.0.now, p.1.now)) map.now)
-        result.count result.size × (length out.old < result.size) }
+        → IsMapOf key_size value_size rows.now (referred map.now) result.count result.size
+        × (length out.old < result.size) }
     ensures long { result.status ≡ 3
         → (result.number ≡ length map.now) × (2 ^ 32 ≤ length map.now) }
     ensures status { (result.status ≡ 0) ⊎ (result.status ≡ 11) ⊎ (result.status ≡ 3) }
@@ -178,7 +176,7 @@ fn map_of<'a>(
     rows: &ListView<'a>,
 ) -> Result<Map<&'a [u8], &'a [u8], Global>, AllocError>
     ensures { IfOk result (λ pairs.
-        IsFirstOfEach key_size rows.now (map (λ p. (p.0.now, p.1.now)) pairs)) }
+        IsFirstOfEach key_size rows.now (referred pairs)) }
 {
     Map::from_iter_dedup(
         alloc,

@@ -1,13 +1,13 @@
 //! The encoding of a map of keys and values, each of one size, written to a caller's room, where no
 //! key repeats.
-ghost use Rattle.std.specs.Prelude.{◌≡◌, ◌≢◌, ◌↔◌, ◌⊎◌, ◌+◌, ◌^◌, ◌%◌, ◌<◌, ◌≤◌, ℕ, IfOk, List, MatchResult, length, map};
+ghost use Rattle.std.specs.Prelude.{◌≡◌, ◌≢◌, ◌↔◌, ◌⊎◌, ◌+◌, ◌^◌, ◌%◌, ◌<◌, ◌≤◌, ℕ, IfOk, List, MatchResult, length};
 ghost use Rattle.commonware_map.specs.Maps.{map_enc};
 ghost use Rattle.commonware_map.specs.Pairs.{on_keys};
 ghost use Rattle.commonware_ordered.specs.Strict.{IsStrict};
 ghost use Rattle.commonware_sequence.specs.FixedBytes.{bytes_cmp, own_bytes};
 ghost use Rattle.commonware_views.specs.Lists.{AreItemsOf};
 ghost use Rattle.commonware_views.specs.laws.ItemLaws.{AreLong};
-ghost use Rattle.commonware_c.specs.Pairs.{AreAllPairs, IsFirstRepeat, IsMapOfAll, RepeatsKey};
+ghost use Rattle.commonware_c.specs.Pairs.{AreAllPairs, IsFirstRepeat, IsMapOfAll, RepeatsKey, referred};
 ghost use Rattle.commonware_c.specs.Splices.{spliced};
 
 use crate::pairs::{key_and_value, rows_of, write_map};
@@ -109,7 +109,7 @@ fn map_of_all<'a>(
     rows: &ListView<'a>,
 ) -> Result<Result<Map<&'a [u8], &'a [u8], Global>, usize>, AllocError>
     ensures { IfOk result (λ made. MatchResult made
-        (λ pairs. AreAllPairs key_size rows.now (map (λ p. (p.0.now, p.1.now)) pairs))
+        (λ pairs. AreAllPairs key_size rows.now (referred pairs))
         (IsFirstRepeat key_size rows.now)) }
 {
     let mut entries = SortedEntries::with_room(alloc, rows.len())?;
