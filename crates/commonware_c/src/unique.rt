@@ -87,6 +87,8 @@ fn write_all_rows(
         × AreAllPairs key_size rows.now map
         × (result.number ≡ length rows.now) × (2 ^ 32 ≤ length rows.now) }
     ensures repeated { result.status ≡ 19 → IsFirstRepeat key_size rows.now result.number }
+    ensures exactly { result.status ≢ 5
+        → (result.status ≡ 19) ↔ ((index : ℕ) × RepeatsKey key_size rows.now index) }
     ensures else_memory { result.status ≢ 0 → result.status ≢ 11 → result.status ≢ 3
         → result.status ≢ 19 → (result.status ≡ 5) × (result.number ≡ 0) }
     ensures no_number { (result.status ≡ 0) ⊎ (result.status ≡ 11) → result.number ≡ 0 }
