@@ -295,6 +295,51 @@ static void try_list(size_t size, const uint8_t *input, size_t length) {
     }
 }
 
+/* Whether the row at an index has the key of an earlier one. */
+static bool repeats_key(const uint8_t *rows, size_t size, size_t key_size, size_t index) {
+    for (size_t i = 0; i < index; i++) {
+        if (memcmp(rows + i * size, rows + index * size, key_size) == 0) {
+            return true;
+        }
+    }
+    return false;
+}
+
+/* Any bytes as rows of a key and a value: the first row that has the key of an earlier one is told;
+ * where none has, each value is found by its key in the map that is written. */
+static void try_rows(size_t key_size, size_t value_size, const uint8_t *input, size_t length) {
+    const size_t size = key_size + value_size;
+    if (key_size == 0 || key_size > length || size > length || length % size > 0) {
+        return;
+    }
+    const size_t count = length / size, most = 10 + length;
+    size_t first = 0;
+    while (first < count && !repeats_key(input, size, key_size, first)) {
+        first++;
+    }
+    uint8_t *out = room(most, 1);
+    const commonware_written_view view =
+        commonware_map_write_unique(key_size, value_size, input, length, out, most);
+    if (first < count) {
+        REQUIRE(view.status == COMMONWARE_REPEATED_KEY && view.number == first);
+        REQUIRE(view.count == 0 && view.size == 0 && out[0] == 0xee);
+        free(out);
+        return;
+    }
+    REQUIRE(view.status == COMMONWARE_OK && view.count == count && view.number == 0);
+    const commonware_map_view map =
+        commonware_map_read(key_size, value_size, out, view.size, count, count);
+    REQUIRE(map.status == COMMONWARE_OK && map.left == 0);
+    for (size_t i = 0; i < count; i++) {
+        const uint8_t *key = input + i * size;
+        const commonware_place_view place =
+            commonware_set_index(out + map.keys, count * key_size, key, key_size);
+        REQUIRE(place.status == COMMONWARE_OK);
+        REQUIRE(memcmp(out + map.values + place.index * value_size, key + key_size, value_size) == 0);
+    }
+    free(out);
+}
+
 /* Sizes that are in use, small ones, and some of which few keys have 2^64 bytes and more. */
 static const size_t sizes[] = {0, 1, 2, 3, 7, 8, 9, 16, 20, 32, 33, 48, 96,
                                SIZE_MAX, SIZE_MAX / 2 + 1, SIZE_MAX / 4 + 2, SIZE_MAX / 8 + 1};
@@ -306,6 +351,7 @@ static void try_sizes(const uint8_t *input, size_t length, size_t low, size_t hi
         try_set(sizes[i], input, length, low, high);
         try_set(sizes[i], input, length, 0, SIZE_MAX);
         try_list(sizes[i], input, length);
+        try_rows(sizes[i], value, input, length);
         try_map(sizes[i], sizes[(i + value) % all], input, length, low, high);
         try_map(sizes[i], value, input, length, 0, SIZE_MAX);
     }

@@ -399,6 +399,26 @@ static void test_map_write(void) {
     CHECK(is_written(commonware_map_write(3, 0, OF(pairs), NULL, 0), COMMONWARE_ROOM, 4, 0, 14));
 }
 
+/* Such pairs of which the fourth has the key of the second, and the last that of the first. */
+static void test_map_write_unique(void) {
+    const uint8_t pairs[] = {5, 2, 10, 5, 1, 30, 4, 9, 40, 5, 1, 30, 5, 2, 20};
+    const uint8_t map[] = {3, 4, 9, 5, 1, 5, 2, 3, 40, 30, 10, 0xee};
+    uint8_t out[12], untouched[12];
+    memset(out, 0xee, sizeof out);
+    memset(untouched, 0xee, sizeof untouched);
+    CHECK(is_written(commonware_map_write_unique(2, 1, OF(pairs), OF(out)), COMMONWARE_REPEATED_KEY, 0, 3, 0));
+    CHECK(is_written(commonware_map_write_unique(1, 2, OF(pairs), OF(out)), COMMONWARE_REPEATED_KEY, 0, 1, 0));
+    CHECK(is_written(commonware_map_write_unique(2, 1, OF(pairs), NULL, 0), COMMONWARE_REPEATED_KEY, 0, 3, 0));
+    CHECK(is_written(commonware_map_write_unique(2, 1, pairs, 14, OF(out)), COMMONWARE_NOT_WHOLE, 0, 2, 0));
+    CHECK(is_written(commonware_map_write_unique(0, 3, OF(pairs), OF(out)), COMMONWARE_NO_SIZE, 0, 0, 0));
+    CHECK(is_written(commonware_map_write_unique(2, 1, pairs, 9, out, 10), COMMONWARE_ROOM, 3, 0, 11));
+    CHECK(memcmp(out, untouched, sizeof out) == 0);
+    CHECK(is_written(commonware_map_write_unique(2, 1, pairs, 9, out, 11), COMMONWARE_OK, 3, 0, 11));
+    CHECK(memcmp(out, map, sizeof out) == 0);
+    CHECK(is_written(commonware_map_write_unique(3, 0, pairs, 12, NULL, 0), COMMONWARE_REPEATED_KEY, 0, 3, 0));
+    CHECK(is_written(commonware_map_write_unique(2, 1, NULL, 0, NULL, 0), COMMONWARE_ROOM, 0, 0, 2));
+}
+
 static void test_certificate(void) {
     uint32_t signers[4] = {9, 9, 9, 9};
     commonware_certificate_view view = commonware_certificate_read(OF(first), 32, 256, OF(signers));
@@ -711,7 +731,7 @@ static void test_memory(void) {
     uint8_t committee[COMMONWARE_COMMITTEE_SIZE(5)];
     const uint8_t empty[] = {0, 0};
     uint32_t out[4];
-    for (int call = 0; call < 11; call++) {
+    for (int call = 0; call < 12; call++) {
         for (allowed = 0;; allowed++) {
             requests = 0;
             memset(out, 0xee, sizeof out);
@@ -728,7 +748,8 @@ static void test_memory(void) {
                 : call == 7 ? commonware_map_read(20, 8, OF(empty), 0, 256).status
                 : call == 8 ? commonware_set_index(keys[0], 32, keys[0], 32).status
                 : call == 9 ? commonware_set_write(32, keys[0], 160, OF(committee)).status
-                            : commonware_map_write(20, 12, keys[0], 160, OF(committee)).status;
+                : call == 10 ? commonware_map_write(20, 12, keys[0], 160, OF(committee)).status
+                            : commonware_map_write_unique(20, 12, keys[0], 160, OF(committee)).status;
             CHECK(live == 0);
             if (status == COMMONWARE_OK) {
                 break;
@@ -751,6 +772,7 @@ int main(void) {
     test_set_write();
     test_map();
     test_map_write();
+    test_map_write_unique();
     test_certificate();
     test_conflict();
     test_slots();

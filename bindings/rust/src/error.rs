@@ -107,7 +107,9 @@ impl fmt::Display for EncodeError {
             }
             EncodeError::NoSize => f.write_str("keys of no bytes"),
             EncodeError::NotWhole(count) => write!(f, "{count} bytes after the last whole item"),
-            EncodeError::RepeatedKey(place) => write!(f, "pair {place} has the key of an earlier one"),
+            EncodeError::RepeatedKey(place) => {
+                write!(f, "pair {place} has the key of an earlier one")
+            }
             EncodeError::Memory => f.write_str("out of memory"),
         }
     }

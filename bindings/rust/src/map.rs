@@ -114,18 +114,7 @@ impl<'a> MapView<'a> {
         value_size: usize,
         pairs: &[u8],
     ) -> Result<Vec<u8>, EncodeError> {
-        let mut out = zeros(10 + pairs.len()).ok_or(EncodeError::Memory)?;
-        // SAFETY: each pointer and the length after it are those of one slice; `out` is a new one.
-        let view = unsafe {
-            let (from, length) = (pairs.as_ptr(), pairs.len());
-            let (room, most) = (out.as_mut_ptr(), out.len());
-            raw::commonware_map_write(key_size, value_size, from, length, room, most)
-        };
-        if view.status != status::OK {
-            return Err(EncodeError::of(view.status, view.number));
-        }
-        out.truncate(view.size);
-        Ok(out)
+        encoded(raw::commonware_map_write, key_size, value_size, pairs)
     }
 
     /// Encodes the map of these pairs as [`MapView::encode`] does, where no key repeats.
@@ -147,18 +136,12 @@ impl<'a> MapView<'a> {
         value_size: usize,
         pairs: &[u8],
     ) -> Result<Vec<u8>, EncodeError> {
-        let mut out = zeros(10 + pairs.len()).ok_or(EncodeError::Memory)?;
-        // SAFETY: each pointer and the length after it are those of one slice; `out` is a new one.
-        let view = unsafe {
-            let (from, length) = (pairs.as_ptr(), pairs.len());
-            let (room, most) = (out.as_mut_ptr(), out.len());
-            raw::commonware_map_write_unique(key_size, value_size, from, length, room, most)
-        };
-        if view.status != status::OK {
-            return Err(EncodeError::of(view.status, view.number));
-        }
-        out.truncate(view.size);
-        Ok(out)
+        encoded(
+            raw::commonware_map_write_unique,
+            key_size,
+            value_size,
+            pairs,
+        )
     }
 
     /// Returns how many pairs there are.
@@ -277,6 +260,27 @@ impl<'a> MapView<'a> {
             .map(|(key, value)| (key.to_vec(), value.to_vec()));
         copies.collect()
     }
+}
+
+/// Returns what a call writes of these pairs.
+fn encoded(
+    write: raw::MapWrite,
+    key_size: usize,
+    value_size: usize,
+    pairs: &[u8],
+) -> Result<Vec<u8>, EncodeError> {
+    let mut out = zeros(10 + pairs.len()).ok_or(EncodeError::Memory)?;
+    // SAFETY: each pointer and the length after it are those of one slice; `out` is a new one.
+    let view = unsafe {
+        let (from, length) = (pairs.as_ptr(), pairs.len());
+        let (room, most) = (out.as_mut_ptr(), out.len());
+        write(key_size, value_size, from, length, room, most)
+    };
+    if view.status != status::OK {
+        return Err(EncodeError::of(view.status, view.number));
+    }
+    out.truncate(view.size);
+    Ok(out)
 }
 
 impl<'a> IntoIterator for MapView<'a> {

@@ -74,6 +74,10 @@ pub struct CheckView {
     pub decision_length: usize,
 }
 
+/// A call that writes a map: the sizes of a key and of a value, the pairs, and the room.
+pub type MapWrite =
+    unsafe extern "C" fn(usize, usize, *const u8, usize, *mut u8, usize) -> WrittenView;
+
 unsafe extern "C" {
     // These take numbers only, and return a number for each.
     pub safe fn commonware_max_faults(k: u32, n: u32) -> u32;

@@ -166,6 +166,20 @@ fn writing_a_map_returns_each_allocation_failure() {
 }
 
 #[test]
+fn writing_a_map_of_unique_keys_returns_each_allocation_failure() {
+    let mut pairs: Vec<u8> = (0..200u8).rev().flat_map(|i| [i; 28]).collect();
+    let encode = |pairs: &[u8]| MapView::encode_unique(20, 8, pairs);
+    assert!(refuse_each(&EncodeError::Memory, || encode(&pairs)) > 0);
+    pairs.extend([7; 28]);
+    let find = || match encode(&pairs) {
+        Err(EncodeError::RepeatedKey(200)) => Ok(()),
+        Err(error) => Err(error),
+        Ok(_) => panic!("the key of row 192 repeats"),
+    };
+    assert!(refuse_each(&EncodeError::Memory, find) > 0);
+}
+
+#[test]
 fn writing_a_certificate_allocates_nothing() {
     let signers: Vec<u32> = (0..200).collect();
     let requests = refuse_each(&EncodeError::Memory, || Certificate::encode(b"x", &signers));

@@ -10,7 +10,8 @@ mod raw;
 use common::naive::varint;
 use common::random::Random;
 use common::seen::Seen;
-use commonware_proved::{MapView, Member, SetView};
+use commonware_proved::{EncodeError, MapView, Member, SetView};
+use std::collections::BTreeSet;
 use std::env;
 
 /// Statuses of the library.
@@ -18,6 +19,7 @@ const OK: u32 = 0;
 const ROOM: u32 = 11;
 const NO_SIZE: u32 = 16;
 const NOT_WHOLE: u32 = 17;
+const REPEATED_KEY: u32 = 19;
 
 /// What stands in the room before a call.
 const UNTOUCHED: u8 = 0xee;
@@ -151,14 +153,39 @@ fn many_keys_in_falling_order_are_written() {
     assert_eq!(try_write(32, &keys, 5 + keys.len()), "ok");
 }
 
-/// Returns the status, the count, the number and the size.
-fn map_write(sizes: (usize, usize), pairs: &[u8], out: &mut [u8]) -> (u32, usize, usize, usize) {
-    // SAFETY: each pointer and the length after it are those of one slice.
-    let view = unsafe {
-        let (from, length) = (pairs.as_ptr(), pairs.len());
-        raw::commonware_map_write(sizes.0, sizes.1, from, length, out.as_mut_ptr(), out.len())
-    };
-    (view.status, view.count, view.number, view.size)
+/// The two ways to write a map: the calls of the library, and those of the crate.
+struct MapWriter {
+    call: raw::MapWrite,
+    encode: fn(usize, usize, &[u8]) -> Result<Vec<u8>, EncodeError>,
+}
+
+/// Of equal keys the first stays.
+const FIRSTS: MapWriter = MapWriter {
+    call: raw::commonware_map_write,
+    encode: MapView::encode,
+};
+
+/// Equal keys are refused.
+const UNIQUE: MapWriter = MapWriter {
+    call: raw::commonware_map_write_unique,
+    encode: MapView::encode_unique,
+};
+
+impl MapWriter {
+    /// Returns the status, the count, the number and the size.
+    fn write(
+        &self,
+        sizes: (usize, usize),
+        pairs: &[u8],
+        out: &mut [u8],
+    ) -> (u32, usize, usize, usize) {
+        // SAFETY: each pointer and the length after it are those of one slice.
+        let view = unsafe {
+            let (from, length) = (pairs.as_ptr(), pairs.len());
+            (self.call)(sizes.0, sizes.1, from, length, out.as_mut_ptr(), out.len())
+        };
+        (view.status, view.count, view.number, view.size)
+    }
 }
 
 /// Returns the encoding of the map by a stable sort, and how many pairs it has.
@@ -175,9 +202,14 @@ fn naive_map(sizes: (usize, usize), pairs: &[u8]) -> (Vec<u8>, usize) {
 }
 
 /// Compares one call with the naive one, and returns what came of it.
-fn try_map_write(sizes: (usize, usize), pairs: &[u8], room: usize) -> &'static str {
+fn try_map_write(
+    writer: &MapWriter,
+    sizes: (usize, usize),
+    pairs: &[u8],
+    room: usize,
+) -> &'static str {
     let mut out = vec![UNTOUCHED; room];
-    let told = map_write(sizes, pairs, &mut out);
+    let told = writer.write(sizes, pairs, &mut out);
     let is_untouched = out.iter().all(|byte| *byte == UNTOUCHED);
     if sizes.0 == 0 {
         assert_eq!((told, is_untouched), ((NO_SIZE, 0, 0, 0), true));
@@ -203,7 +235,7 @@ fn try_map_write(sizes: (usize, usize), pairs: &[u8], room: usize) -> &'static s
     assert_eq!(out[..bytes.len()], bytes);
     assert!(out[bytes.len()..].iter().all(|byte| *byte == UNTOUCHED));
     assert_eq!(
-        MapView::encode(sizes.0, sizes.1, pairs).as_deref(),
+        (writer.encode)(sizes.0, sizes.1, pairs).as_deref(),
         Ok(&bytes[..])
     );
     "ok"
@@ -228,7 +260,7 @@ fn maps_are_written_as_by_a_stable_sort() {
             }
         }
         let room = some_room(&mut random, 10 + pairs.len());
-        seen.note(try_map_write(sizes, &pairs, room));
+        seen.note(try_map_write(&FIRSTS, sizes, &pairs, room));
     }
     seen.assert_each(4, cases() / 100);
 }
@@ -241,10 +273,131 @@ fn sizes_of_pairs_whose_sum_wraps_have_a_result() {
         (usize::MAX, usize::MAX),
         (1 << 63, 1 << 63),
     ] {
-        assert_eq!(try_map_write(sizes, &[1, 2], 9), "not whole");
-        assert_eq!(try_map_write(sizes, &[], 9), "ok");
-        assert_eq!(try_map_write(sizes, &[], 1), "room");
+        assert_eq!(try_map_write(&FIRSTS, sizes, &[1, 2], 9), "not whole");
+        assert_eq!(try_map_write(&FIRSTS, sizes, &[], 9), "ok");
+        assert_eq!(try_map_write(&FIRSTS, sizes, &[], 1), "room");
     }
-    assert_eq!(try_map_write((1, 0), &[3, 1, 2, 1], 9), "ok");
-    assert_eq!(try_map_write((0, usize::MAX), &[], 9), "no size");
+    assert_eq!(try_map_write(&FIRSTS, (1, 0), &[3, 1, 2, 1], 9), "ok");
+    assert_eq!(try_map_write(&FIRSTS, (0, usize::MAX), &[], 9), "no size");
+}
+
+/// Returns the index of the first pair whose key an earlier pair has, where the pairs are whole.
+fn naive_repeat(sizes: (usize, usize), pairs: &[u8]) -> Option<usize> {
+    let size = sizes.0.checked_add(sizes.1)?;
+    if sizes.0 == 0 || !pairs.len().is_multiple_of(size) {
+        return None;
+    }
+    let mut keys = BTreeSet::new();
+    let mut each = pairs.chunks_exact(size);
+    each.position(|pair| !keys.insert(&pair[..sizes.0]))
+}
+
+/// Compares one call with the naive one, and returns what came of it.
+fn try_unique(sizes: (usize, usize), pairs: &[u8], room: usize) -> &'static str {
+    let Some(index) = naive_repeat(sizes, pairs) else {
+        return try_map_write(&UNIQUE, sizes, pairs, room);
+    };
+    let mut out = vec![UNTOUCHED; room];
+    let told = UNIQUE.write(sizes, pairs, &mut out);
+    assert_eq!(told, (REPEATED_KEY, 0, index, 0));
+    assert!(out.iter().all(|byte| *byte == UNTOUCHED));
+    let encoded = MapView::encode_unique(sizes.0, sizes.1, pairs);
+    assert_eq!(encoded, Err(EncodeError::RepeatedKey(index)));
+    "repeat"
+}
+
+/// Returns the key of a size that counts as this number in its last bytes, of which it may have
+/// too few.
+fn numbered_key(size: usize, number: usize) -> Vec<u8> {
+    let bytes = number.to_be_bytes();
+    let low = &bytes[bytes.len() - size.min(bytes.len())..];
+    [vec![0; size - low.len()], low.to_vec()].concat()
+}
+
+/// Returns pairs of which few or none have equal keys, rising, falling or in no order, and
+/// sometimes bytes after the last.
+fn some_pairs(random: &mut Random, sizes: (usize, usize)) -> Vec<u8> {
+    let count = [0, 1, 2, 3, 5, 40, 127, 128, 129, 256, 257][random.below(11)];
+    let mut numbers: Vec<usize> = (0..count).collect();
+    match random.below(4) {
+        0 => {}
+        1 => numbers.reverse(),
+        _ => {
+            for at in (1..count).rev() {
+                numbers.swap(at, random.below(at + 1));
+            }
+        }
+    }
+    if count > 1 && random.below(2) == 0 {
+        let later = 1 + random.below(count - 1);
+        numbers[later] = numbers[random.below(later)];
+    }
+    let value = |random: &mut Random| vec![random.below(3) as u8; sizes.1];
+    let each = numbers.iter().map(|number| numbered_key(sizes.0, *number));
+    let mut pairs: Vec<u8> = each.flat_map(|key| [key, value(random)].concat()).collect();
+    if random.below(8) == 0 {
+        pairs.extend(vec![1; 1 + random.below(sizes.0 + sizes.1 + 2)]);
+    }
+    pairs
+}
+
+#[test]
+fn maps_of_unique_keys_are_written_and_a_repeat_is_told() {
+    let mut random = Random(53);
+    let mut seen = Seen::default();
+    for _ in 0..cases() {
+        let size = |random: &mut Random| match random.below(24) {
+            at @ 0..=20 => at,
+            at => [32, 33, 48, 96][at % 4],
+        };
+        let sizes = (size(&mut random), size(&mut random) / 2);
+        let pairs = some_pairs(&mut random, sizes);
+        let room = some_room(&mut random, 10 + pairs.len());
+        seen.note(try_unique(sizes, &pairs, room));
+    }
+    seen.assert_each(5, cases() / 100);
+}
+
+#[test]
+fn the_first_repeat_among_many_pairs_is_told() {
+    for count in [
+        2, 3, 127, 128, 255, 256, 257, 4_097, 65_535, 65_536, 65_537, 70_000,
+    ] {
+        for is_falling in [false, true] {
+            let place = |i| if is_falling { count - 1 - i } else { i };
+            let each = (0..count).map(|i| [numbered_key(20, place(i)), vec![i as u8; 8]].concat());
+            let pairs = each.collect::<Vec<_>>().concat();
+            let size = 2 * varint(count as u64).len() + pairs.len();
+            assert_eq!(try_unique((20, 8), &pairs, size), "ok");
+            assert_eq!(try_unique((20, 8), &pairs, size - 1), "room");
+            for (earlier, later) in [
+                (0, 1),
+                (0, count / 2),
+                (0, count - 1),
+                (count / 2, count - 1),
+                (count - 2, count - 1),
+            ] {
+                let mut repeated = pairs.clone();
+                repeated.copy_within(28 * earlier..28 * earlier + 20, 28 * later);
+                let told = UNIQUE.write((20, 8), &repeated, &mut []);
+                let wanted = match earlier < later {
+                    true => (REPEATED_KEY, 0, later, 0),
+                    false => (ROOM, count, 0, size),
+                };
+                assert_eq!(told, wanted, "{earlier} and {later} of {count}");
+            }
+        }
+    }
+}
+
+#[test]
+fn sizes_of_unique_pairs_whose_sum_wraps_have_a_result() {
+    for sizes in [(1, usize::MAX), (usize::MAX, 1), (1 << 63, 1 << 63)] {
+        assert_eq!(try_unique(sizes, &[1, 1], 9), "not whole");
+        assert_eq!(try_unique(sizes, &[], 9), "ok");
+        assert_eq!(try_unique(sizes, &[], 1), "room");
+    }
+    assert_eq!(try_unique((1, 0), &[3, 1, 2, 1], 9), "repeat");
+    assert_eq!(try_unique((1, 1), &[3, 1, 2, 1], 9), "ok");
+    assert_eq!(try_unique((0, usize::MAX), &[], 9), "no size");
 }

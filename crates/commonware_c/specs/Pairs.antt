@@ -41,7 +41,8 @@ RepeatsKey key_size rows index =
 
 -- the index is that of the first row that has the key of an earlier one
 abbrev pub IsFirstRepeat : ℕ → List (List ℕ) → ℕ → Type 0
-IsFirstRepeat key_size rows index = RepeatsKey key_size rows index × ((i : ℕ) → i < index → ¬ RepeatsKey key_size rows i)
+IsFirstRepeat key_size rows index =
+    RepeatsKey key_size rows index × ((i : ℕ) → i < index → ¬ RepeatsKey key_size rows i)
 
 -- no row has the key of an earlier one, and the pairs are those of all rows, in the order of their keys
 pub record AreAllPairs (key_size : ℕ) (rows : List (List ℕ)) (pairs : List (List ℕ × List ℕ)) : Type 0 where
@@ -51,8 +52,8 @@ pub record AreAllPairs (key_size : ℕ) (rows : List (List ℕ)) (pairs : List (
 
 -- The map has the pairs of all rows, no two of which have one key, in the order of the keys: as many as there are rows,
 -- and `bytes` bytes.
-pub record IsMapOfAll (key_size value_size : ℕ) (rows : List (List ℕ)) (pairs : List (List ℕ × List ℕ)) (count bytes : ℕ) :
-    Type 0 where
+pub record IsMapOfAll (key_size value_size : ℕ) (rows : List (List ℕ)) (pairs : List (List ℕ × List ℕ))
+    (count bytes : ℕ) : Type 0 where
   pub are_all : AreAllPairs key_size rows pairs
   pub count_is : count ≡ length rows
   pub bytes_is : bytes ≡ length (map_enc own_bytes own_bytes pairs)

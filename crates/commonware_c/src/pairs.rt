@@ -60,7 +60,11 @@ pub extern "C" fn commonware_map_write(
 
 /// Returns the rows that these bytes are, or how many bytes follow the last whole one. Where a row
 /// has 2^64 bytes or more, there is none.
-pub(crate) fn rows_of(key_size: usize, value_size: usize, pairs: &[u8]) -> Result<ListView<'_>, usize>
+pub(crate) fn rows_of(
+    key_size: usize,
+    value_size: usize,
+    pairs: &[u8],
+) -> Result<ListView<'_>, usize>
     requires { key_size ≢ 0 }
     ensures rows { IfOk result (AreItemsOf (key_size + value_size) pairs.now) }
     ensures left_over { IfErr result (λ count. (0 < count)
