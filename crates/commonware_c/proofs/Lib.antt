@@ -4,6 +4,7 @@ pub mod Exact
 pub mod Fewer
 pub mod Made
 pub mod Offsets
+pub mod OneMap
 pub mod EncodingLemmas
 pub mod Spliced
 pub mod Repeats
