@@ -1,5 +1,5 @@
-use Rattle.std.proofs.Common.{rules, ◌≡◌, ◌∙◌, ◌+◌, ◌-◌, ◌*◌, ◌++◌, ℕ, List, [], ◌∷◌, length, subst, sym, ap, arith}
-use Rattle.std.specs.List.{AllByRecursion, flat_map}
+use Rattle.std.proofs.Common.{rules, ◌≡◌, ◌∙◌, ◌+◌, ◌-◌, ◌*◌, ◌++◌, length, subst, sym, ap, arith}
+use Rattle.std.specs.List.{flat_map}
 use Rattle.std.specs.Map.{keys_of, values_of}
 use Rattle.std.proofs.Math.Nat.{mul_comm}
 use Rattle.std.proofs.lemmas.List.{append_assoc, length-append}
@@ -7,11 +7,11 @@ use Rattle.std.proofs.lemmas.Map.Entries.{length-keys_of, length-values_of}
 use Rattle.commonware_base.specs.Lists.{list_enc}
 use Rattle.commonware_base.specs.Source.{rest_of}
 use Rattle.commonware_base.specs.Varint.{varint}
-use Rattle.commonware_sequence.specs.FixedBytes.{IsOfSize, own_bytes}
+use Rattle.commonware_sequence.specs.FixedBytes.{own_bytes}
 use Rattle.commonware_views.specs.Lists.{StandBy}
-use Rattle.commonware_views.specs.laws.ItemLaws.{AreLong, items_length}
 use Rattle.commonware_views.specs.laws.PlaceLaws.{items_stand, stand_on}
 use Rattle.commonware_c.specs.Committees.{between}
+use Rattle.commonware_c.proofs.OneMap.{items_bytes}
 use Rattle.commonware_c.proofs.maps.commonware_map_read.Goals as goal
 
 pub returns-in-Ok-clause-accepted : goal.returns-in-Ok-clause-accepted
@@ -52,11 +52,6 @@ returns-in-Ok-clause-accepted c = λ _.
       subst (λ n. StandBy vs c.args.input.now n values) (sym at) (subst (λ s. StandBy vs s (length front + length (varint (length values))) values) (sym whole) value_places),
     )
 
--- items of a size have its length
-long_of_size : (size : ℕ) (items : List (List ℕ)) → AllByRecursion (IsOfSize size) items → AreLong size items
-long_of_size size [] each = each
-long_of_size size (x ∷ items) (here, each) = (here.count, long_of_size size items each)
-
 -- the values follow the keys and their own number
 pub returns-in-Ok-clause-values : goal.returns-in-Ok-clause-values
 returns-in-Ok-clause-values c = λ _.
@@ -67,7 +62,7 @@ returns-in-Ok-clause-values c = λ _.
     let many : c.len-count.result ≡ length keys = c.len-count.ensures ∙ sym (length-keys_of pairs) in
     let many_values : c.len-count.result ≡ length values = c.len-count.ensures ∙ sym (length-values_of pairs) in
     let key_bytes : length (flat_map own_bytes keys) ≡ ks * c.len-count.result =
-    items_length ks keys (long_of_size ks keys c.in-Ok.ensures.accepted.writable.0.list.each) ∙ mul_comm (length keys) ks ∙ ap (λ n. ks * n) (sym many) in
+    items_bytes ks keys c.in-Ok.ensures.accepted.writable.0.list.each ∙ mul_comm (length keys) ks ∙ ap (λ n. ks * n) (sym many) in
     omega (
       arith,
       key_bytes,
