@@ -1,4 +1,4 @@
-use Rattle.std.proofs.Common.{◌≡◌, ◌+◌, ◌-◌, ◌≤◌, ◌∙◌, length, min, arith, subst}
+use Rattle.std.proofs.Common.{◌∙◌, arith, subst}
 use Rattle.commonware_sequence.specs.BigEndian.{HaveSamePrefix}
 use Rattle.commonware_sequence.proofs.BigEndian.{lengths_decide}
 use Rattle.commonware_sequence.proofs.order.order_past.Goals as goal

@@ -1,4 +1,4 @@
-use Rattle.std.proofs.Common.{◌≡◌, ◌∙◌, ◌+◌, ◌-◌, ◌*◌, ◌<◌, [], take, drop, true, false, arith, ap, refl, sym}
+use Rattle.std.proofs.Common.{◌≡◌, ◌∙◌, ◌+◌, ◌-◌, ◌*◌, take, drop, true, false, arith, ap, refl, sym}
 use Rattle.std.specs.Ordering.{is_lt}
 use Rattle.commonware_views.proofs.Chunks.{chunks_count}
 use Rattle.commonware_views.proofs.Rising.{both_rise, less_from_test, one_more_rises}
