@@ -153,10 +153,13 @@ fn many_keys_in_falling_order_are_written() {
     assert_eq!(try_write(32, &keys, 5 + keys.len()), "ok");
 }
 
-/// The two ways to write a map: the calls of the library, and those of the crate.
+/// What the crate encodes of the sizes of a key and of a value, and the pairs.
+type Encode = fn(usize, usize, &[u8]) -> Result<Vec<u8>, EncodeError>;
+
+/// A way to write a map: the call of the library, and that of the crate.
 struct MapWriter {
     call: raw::MapWrite,
-    encode: fn(usize, usize, &[u8]) -> Result<Vec<u8>, EncodeError>,
+    encode: Encode,
 }
 
 /// Of equal keys the first stays.

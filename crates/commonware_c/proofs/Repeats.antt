@@ -18,10 +18,10 @@ use Rattle.commonware_ordered.proofs.Put.{all_put}
 use Rattle.commonware_ordered.specs.Put.{IsPut}
 use Rattle.commonware_ordered.specs.Strict.{IsStrict}
 use Rattle.commonware_sequence.specs.FixedBytes.{bytes_cmp}
-use Rattle.commonware_c.specs.Pairs.{AreAllPairs, IsFirstOfEach, IsMapOf, IsMapOfAll, RepeatsKey, pair_of}
+use Rattle.commonware_c.specs.Pairs.{AreAllPairs, IsFirstOfEach, IsMapOf, IsMapOfAll, RepeatsKey, pair_of, referred}
 use Rattle.commonware_c.proofs.Values.{strict_values}
 
--- what a pair of references refers to, and the order of such pairs
+-- a pair of references, what they refer to, and its key
 abbrev pub Referred : Type 0
 Referred = Bor (List ℕ) × Bor (List ℕ)
 
@@ -68,14 +68,14 @@ has_key p es = any_by_keys (λ k. eq_by_cmp bytes_cmp (key_of p) k) es ∙ ap (�
 
 -- es are the pairs of the first i rows, and none of these has the key of an earlier one
 pub record AreFirst (ks : ℕ) (rows : List (List ℕ)) (i : ℕ) (es : List Referred) : Type 0 where
-  pub all : IsPermutation (map (pair_of ks) (take i rows)) (map value_of es)
+  pub all : IsPermutation (map (pair_of ks) (take i rows)) (referred es)
   pub distinct : (j : ℕ) → j < i → ¬ RepeatsKey ks rows j
 
 module _ (ks : ℕ) (rows : List (List ℕ)) (i : ℕ) (row : List ℕ) (es fs : List Referred) (p : Referred) (here : slice_get rows i ≡ Some row) (is : value_of p ≡ pair_of ks row) (first : AreFirst ks rows i es) where
   same_keys : IsPermutation (map (take ks) (take i rows)) (map key_of es)
   same_keys =
       subst (λ l. IsPermutation (map (take ks) (take i rows)) l) (map-map (λ q. q.0) value_of es)
-      (subst (λ l. IsPermutation l (map (λ q. q.0) (map value_of es))) (map-map (λ q. q.0) (pair_of ks) (take i rows)) (IsPermutation-map (λ q. q.0) _ _ first.all))
+      (subst (λ l. IsPermutation l (map (λ q. q.0) (referred es))) (map-map (λ q. q.0) (pair_of ks) (take i rows)) (IsPermutation-map (λ q. q.0) _ _ first.all))
 
   -- a pair that isn't new has the key of an earlier row
   pub put_known : (new : Bool) → new ≡ false → IsPut (on_keys (λ x y. bytes_cmp x.now y.now)) es p new fs → RepeatsKey ks rows i
@@ -96,9 +96,9 @@ module _ (ks : ℕ) (rows : List (List ℕ)) (i : ℕ) (row : List ℕ) (es fs :
   pub put_new : (new : Bool) → new ≡ true → IsPut (on_keys (λ x y. bytes_cmp x.now y.now)) es p new fs → AreFirst ks rows (i + 1) fs
   put_new false e put = cc
   put_new true e put = record {
-    all = subst (λ l. IsPermutation l (map value_of fs)) (sym front)
+    all = subst (λ l. IsPermutation l (referred fs)) (sym front)
         (IsPermutation-trans _ _ _ (IsPermutation-append_left (pair_of ks row ∷ []) _ _ first.all)
-        (subst (λ l. IsPermutation l (map value_of fs)) (map-append value_of es (p ∷ []) ∙ ap (λ q. map value_of es ++ q ∷ []) is)
+        (subst (λ l. IsPermutation l (referred fs)) (map-append value_of es (p ∷ []) ∙ ap (λ q. referred es ++ q ∷ []) is)
         (IsPermutation-map value_of _ _ (all_put (on_total key_of nat_list_cmp_total) es es fs p true refl (IsPermutation-refl es) put))));
     distinct = λ j less. elim (cases_order j i) [
       | inl last ↦ subst (λ k. ¬ RepeatsKey ks rows k) (sym last) (new_key put)
@@ -112,13 +112,6 @@ module _ (ks : ℕ) (rows : List (List ℕ)) (i : ℕ) (row : List ℕ) (es fs :
           ap (map (pair_of ks)) (take_more rows i row (slice_get_within rows i row here) ∙ ap (λ r. take i rows ++ r ∷ []) (get_or_from_slice_get rows i row row here))
           ∙ map-append (pair_of ks) (take i rows) (row ∷ [])
 
--- at the start
-pub none_yet : (ks : ℕ) (rows : List (List ℕ)) (es : List Referred) → es ≡ [] → AreFirst ks rows 0 es
-none_yet ks rows es none = record {
-  all = subst (λ l. IsPermutation (map (pair_of ks) (take 0 rows)) (map value_of l)) (sym none) (IsPermutation-refl []);
-  distinct = λ j less. absurd (omega (arith, less));
-}
-
 -- where no row is at a place, that is past the last
 pub past_last : (rows : List (List ℕ)) (i : ℕ) → None ≡ slice_get rows i → length rows ≤ i
 past_last rows i none = elim (slice_get_cases rows i).1 [
@@ -128,10 +121,10 @@ past_last rows i none = elim (slice_get_cases rows i).1 [
 
 -- once all rows are among them
 pub all_pairs : (ks i : ℕ) (rows : List (List ℕ)) (es pairs : List Referred) → length rows ≤ i → AreFirst ks rows i es → pairs ≡ es
-    → IsStrict (on_keys (λ x y. bytes_cmp x.now y.now)) pairs → AreAllPairs ks rows (map value_of pairs)
+    → IsStrict (on_keys (λ x y. bytes_cmp x.now y.now)) pairs → AreAllPairs ks rows (referred pairs)
 all_pairs ks i rows es pairs past first same strict = record {
   distinct = λ j again. first.distinct j (omega (arith, slice_get_within rows j again.0 again.1, past)) again;
-  all = subst (λ l. IsPermutation (map (pair_of ks) rows) (map value_of l)) (sym same) (subst (λ l. IsPermutation (map (pair_of ks) l) (map value_of es)) (take_all i rows past) first.all);
+  all = subst (λ l. IsPermutation (map (pair_of ks) rows) (referred l)) (sym same) (subst (λ l. IsPermutation (map (pair_of ks) l) (referred es)) (take_all i rows past) first.all);
   strict = strict_values value_of (on_keys (pointwise nat_eq)) (on_keys bytes_cmp) pairs strict;
 }
 

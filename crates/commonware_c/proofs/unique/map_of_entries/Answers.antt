@@ -12,5 +12,4 @@ returns-clause-pairs c = c.in-Some.ensures.pairs ∙ ((λ j. zip ((c.from_strict
 pub returns-clause-strict : goal.returns-clause-strict
 returns-clause-strict c =
     let cmp = λ (x y : Bor (List ℕ)). bytes_cmp x.now y.now in
-    let pairs = c.in-Some.ensures.pairs ∙ ((λ j. zip ((c.from_strict.ensures ∙ c.in_ok-keys.ensures.keys) j) (c.in_ok-keys.ensures.values j)) ∙ zip-parts c.args.entries) in
-    subst (IsStrict (λ p q. cmp p.0 q.0)) (sym pairs) (strict_by_keys cmp c.args.entries (subst (IsStrict cmp) c.in_ok-keys.ensures.keys c.in_ok-keys.ensures.strict))
+    subst (IsStrict (λ p q. cmp p.0 q.0)) (sym (returns-clause-pairs c)) (strict_by_keys cmp c.args.entries (subst (IsStrict cmp) c.in_ok-keys.ensures.keys c.in_ok-keys.ensures.strict))

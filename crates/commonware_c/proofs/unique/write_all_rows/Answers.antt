@@ -26,7 +26,7 @@ pub returns-in-Ok-Ok-clause-long : goal.returns-in-Ok-Ok-clause-long
 returns-in-Ok-Ok-clause-long c = λ long.
     let said = c.write_map.ensures.long long in
     let many : length c.in-Ok-Ok.map ≡ length c.args.rows.now =
-        sym (length-map c.in-Ok-Ok.map _) ∙ as_many c.args.key_size c.args.rows.now (referred c.in-Ok-Ok.map) (subst (IsMade c.args.key_size c.args.rows.now) c.in-Ok-Ok.field-0-is c.in-Ok-Ok.ensures) in
+    sym (length-map c.in-Ok-Ok.map _) ∙ as_many c.args.key_size c.args.rows.now (referred c.in-Ok-Ok.map) (subst (IsMade c.args.key_size c.args.rows.now) c.in-Ok-Ok.field-0-is c.in-Ok-Ok.ensures) in
     (referred c.in-Ok-Ok.map, subst (IsMade c.args.key_size c.args.rows.now) c.in-Ok-Ok.field-0-is c.in-Ok-Ok.ensures, said.0 ∙ many, subst (λ n. 2 ^ 32 ≤ n) many said.1)
 
 pub returns-in-Ok-Ok-clause-exactly : goal.returns-in-Ok-Ok-clause-exactly
