@@ -1,14 +1,14 @@
 /* The proved committee layer of consensus nodes, for C11 and C++17: how many of n participants may be
- * faulty, the encodings of committees and certificates, and of sets and maps of keys of any size,
- * and which members signed both of two different values.
+ * faulty, the encodings of committees and certificates, and of sets, maps and bimaps of keys of any
+ * size, and which members signed both of two different values.
  *
  * The theorem of each function is its contract in crates/commonware_c/src. This header says the same in
  * words; docs/NATIVE.md says what is proved and what only tests show.
  *
  * Conditions. A caller owes what the types say: a pointer points to as many elements as the length after
- * it says; where that is 0 it may be NULL. What `out` points to overlaps no other argument, and no one
- * else touches it during the call; no one writes to the other arguments during the call. There is no
- * other condition: every number and every byte string has a result.
+ * it says; where that is 0 it may be NULL. What `out` or `room` points to overlaps no other argument, and
+ * no one else touches it during the call; no one writes to the other arguments during the call. There is
+ * no other condition: every number and every byte string has a result.
  *
  * Ownership. The caller owns each array before, during and after the call. No function keeps a pointer,
  * and none returns one: the views have offsets into the caller's bytes.
@@ -67,13 +67,14 @@ enum commonware_status {
     COMMONWARE_SAME_VALUE = 8,     /* both certificates are for one value */
     COMMONWARE_OUTSIDE = 9,        /* a signer is no member */
     COMMONWARE_TOO_FEW = 10,       /* fewer signers than a quorum */
-    COMMONWARE_ROOM = 11,          /* `out` is too short, and the view says what it takes */
+    COMMONWARE_ROOM = 11,          /* `out` or `room` is too short, and the view says what it takes */
     COMMONWARE_ABSENT = 12,        /* the key isn't among the members, or the keys */
     COMMONWARE_NO_MODEL = 13,      /* k is below 2 */
     COMMONWARE_NO_SLOT = 14,       /* the value is no decision for a slot */
     COMMONWARE_OTHER_SLOT = 15,    /* the values are for two different slots */
     COMMONWARE_NO_SIZE = 16,       /* the key has no bytes, and no number of such can be told */
     COMMONWARE_NOT_WHOLE = 17,     /* bytes follow the last whole key */
+    COMMONWARE_REPEATED = 18,      /* two pairs have the same value */
     COMMONWARE_REPEATED_KEY = 19   /* a pair has the key of an earlier one */
 };
 
@@ -205,6 +206,34 @@ typedef struct {
 commonware_map_view commonware_map_read(
     size_t key_size, size_t value_size, const uint8_t *input, size_t input_length, size_t least,
     size_t most);
+
+/* A bimap of keys of one size and values of another at the start of the input. */
+typedef struct {
+    uint32_t status; /* OK, END_OF_INPUT, INVALID_VARINT, INVALID_LENGTH, NOT_STRICT, ROOM or REPEATED */
+    uint32_t count;  /* at OK: how many pairs there are */
+    size_t number;   /* at INVALID_LENGTH: the stated length, of the keys or the values; at ROOM: how
+                      * many indices `room` has to have, which is the number of pairs */
+    size_t keys;     /* at OK: the offset of the first key */
+    size_t values;   /* at OK: the offset of the first value, which is that of the first key */
+    size_t left;     /* at OK: how many bytes of the input follow the last value */
+    size_t first;    /* at REPEATED: the index of the earlier of two pairs with the same value */
+    size_t second;   /* at REPEATED: that of the later, the least index whose value stands earlier */
+} commonware_bimap_view;
+
+/* Decodes a bimap of `least` to `most` pairs at the start of the input: a map of which no two values
+ * are the same. All is as commonware_map_read has it, and a map that it refuses has the same first
+ * fault (decoding error) here. Of a map, ROOM where `room` has fewer indices than there are pairs;
+ * else REPEATED where two values are the same, and OK where all differ.
+ *
+ * `room` is for indices, and its length is in indices; what it holds before the call doesn't matter.
+ * After OK its first `count` are the indices of the pairs in the order of their values, by which a key is
+ * found by its value in O(log n) comparisons; what follows them stays. After REPEATED its first indices,
+ * as many as there are pairs, are in this order too, those of the same value in their own order. At every
+ * other status `room` is as it was. How many it takes is told by a call with `room_length` 0. It takes
+ * O(n log n) comparisons. Never MEMORY. */
+commonware_bimap_view commonware_bimap_read(
+    size_t key_size, size_t value_size, const uint8_t *input, size_t input_length, size_t least,
+    size_t most, uint32_t *room, size_t room_length);
 
 /* Writes the map of these pairs to the start of `out`, in the order of their keys: each is a key of
  * `key_size` bytes and then its value of `value_size`, one pair after another; `pairs_length` is in

@@ -1,6 +1,6 @@
 //! Committees, certificates and quorums of consensus nodes: how many of n participants may be
-//! faulty, the encodings of committees and of certificates, and of sets and maps of keys of any
-//! size, and which members signed both of two different values.
+//! faulty, the encodings of committees and of certificates, and of sets, maps and bimaps of keys of
+//! any size, and which members signed both of two different values.
 //!
 //! Each call is one call of the static library `commonware_c`, which is written in Rattle and
 //! whose contracts are proved; nothing is decided here, but that a key of another size than the
@@ -24,6 +24,7 @@
 //! # Ok::<(), Box<dyn std::error::Error>>(())
 //! ```
 
+mod bimap;
 mod certificate;
 mod check;
 mod committee;
@@ -38,6 +39,7 @@ mod room;
 mod set;
 mod status;
 
+pub use bimap::{BimapError, BimapView};
 pub use certificate::Certificate;
 pub use check::{CheckError, Checked, check};
 pub use committee::{Committee, MEMBER_SIZE, Member};

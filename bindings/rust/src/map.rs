@@ -64,9 +64,9 @@ impl<'a> MapView<'a> {
         if view.status != status::OK {
             return Err(Refusal::of(view.status, view.number));
         }
-        let keys = SetView::of(List::new(key_size, view.count, input, view.keys));
+        let keys = List::new(key_size, view.count, input, view.keys);
         let values = List::new(value_size, view.count, input, view.values);
-        Ok((MapView { keys, values }, &input[input.len() - view.left..]))
+        Ok((MapView::of(keys, values), &input[input.len() - view.left..]))
     }
 
     /// Decodes the map that the whole input is, of any number of pairs.
@@ -90,6 +90,12 @@ impl<'a> MapView<'a> {
             (map, []) => Ok(map),
             (_, rest) => Err(Refusal::LeftOver(rest.len())),
         }
+    }
+
+    /// Returns the map from these keys, which are strictly increasing, to as many values.
+    pub(crate) fn of(keys: List<'a>, values: List<'a>) -> MapView<'a> {
+        let keys = SetView::of(keys);
+        MapView { keys, values }
     }
 
     /// Encodes the map of these pairs in the order of their keys: each is a key of `key_size` bytes

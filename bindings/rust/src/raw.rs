@@ -26,6 +26,19 @@ pub struct PairsView {
 
 #[repr(C)]
 #[derive(Clone, Copy)]
+pub struct BimapView {
+    pub status: u32,
+    pub count: u32,
+    pub number: usize,
+    pub keys: usize,
+    pub values: usize,
+    pub left: usize,
+    pub first: usize,
+    pub second: usize,
+}
+
+#[repr(C)]
+#[derive(Clone, Copy)]
 pub struct PlaceView {
     pub status: u32,
     pub index: usize,
@@ -84,7 +97,8 @@ unsafe extern "C" {
     pub safe fn commonware_quorum(k: u32, n: u32) -> u32;
     pub safe fn commonware_smaller_quorum(k: u32, n: u32) -> u32;
 
-    // A pointer and the length after it are those of one slice, and `out` overlaps no other.
+    // A pointer and the length after it are those of one slice, and `out` and `room` overlap no
+    // other.
     pub fn commonware_committee_read(
         input: *const u8,
         input_length: usize,
@@ -138,6 +152,16 @@ unsafe extern "C" {
         out: *mut u8,
         out_length: usize,
     ) -> WrittenView;
+    pub fn commonware_bimap_read(
+        key_size: usize,
+        value_size: usize,
+        input: *const u8,
+        input_length: usize,
+        least: usize,
+        most: usize,
+        room: *mut u32,
+        room_length: usize,
+    ) -> BimapView;
     pub fn commonware_map_write_unique(
         key_size: usize,
         value_size: usize,
