@@ -10,7 +10,7 @@ mod raw;
 use common::naive::{read_varint, varint};
 use common::random::{Random, spoil};
 use common::seen::{Seen, name};
-use commonware_proved::{BimapError, BimapView, Refusal};
+use commonware_proved::{BimapError, BimapView, Member, Refusal};
 use std::collections::HashMap;
 use std::env;
 
@@ -250,7 +250,7 @@ fn bimaps_are_read_as_by_the_naive_reader() {
 /// all differ in their last bytes alone; and where the values begin.
 fn many(sizes: (usize, usize), count: usize) -> (Vec<u8>, usize) {
     let mut bytes = vec![0xee; 29];
-    let mut put = |bytes: &mut Vec<u8>, size: usize, number: usize| {
+    let put = |bytes: &mut Vec<u8>, size: usize, number: usize| {
         let at = bytes.len();
         bytes.resize(at + size - 4, 0x5a);
         bytes.extend((number as u32).to_be_bytes());
