@@ -274,6 +274,56 @@ static void try_map(size_t key_size, size_t value_size, const uint8_t *input, si
     REQUIRE(set.status == COMMONWARE_OK && set.start == view.keys && set.count == count);
 }
 
+/* Of a map that was found: all its pairs as a bimap, whose indices have to be in the order of the values. */
+static void try_pairs(commonware_map_view map, size_t value_size, commonware_bimap_view view,
+                      const uint8_t *input, const uint32_t *indices) {
+    const uint8_t *values = input + map.values;
+    size_t first = 0, second = map.count;
+    for (uint32_t i = 0; i < map.count; i++) {
+        REQUIRE(indices[i] < map.count);
+        if (i > 0) {
+            const size_t one = indices[i - 1], other = indices[i];
+            const int order = memcmp(values + one * value_size, values + other * value_size, value_size);
+            REQUIRE(order < 0 || (order == 0 && one < other));
+            if (order == 0 && other < second) {
+                first = one;
+                second = other;
+            }
+        }
+    }
+    REQUIRE(view.status == (second < map.count ? COMMONWARE_REPEATED : COMMONWARE_OK));
+    if (view.status == COMMONWARE_OK) {
+        REQUIRE(view.count == map.count && view.keys == map.keys && view.values == map.values);
+        REQUIRE(view.left == map.left && view.first == 0 && view.second == 0);
+    } else {
+        REQUIRE(view.first == first && view.second == second && view.count == 0);
+    }
+}
+
+static void try_bimap(size_t key_size, size_t value_size, const uint8_t *input, size_t length,
+                      size_t least, size_t most) {
+    const commonware_map_view map =
+        commonware_map_read(key_size, value_size, input, length, least, most);
+    const size_t places = map.count;
+    uint32_t *indices = room(places + 1, sizeof(uint32_t));
+    commonware_bimap_view view = commonware_bimap_read(key_size, value_size, input, length, least, most,
+                                                       indices, places - (places > 0));
+    REQUIRE(indices[0] == 0xeeeeeeee);
+    if (map.status == COMMONWARE_OK && places > 0) {
+        REQUIRE(view.status == COMMONWARE_ROOM && view.number == places && view.count == 0);
+        view = commonware_bimap_read(key_size, value_size, input, length, least, most, indices, places);
+    }
+    if (map.status == COMMONWARE_OK) {
+        REQUIRE(view.number == 0 && indices[places] == 0xeeeeeeee);
+        try_pairs(map, value_size, view, input, indices);
+    } else {
+        REQUIRE(view.status == map.status && view.number == map.number && view.count == 0);
+        REQUIRE(view.keys == 0 && view.values == 0 && view.left == 0);
+        REQUIRE(view.first == 0 && view.second == 0);
+    }
+    free(indices);
+}
+
 /* Any bytes as a list of keys, whose first is sought: not whole ones, or in any order. */
 static void try_list(size_t size, const uint8_t *input, size_t length) {
     const size_t count = size > 0 ? length / size : 0;
@@ -354,6 +404,8 @@ static void try_sizes(const uint8_t *input, size_t length, size_t low, size_t hi
         try_rows(sizes[i], value, input, length);
         try_map(sizes[i], sizes[(i + value) % all], input, length, low, high);
         try_map(sizes[i], value, input, length, 0, SIZE_MAX);
+        try_bimap(sizes[i], sizes[(i + value) % all], input, length, low, high);
+        try_bimap(sizes[i], value, input, length, 0, SIZE_MAX);
     }
 }
 

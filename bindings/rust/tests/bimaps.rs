@@ -290,6 +290,14 @@ fn try_many(sizes: (usize, usize), count: usize, repeats: &[(usize, usize)]) {
 }
 
 #[test]
+fn each_number_of_pairs_up_to_300_is_read() {
+    for count in 0..=300 {
+        let repeats: Vec<_> = (1..count).map(|second| (second / 2, second)).collect();
+        try_many((20, 9), count, &repeats[repeats.len().saturating_sub(3)..]);
+    }
+}
+
+#[test]
 fn many_pairs_of_each_size_are_read() {
     for key_size in [20, 32, 33, 48, 96] {
         for value_size in [4, 8, 9, 20, 32, 33, 48, 96] {
