@@ -23,12 +23,18 @@ pub enum NoRoom {
 
 impl<'a> ListView<'a> {
     /// Looks for the first item that stands earlier in the list too, and returns where it stands
-    /// earlier and its own position; or `None` where no two items are the same. It takes
-    /// O(n log n) comparisons and allocates nothing: it sorts the positions in `room`.
+    /// earlier and its own position; or `None` where no two items are the same. Of the items
+    /// `05 09 09 05` of one byte these are 1 and 2. It takes O(n log n) comparisons and allocates
+    /// nothing: it sorts the positions in `room`.
     ///
     /// After it the first places of `room`, as many as there are items, are the positions of the
     /// items in the order of the items, so that an item can be looked up in O(log n) comparisons.
     /// The places after them stay. A room that is refused stays as it was.
+    ///
+    /// # Errors
+    ///
+    /// `Short` where the room has fewer places than there are items, and else `TooMany` where these
+    /// are more than 2^32.
     pub fn first_repeat(&self, room: &mut [u32]) -> Result<Option<(usize, usize)>, NoRoom>
         ensures found { IfOk result (λ repeat. MatchOption repeat (AreDistinct self.now)
             (λ at. IsFirstRepeat self.now at.0 at.1)) }
