@@ -21,9 +21,10 @@
  * with threads.
  *
  * Memory. commonware_committee_write, commonware_set_write, commonware_map_write and
- * commonware_map_write_unique allocate, and free all of it before they return; the others allocate nothing,
- * and never return COMMONWARE_MEMORY. The archive holds a heap over malloc, realloc and free. A program with an allocator of its own defines these three instead, with C
- * linkage and all of them, and the linker takes them:
+ * commonware_map_write_unique allocate, and free all of it before they return; the others allocate
+ * nothing, and never return COMMONWARE_MEMORY. The archive holds a heap over malloc, realloc and free. A
+ * program with an allocator of its own defines these three instead, with C linkage and all of them, and
+ * the linker takes them:
  *
  *     struct tried { bool ok; unsigned char *block; };
  *     struct tried rattle_alloc(size_t size, size_t align);
@@ -74,8 +75,8 @@ enum commonware_status {
     COMMONWARE_OTHER_SLOT = 15,    /* the values are for two different slots */
     COMMONWARE_NO_SIZE = 16,       /* the key has no bytes, and no number of such can be told */
     COMMONWARE_NOT_WHOLE = 17,     /* bytes follow the last whole key */
-    COMMONWARE_REPEATED = 18,      /* two pairs have the same value */
-    COMMONWARE_REPEATED_KEY = 19   /* a pair has the key of an earlier one */
+    COMMONWARE_REPEATED_VALUE = 18, /* two pairs have the same value */
+    COMMONWARE_REPEATED_KEY = 19    /* a pair has the key of an earlier one */
 };
 
 /* How many of n participants may be faulty at a resilience n >= kf + 1: the greatest f that fits. It is
@@ -209,25 +210,25 @@ commonware_map_view commonware_map_read(
 
 /* A bimap of keys of one size and values of another at the start of the input. */
 typedef struct {
-    uint32_t status; /* OK, END_OF_INPUT, INVALID_VARINT, INVALID_LENGTH, NOT_STRICT, ROOM or REPEATED */
+    uint32_t status; /* OK, END_OF_INPUT, INVALID_VARINT, INVALID_LENGTH, NOT_STRICT, ROOM or REPEATED_VALUE */
     uint32_t count;  /* at OK: how many pairs there are */
     size_t number;   /* at INVALID_LENGTH: the stated length, of the keys or the values; at ROOM: how
                       * many indices `room` has to have, which is the number of pairs */
     size_t keys;     /* at OK: the offset of the first key */
     size_t values;   /* at OK: the offset of the first value, which is that of the first key */
     size_t left;     /* at OK: how many bytes of the input follow the last value */
-    size_t first;    /* at REPEATED: the index of the earlier of two pairs with the same value */
-    size_t second;   /* at REPEATED: that of the later, the least index whose value stands earlier */
+    size_t first;    /* at REPEATED_VALUE: the index of the earlier of two pairs with the same value */
+    size_t second;   /* at REPEATED_VALUE: that of the later, the least index whose value stands earlier */
 } commonware_bimap_view;
 
 /* Decodes a bimap of `least` to `most` pairs at the start of the input: a map of which no two values
  * are the same. All is as commonware_map_read has it, and a map that it refuses has the same first
  * fault (decoding error) here. Of a map, ROOM where `room` has fewer indices than there are pairs;
- * else REPEATED where two values are the same, and OK where all differ.
+ * else REPEATED_VALUE where two values are the same, and OK where all differ.
  *
  * `room` is for indices, and its length is in indices; what it holds before the call doesn't matter.
  * After OK its first `count` are the indices of the pairs in the order of their values, by which a key is
- * found by its value in O(log n) comparisons; what follows them stays. After REPEATED its first indices,
+ * found by its value in O(log n) comparisons; what follows them stays. After REPEATED_VALUE its first indices,
  * as many as there are pairs, are in this order too, those of the same value in their own order. At every
  * other status `room` is as it was. How many it takes is told by a call with `room_length` 0. It takes
  * O(n log n) comparisons. Never MEMORY. */

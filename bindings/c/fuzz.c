@@ -291,7 +291,7 @@ static void try_pairs(commonware_map_view map, size_t value_size, commonware_bim
             }
         }
     }
-    REQUIRE(view.status == (second < map.count ? COMMONWARE_REPEATED : COMMONWARE_OK));
+    REQUIRE(view.status == (second < map.count ? COMMONWARE_REPEATED_VALUE : COMMONWARE_OK));
     if (view.status == COMMONWARE_OK) {
         REQUIRE(view.count == map.count && view.keys == map.keys && view.values == map.values);
         REQUIRE(view.left == map.left && view.first == 0 && view.second == 0);

@@ -116,14 +116,14 @@ static void test_repeated(void) {
     const uint8_t bytes[] = {5, 1, 2, 3, 4, 5, 5, 7, 7, 6, 6, 5, 5, 6, 6, 7, 7};
     memset(room, 0xee, sizeof room);
     CHECK(IS(commonware_bimap_read(1, 2, OF(bytes), 0, 9, OF(room)),
-             .status = COMMONWARE_REPEATED, .first = 1, .second = 3));
+             .status = COMMONWARE_REPEATED_VALUE, .first = 1, .second = 3));
     CHECK(room[0] == 2 && room[1] == 1 && room[2] == 3 && room[3] == 0 && room[4] == 4);
     CHECK(stays_from(room, 5, 6));
     CHECK(IS(commonware_bimap_read(1, 2, OF(bytes), 0, 9, room, 4),
              .status = COMMONWARE_ROOM, .number = 5));
     /* Values of no bytes are the same, and keys of no bytes are one. */
     CHECK(IS(commonware_bimap_read(1, 0, OF(bytes), 0, 9, OF(room)),
-             .status = COMMONWARE_REPEATED, .first = 0, .second = 1));
+             .status = COMMONWARE_REPEATED_VALUE, .first = 0, .second = 1));
     const uint8_t one[] = {1, 1};
     CHECK(IS(commonware_bimap_read(0, 0, OF(one), 0, 9, OF(room)), .count = 1, .keys = 1, .values = 2));
     CHECK(room[0] == 0);
@@ -175,7 +175,7 @@ static void test_many(void) {
         memcpy(kept, later, 20);
         memcpy(later, bytes + values + 20 * places[i][0], 20);
         CHECK(IS(commonware_bimap_read(32, 20, bytes, length, 0, 1000, room, count),
-                 .status = COMMONWARE_REPEATED, .first = places[i][0], .second = places[i][1]));
+                 .status = COMMONWARE_REPEATED_VALUE, .first = places[i][0], .second = places[i][1]));
         memcpy(later, kept, 20);
     }
     CHECK(IS(commonware_bimap_read(32, 20, bytes, length, 0, 1000, room + 1, count - 1),

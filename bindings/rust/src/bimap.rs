@@ -14,28 +14,28 @@ use std::ops::RangeInclusive;
 /// its value too; the keys and values themselves aren't copied. Every number is a size.
 ///
 /// ```
-/// use commonware_proved::{BimapError, BimapView};
+/// use commonware_proved::{BiMapError, BiMapView};
 ///
 /// // From two keys of 48 bytes, as keys of BLS12-381 in G1 have, to identities of 32.
 /// let (keys, ids) = ([[0xa0; 48], [0xb0; 48]], [[9; 32], [7; 32]]);
 /// let bytes = [&[2][..], keys.as_flattened(), &[2], ids.as_flattened()].concat();
-/// let members = BimapView::whole(48, 32, &bytes)?;
+/// let members = BiMapView::whole(48, 32, &bytes)?;
 /// assert_eq!(members.get(&keys[1]), Some(&ids[1][..]));
 /// assert_eq!(members.key_of(&ids[0]), Some(&keys[0][..]));
 /// assert_eq!(members.key_of(&[8; 32]), None);
 ///
 /// let twice = [&[2][..], keys.as_flattened(), &[2], &[9; 64]].concat();
-/// let repeated = BimapError::Repeated { first: 0, second: 1 };
-/// assert_eq!(BimapView::whole(48, 32, &twice), Err(repeated));
-/// # Ok::<(), BimapError>(())
+/// let repeated = BiMapError::Repeated { first: 0, second: 1 };
+/// assert_eq!(BiMapView::whole(48, 32, &twice), Err(repeated));
+/// # Ok::<(), BiMapError>(())
 /// ```
 #[derive(Clone, Debug, PartialEq, Eq, Hash)]
-pub struct BimapView<'a> {
+pub struct BiMapView<'a> {
     pairs: MapView<'a>,
     by_value: Vec<u32>,
 }
 
-impl<'a> BimapView<'a> {
+impl<'a> BiMapView<'a> {
     /// Decodes the bimap of keys of `key_size` bytes and values of `value_size` at the start of the
     /// input, whose number of pairs is in the range, and returns what follows it. It takes
     /// O(n log n) comparisons, and memory for an index of each pair: the first of two calls of the
@@ -46,19 +46,19 @@ impl<'a> BimapView<'a> {
     /// `Refused` with what [`MapView::read`] returns, or with `Memory`; else `Repeated`.
     ///
     /// ```
-    /// # use commonware_proved::{BimapError, BimapView, Refusal};
-    /// let (bimap, rest) = BimapView::read(1, 2, &[1, 7, 1, 8, 9, 5], 1..=256)?;
+    /// # use commonware_proved::{BiMapError, BiMapView, Refusal};
+    /// let (bimap, rest) = BiMapView::read(1, 2, &[1, 7, 1, 8, 9, 5], 1..=256)?;
     /// assert_eq!((bimap.len(), rest), (1, &[5][..]));
-    /// let length = BimapError::Refused(Refusal::InvalidLength(2));
-    /// assert_eq!(BimapView::read(1, 2, &[1, 7, 2, 8, 9], 0..=9), Err(length));
-    /// # Ok::<(), BimapError>(())
+    /// let length = BiMapError::Refused(Refusal::InvalidLength(2));
+    /// assert_eq!(BiMapView::read(1, 2, &[1, 7, 2, 8, 9], 0..=9), Err(length));
+    /// # Ok::<(), BiMapError>(())
     /// ```
     pub fn read(
         key_size: usize,
         value_size: usize,
         input: &'a [u8],
         sizes: RangeInclusive<usize>,
-    ) -> Result<(BimapView<'a>, &'a [u8]), BimapError> {
+    ) -> Result<(BiMapView<'a>, &'a [u8]), BiMapError> {
         let read_with = |room: &mut [u32]| {
             // SAFETY: each pointer and the length after it are those of one slice; both are
             // borrowed for the call.
@@ -87,9 +87,9 @@ impl<'a> BimapView<'a> {
                 let values = List::new(value_size, view.count, input, view.values);
                 let pairs = MapView::of(keys, values);
                 let rest = &input[input.len() - view.left..];
-                Ok((BimapView { pairs, by_value }, rest))
+                Ok((BiMapView { pairs, by_value }, rest))
             }
-            status::REPEATED => Err(BimapError::Repeated {
+            status::REPEATED_VALUE => Err(BiMapError::Repeated {
                 first: view.first,
                 second: view.second,
             }),
@@ -101,21 +101,21 @@ impl<'a> BimapView<'a> {
     ///
     /// # Errors
     ///
-    /// Those of [`BimapView::read`], or `Refused` with `LeftOver`.
+    /// Those of [`BiMapView::read`], or `Refused` with `LeftOver`.
     ///
     /// ```
-    /// # use commonware_proved::{BimapError, BimapView, Refusal};
-    /// assert_eq!(BimapView::whole(1, 2, &[1, 7, 1, 8, 9])?.len(), 1);
-    /// let left_over = BimapError::Refused(Refusal::LeftOver(1));
-    /// assert_eq!(BimapView::whole(1, 1, &[1, 7, 1, 8, 9]), Err(left_over));
-    /// # Ok::<(), BimapError>(())
+    /// # use commonware_proved::{BiMapError, BiMapView, Refusal};
+    /// assert_eq!(BiMapView::whole(1, 2, &[1, 7, 1, 8, 9])?.len(), 1);
+    /// let left_over = BiMapError::Refused(Refusal::LeftOver(1));
+    /// assert_eq!(BiMapView::whole(1, 1, &[1, 7, 1, 8, 9]), Err(left_over));
+    /// # Ok::<(), BiMapError>(())
     /// ```
     pub fn whole(
         key_size: usize,
         value_size: usize,
         input: &'a [u8],
-    ) -> Result<BimapView<'a>, BimapError> {
-        match BimapView::read(key_size, value_size, input, 0..=usize::MAX)? {
+    ) -> Result<BiMapView<'a>, BiMapError> {
+        match BiMapView::read(key_size, value_size, input, 0..=usize::MAX)? {
             (bimap, []) => Ok(bimap),
             (_, rest) => Err(Refusal::LeftOver(rest.len()).into()),
         }
@@ -124,9 +124,9 @@ impl<'a> BimapView<'a> {
     /// Returns how many pairs there are.
     ///
     /// ```
-    /// # use commonware_proved::BimapView;
-    /// assert_eq!(BimapView::whole(1, 1, &[2, 5, 7, 2, 0, 1])?.len(), 2);
-    /// # Ok::<(), commonware_proved::BimapError>(())
+    /// # use commonware_proved::BiMapView;
+    /// assert_eq!(BiMapView::whole(1, 1, &[2, 5, 7, 2, 0, 1])?.len(), 2);
+    /// # Ok::<(), commonware_proved::BiMapError>(())
     /// ```
     #[must_use]
     pub fn len(&self) -> usize {
@@ -136,9 +136,9 @@ impl<'a> BimapView<'a> {
     /// Whether there are no pairs.
     ///
     /// ```
-    /// # use commonware_proved::BimapView;
-    /// assert!(BimapView::whole(1, 1, &[0, 0])?.is_empty());
-    /// # Ok::<(), commonware_proved::BimapError>(())
+    /// # use commonware_proved::BiMapView;
+    /// assert!(BiMapView::whole(1, 1, &[0, 0])?.is_empty());
+    /// # Ok::<(), commonware_proved::BiMapError>(())
     /// ```
     #[must_use]
     pub fn is_empty(&self) -> bool {
@@ -148,10 +148,10 @@ impl<'a> BimapView<'a> {
     /// Returns the pairs as a map.
     ///
     /// ```
-    /// # use commonware_proved::BimapView;
-    /// let map = BimapView::whole(1, 1, &[2, 5, 7, 2, 60, 40])?.as_map();
+    /// # use commonware_proved::BiMapView;
+    /// let map = BiMapView::whole(1, 1, &[2, 5, 7, 2, 60, 40])?.as_map();
     /// assert_eq!(map.value(1), Some(&[40][..]));
-    /// # Ok::<(), commonware_proved::BimapError>(())
+    /// # Ok::<(), commonware_proved::BiMapError>(())
     /// ```
     #[must_use]
     pub fn as_map(&self) -> MapView<'a> {
@@ -161,10 +161,10 @@ impl<'a> BimapView<'a> {
     /// Returns the keys.
     ///
     /// ```
-    /// # use commonware_proved::BimapView;
-    /// let bimap = BimapView::whole(1, 1, &[2, 5, 7, 2, 0, 1])?;
+    /// # use commonware_proved::BiMapView;
+    /// let bimap = BiMapView::whole(1, 1, &[2, 5, 7, 2, 0, 1])?;
     /// assert_eq!(bimap.keys().as_bytes(), [5, 7]);
-    /// # Ok::<(), commonware_proved::BimapError>(())
+    /// # Ok::<(), commonware_proved::BiMapError>(())
     /// ```
     #[must_use]
     pub fn keys(&self) -> SetView<'a> {
@@ -174,10 +174,10 @@ impl<'a> BimapView<'a> {
     /// Returns the values in the order of their keys.
     ///
     /// ```
-    /// # use commonware_proved::BimapView;
-    /// let bimap = BimapView::whole(1, 1, &[2, 5, 7, 2, 60, 40])?;
+    /// # use commonware_proved::BiMapView;
+    /// let bimap = BiMapView::whole(1, 1, &[2, 5, 7, 2, 60, 40])?;
     /// assert!(bimap.values().eq([[60], [40]]));
-    /// # Ok::<(), commonware_proved::BimapError>(())
+    /// # Ok::<(), commonware_proved::BiMapError>(())
     /// ```
     #[must_use]
     pub fn values(&self) -> Items<'a> {
@@ -187,10 +187,10 @@ impl<'a> BimapView<'a> {
     /// Returns the value of a key, or `None` where the key isn't there, in O(log n) comparisons.
     ///
     /// ```
-    /// # use commonware_proved::BimapView;
-    /// let bimap = BimapView::whole(1, 1, &[2, 5, 7, 2, 60, 40])?;
+    /// # use commonware_proved::BiMapView;
+    /// let bimap = BiMapView::whole(1, 1, &[2, 5, 7, 2, 60, 40])?;
     /// assert_eq!((bimap.get(&[7]), bimap.get(&[40])), (Some(&[40][..]), None));
-    /// # Ok::<(), commonware_proved::BimapError>(())
+    /// # Ok::<(), commonware_proved::BiMapError>(())
     /// ```
     #[must_use]
     pub fn get(&self, key: &[u8]) -> Option<&'a [u8]> {
@@ -201,10 +201,10 @@ impl<'a> BimapView<'a> {
     /// comparisons.
     ///
     /// ```
-    /// # use commonware_proved::BimapView;
-    /// let bimap = BimapView::whole(1, 1, &[2, 5, 7, 2, 60, 40])?;
+    /// # use commonware_proved::BiMapView;
+    /// let bimap = BiMapView::whole(1, 1, &[2, 5, 7, 2, 60, 40])?;
     /// assert_eq!((bimap.index_of_value(&[40]), bimap.index_of_value(&[41])), (Some(1), None));
-    /// # Ok::<(), commonware_proved::BimapError>(())
+    /// # Ok::<(), commonware_proved::BiMapError>(())
     /// ```
     #[must_use]
     pub fn index_of_value(&self, value: &[u8]) -> Option<usize> {
@@ -217,10 +217,10 @@ impl<'a> BimapView<'a> {
     /// Returns the key of a value, or `None` where the value isn't there, in O(log n) comparisons.
     ///
     /// ```
-    /// # use commonware_proved::BimapView;
-    /// let bimap = BimapView::whole(1, 1, &[2, 5, 7, 2, 60, 40])?;
+    /// # use commonware_proved::BiMapView;
+    /// let bimap = BiMapView::whole(1, 1, &[2, 5, 7, 2, 60, 40])?;
     /// assert_eq!((bimap.key_of(&[40]), bimap.key_of(&[7])), (Some(&[7][..]), None));
-    /// # Ok::<(), commonware_proved::BimapError>(())
+    /// # Ok::<(), commonware_proved::BiMapError>(())
     /// ```
     #[must_use]
     pub fn key_of(&self, value: &[u8]) -> Option<&'a [u8]> {
@@ -230,17 +230,17 @@ impl<'a> BimapView<'a> {
     /// Returns the pairs in the order of their keys.
     ///
     /// ```
-    /// # use commonware_proved::BimapView;
-    /// let bimap = BimapView::whole(1, 1, &[2, 5, 7, 2, 60, 40])?;
+    /// # use commonware_proved::BiMapView;
+    /// let bimap = BiMapView::whole(1, 1, &[2, 5, 7, 2, 60, 40])?;
     /// assert_eq!(bimap.iter().next_back(), Some((&[7][..], &[40][..])));
-    /// # Ok::<(), commonware_proved::BimapError>(())
+    /// # Ok::<(), commonware_proved::BiMapError>(())
     /// ```
     pub fn iter(&self) -> Zip<Items<'a>, Items<'a>> {
         self.pairs.iter()
     }
 }
 
-impl<'a> IntoIterator for &BimapView<'a> {
+impl<'a> IntoIterator for &BiMapView<'a> {
     type Item = (&'a [u8], &'a [u8]);
     type IntoIter = Zip<Items<'a>, Items<'a>>;
 
@@ -252,15 +252,15 @@ impl<'a> IntoIterator for &BimapView<'a> {
 /// Why an input is no bimap.
 ///
 /// ```
-/// use commonware_proved::{BimapError, BimapView};
+/// use commonware_proved::{BiMapError, BiMapView};
 ///
 /// // Three keys from 5 on, of which the third has the value of the first.
-/// let error = BimapView::whole(1, 1, &[3, 5, 6, 7, 3, 0, 1, 0]).unwrap_err();
-/// assert_eq!(error, BimapError::Repeated { first: 0, second: 2 });
+/// let error = BiMapView::whole(1, 1, &[3, 5, 6, 7, 3, 0, 1, 0]).unwrap_err();
+/// assert_eq!(error, BiMapError::Repeated { first: 0, second: 2 });
 /// assert_eq!(error.to_string(), "pairs 0 and 2 have the same value");
 /// ```
 #[derive(Clone, Copy, Debug, PartialEq, Eq, Hash)]
-pub enum BimapError {
+pub enum BiMapError {
     /// The input is no map, or an allocation failed.
     Refused(Refusal),
     /// Two pairs of the map have the same value.
@@ -272,21 +272,21 @@ pub enum BimapError {
     },
 }
 
-impl From<Refusal> for BimapError {
-    fn from(refusal: Refusal) -> BimapError {
-        BimapError::Refused(refusal)
+impl From<Refusal> for BiMapError {
+    fn from(refusal: Refusal) -> BiMapError {
+        BiMapError::Refused(refusal)
     }
 }
 
-impl fmt::Display for BimapError {
+impl fmt::Display for BiMapError {
     fn fmt(&self, f: &mut fmt::Formatter<'_>) -> fmt::Result {
         match self {
-            BimapError::Refused(refusal) => refusal.fmt(f),
-            BimapError::Repeated { first, second } => {
+            BiMapError::Refused(refusal) => refusal.fmt(f),
+            BiMapError::Repeated { first, second } => {
                 write!(f, "pairs {first} and {second} have the same value")
             }
         }
     }
 }
 
-impl Error for BimapError {}
+impl Error for BiMapError {}

@@ -39,7 +39,7 @@ mod room;
 mod set;
 mod status;
 
-pub use bimap::{BimapError, BimapView};
+pub use bimap::{BiMapError, BiMapView};
 pub use certificate::Certificate;
 pub use check::{CheckError, Checked, check};
 pub use committee::{Committee, MEMBER_SIZE, Member};

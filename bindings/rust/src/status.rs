@@ -16,5 +16,5 @@ pub const NO_SLOT: u32 = 14;
 pub const OTHER_SLOT: u32 = 15;
 pub const NO_SIZE: u32 = 16;
 pub const NOT_WHOLE: u32 = 17;
-pub const REPEATED: u32 = 18;
+pub const REPEATED_VALUE: u32 = 18;
 pub const REPEATED_KEY: u32 = 19;

@@ -10,13 +10,13 @@ mod raw;
 use common::naive::{read_varint, varint};
 use common::random::{Random, spoil};
 use common::seen::{Seen, name};
-use commonware_proved::{BimapError, BimapView, Member, Refusal};
+use commonware_proved::{BiMapError, BiMapView, Member, Refusal};
 use std::collections::HashMap;
 use std::env;
 
 /// Statuses of the library.
 const ROOM: u32 = 11;
-const REPEATED: u32 = 18;
+const REPEATED_VALUE: u32 = 18;
 
 /// What a place of a room has before a call.
 const BEFORE: u32 = 0xeeee_eeee;
@@ -140,7 +140,7 @@ fn expected(
     }
     room[..count].copy_from_slice(&by_value(&map.values));
     if let Some(repeat) = first_repeat(&map.values) {
-        return ((REPEATED, 0), [0; 4], repeat, room);
+        return ((REPEATED_VALUE, 0), [0; 4], repeat, room);
     }
     let keys = varint(count as u64).len();
     let values = input.len() - map.rest.len() - count * sizes.1;
@@ -163,16 +163,16 @@ fn try_bimap(
         let expected = expected(sizes, input, &map, places);
         assert_eq!(found, expected, "{places} {}", case());
     }
-    let ours = BimapView::read(sizes.0, sizes.1, input, limits.0..=limits.1);
+    let ours = BiMapView::read(sizes.0, sizes.1, input, limits.0..=limits.1);
     let map = match map {
         Ok(map) => map,
         Err(refusal) => {
-            assert_eq!(ours, Err(BimapError::Refused(refusal)), "{}", case());
+            assert_eq!(ours, Err(BiMapError::Refused(refusal)), "{}", case());
             return name(&refusal);
         }
     };
     if let Some((first, second)) = first_repeat(&map.values) {
-        let repeated = BimapError::Repeated { first, second };
+        let repeated = BiMapError::Repeated { first, second };
         assert_eq!(ours, Err(repeated), "{}", case());
         return "repeated";
     }
@@ -284,7 +284,7 @@ fn try_many(sizes: (usize, usize), count: usize, repeats: &[(usize, usize)]) {
         let kept = bytes[at..at + sizes.1].to_vec();
         bytes.copy_within(to..to + sizes.1, at);
         let (status, _, repeat, _) = read(&bytes);
-        assert_eq!((status, repeat), ((REPEATED, 0), (first, second)));
+        assert_eq!((status, repeat), ((REPEATED_VALUE, 0), (first, second)));
         bytes[at..at + sizes.1].copy_from_slice(&kept);
     }
 }
@@ -339,7 +339,7 @@ fn the_repeat_with_the_least_second_index_is_told() {
         let keys: Vec<u8> = (0..count).collect();
         let bytes = [&[count][..], &keys, &[count], values].concat();
         let (first, second) = repeat;
-        let repeated = BimapError::Repeated { first, second };
-        assert_eq!(BimapView::whole(1, 1, &bytes), Err(repeated), "{values:?}");
+        let repeated = BiMapError::Repeated { first, second };
+        assert_eq!(BiMapView::whole(1, 1, &bytes), Err(repeated), "{values:?}");
     }
 }

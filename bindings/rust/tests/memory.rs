@@ -3,7 +3,7 @@
 //! The three functions of the heap are defined here, in place of those of the archive.
 
 use commonware_proved::{
-    BimapError, BimapView, Certificate, CheckError, Committee, ConflictError, EncodeError,
+    BiMapError, BiMapView, Certificate, CheckError, Committee, ConflictError, EncodeError,
     EquivocationError, FaultModel, MapView, Refusal, Set, SetView, check, conflict, equivocation,
     slot_value,
 };
@@ -145,11 +145,11 @@ fn reading_bimaps_allocates_nothing_in_the_library() {
     let lists: Vec<u8> = (0..100u8).flat_map(|i| [i; 48]).collect();
     let (half, values) = ([&[100][..], &lists].concat(), (0..100u8).rev());
     let mut bytes: Vec<u8> = half.iter().copied().chain([100]).chain(values).collect();
-    let memory = BimapError::Refused(Refusal::Memory);
-    let requests = refuse_each(&memory, || BimapView::whole(48, 1, &bytes).map(drop));
+    let memory = BiMapError::Refused(Refusal::Memory);
+    let requests = refuse_each(&memory, || BiMapView::whole(48, 1, &bytes).map(drop));
     assert_eq!(requests, 0);
     *bytes.last_mut().unwrap() = 99;
-    let repeated = || BimapView::whole(48, 1, &bytes).map(drop).err().ok_or(());
+    let repeated = || BiMapView::whole(48, 1, &bytes).map(drop).err().ok_or(());
     assert_eq!(refuse_each(&(), repeated), 0);
 }
 

@@ -40,8 +40,8 @@ RepeatsKey key_size rows index =
     × (take key_size other ≡ take key_size row)
 
 -- the index is that of the first row that has the key of an earlier one
-abbrev pub IsFirstRepeat : ℕ → List (List ℕ) → ℕ → Type 0
-IsFirstRepeat key_size rows index =
+abbrev pub IsFirstRepeatedKey : ℕ → List (List ℕ) → ℕ → Type 0
+IsFirstRepeatedKey key_size rows index =
     RepeatsKey key_size rows index × ((i : ℕ) → i < index → ¬ RepeatsKey key_size rows i)
 
 -- no row has the key of an earlier one, and the pairs are those of all rows, in the order of their keys

@@ -12,7 +12,7 @@ ghost use Rattle.commonware_c.specs.Bimaps.{BeginsWithMap, IsSizedBiMapOf};
 ghost use Rattle.commonware_c.specs.Committees.{between};
 ghost use Rattle.commonware_c.specs.Status.{IsRefusedWith};
 
-use crate::statuses::{OK, REPEATED, ROOM, status_of};
+use crate::statuses::{OK, REPEATED_VALUE, ROOM, status_of};
 use commonware_base::codec::{EncodeSize, RangeCfg, Source, UInt};
 use commonware_views::MapView;
 
@@ -160,7 +160,7 @@ fn repeated(first: usize, second: usize) -> BimapView
       second = second;
     } }
 {
-    let mut view = refused(REPEATED, 0);
+    let mut view = refused(REPEATED_VALUE, 0);
     view.first = first;
     view.second = second;
     view

@@ -59,7 +59,7 @@ pub(crate) const NO_SIZE: u32 = 16;
 pub(crate) const NOT_WHOLE: u32 = 17;
 
 /// Two pairs have the same value.
-pub(crate) const REPEATED: u32 = 18;
+pub(crate) const REPEATED_VALUE: u32 = 18;
 
 /// A row has the key of an earlier one.
 pub(crate) const REPEATED_KEY: u32 = 19;

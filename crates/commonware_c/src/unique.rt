@@ -7,7 +7,7 @@ ghost use Rattle.commonware_ordered.specs.Strict.{IsStrict};
 ghost use Rattle.commonware_sequence.specs.FixedBytes.{bytes_cmp, own_bytes};
 ghost use Rattle.commonware_views.specs.Lists.{AreItemsOf};
 ghost use Rattle.commonware_views.specs.laws.ItemLaws.{AreLong};
-ghost use Rattle.commonware_c.specs.Pairs.{AreAllPairs, IsFirstRepeat, IsMapOfAll, RepeatsKey, referred};
+ghost use Rattle.commonware_c.specs.Pairs.{AreAllPairs, IsFirstRepeatedKey, IsMapOfAll, RepeatsKey, referred};
 ghost use Rattle.commonware_c.specs.Splices.{spliced};
 
 use crate::pairs::{key_and_value, rows_of, write_map};
@@ -42,7 +42,7 @@ pub extern "C" fn commonware_map_write_unique(
         × (result.number ≡ length rows) × (2 ^ 32 ≤ length rows) }
     ensures repeated { result.status ≡ 19 → (rows : List (List ℕ))
         × AreItemsOf (key_size + value_size) pairs.now rows
-        × IsFirstRepeat key_size rows result.number }
+        × IsFirstRepeatedKey key_size rows result.number }
     ensures exactly { key_size ≢ 0 → result.status ≢ 5 → (rows : List (List ℕ))
         → AreItemsOf (key_size + value_size) pairs.now rows
         → (result.status ≡ 19) ↔ ((index : ℕ) × RepeatsKey key_size rows index) }
@@ -86,7 +86,7 @@ fn write_all_rows(
     ensures long { result.status ≡ 3 → (map : List (List ℕ × List ℕ))
         × AreAllPairs key_size rows.now map
         × (result.number ≡ length rows.now) × (2 ^ 32 ≤ length rows.now) }
-    ensures repeated { result.status ≡ 19 → IsFirstRepeat key_size rows.now result.number }
+    ensures repeated { result.status ≡ 19 → IsFirstRepeatedKey key_size rows.now result.number }
     ensures exactly { result.status ≢ 5
         → (result.status ≡ 19) ↔ ((index : ℕ) × RepeatsKey key_size rows.now index) }
     ensures else_memory { result.status ≢ 0 → result.status ≢ 11 → result.status ≢ 3
@@ -112,7 +112,7 @@ fn map_of_all<'a>(
 ) -> Result<Result<Map<&'a [u8], &'a [u8], Global>, usize>, AllocError>
     ensures { IfOk result (λ made. MatchResult made
         (λ pairs. AreAllPairs key_size rows.now (referred pairs))
-        (IsFirstRepeat key_size rows.now)) }
+        (IsFirstRepeatedKey key_size rows.now)) }
 {
     let mut entries = SortedEntries::with_room(alloc, rows.len())?;
     let mut index = 0;

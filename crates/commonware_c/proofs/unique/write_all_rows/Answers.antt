@@ -1,13 +1,13 @@
 use Rattle.std.proofs.Common.{◌≡◌, ◌∙◌, ◌≤◌, ◌^◌, length, arith, ap, sym, subst, inl, inr, Bor, List, ℕ}
 use Rattle.std.specs.Prelude.{MatchResult, Result}
 use Rattle.std.proofs.lemmas.List.{length-map}
-use Rattle.commonware_c.specs.Pairs.{AreAllPairs, IsFirstRepeat, referred}
+use Rattle.commonware_c.specs.Pairs.{AreAllPairs, IsFirstRepeatedKey, referred}
 use Rattle.commonware_c.proofs.Repeats.{as_many, each_first, map_of_all}
 use Rattle.commonware_c.proofs.unique.write_all_rows.Goals as goal
 
 -- what is made of the rows
 abbrev IsMade : ℕ → List (List ℕ) → Result (List (Bor (List ℕ) × Bor (List ℕ))) ℕ → Type 0
-IsMade ks rows made = MatchResult made (λ pairs. AreAllPairs ks rows (referred pairs)) (IsFirstRepeat ks rows)
+IsMade ks rows made = MatchResult made (λ pairs. AreAllPairs ks rows (referred pairs)) (IsFirstRepeatedKey ks rows)
 
 pub write_map-requires-clause-firsts : goal.write_map-requires-clause-firsts
 write_map-requires-clause-firsts c = each_first c.args.key_size c.args.rows.now (referred c.in-Ok-Ok.map) (subst (IsMade c.args.key_size c.args.rows.now) c.in-Ok-Ok.field-0-is c.in-Ok-Ok.ensures)
@@ -40,4 +40,4 @@ returns-in-Ok-Ok-clause-exactly c = λ _. (
 )
 
 pub returns-in-Ok-Err-clause-repeated : goal.returns-in-Ok-Err-clause-repeated
-returns-in-Ok-Err-clause-repeated c = λ _. subst (IsFirstRepeat c.args.key_size c.args.rows.now) (sym (ap (λ v. v.number) c.refused.ensures)) (subst (IsMade c.args.key_size c.args.rows.now) c.in-Ok-Err.field-0-is c.in-Ok-Err.ensures)
+returns-in-Ok-Err-clause-repeated c = λ _. subst (IsFirstRepeatedKey c.args.key_size c.args.rows.now) (sym (ap (λ v. v.number) c.refused.ensures)) (subst (IsMade c.args.key_size c.args.rows.now) c.in-Ok-Err.field-0-is c.in-Ok-Err.ensures)
