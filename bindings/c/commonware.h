@@ -210,7 +210,8 @@ commonware_map_view commonware_map_read(
 
 /* A bimap of keys of one size and values of another at the start of the input. */
 typedef struct {
-    uint32_t status; /* OK, END_OF_INPUT, INVALID_VARINT, INVALID_LENGTH, NOT_STRICT, ROOM or REPEATED_VALUE */
+    uint32_t status; /* OK, END_OF_INPUT, INVALID_VARINT, INVALID_LENGTH, NOT_STRICT, ROOM or
+                      * REPEATED_VALUE */
     uint32_t count;  /* at OK: how many pairs there are */
     size_t number;   /* at INVALID_LENGTH: the stated length, of the keys or the values; at ROOM: how
                       * many indices `room` has to have, which is the number of pairs */
@@ -218,7 +219,7 @@ typedef struct {
     size_t values;   /* at OK: the offset of the first value, which is that of the first key */
     size_t left;     /* at OK: how many bytes of the input follow the last value */
     size_t first;    /* at REPEATED_VALUE: the index of the earlier of two pairs with the same value */
-    size_t second;   /* at REPEATED_VALUE: that of the later, the least index whose value stands earlier */
+    size_t second;   /* at REPEATED_VALUE: that of the later, the least whose value stands earlier */
 } commonware_bimap_view;
 
 /* Decodes a bimap of `least` to `most` pairs at the start of the input: a map of which no two values
@@ -228,10 +229,10 @@ typedef struct {
  *
  * `room` is for indices, and its length is in indices; what it holds before the call doesn't matter.
  * After OK its first `count` are the indices of the pairs in the order of their values, by which a key is
- * found by its value in O(log n) comparisons; what follows them stays. After REPEATED_VALUE its first indices,
- * as many as there are pairs, are in this order too, those of the same value in their own order. At every
- * other status `room` is as it was. How many it takes is told by a call with `room_length` 0. It takes
- * O(n log n) comparisons. Never MEMORY. */
+ * found by its value in O(log n) comparisons; what follows them stays. After REPEATED_VALUE its first
+ * indices, as many as there are pairs, are in this order too, those of the same value in their own order.
+ * At every other status `room` is as it was. How many it takes is told by a call with `room_length` 0. It
+ * takes O(n log n) comparisons. Never MEMORY. */
 commonware_bimap_view commonware_bimap_read(
     size_t key_size, size_t value_size, const uint8_t *input, size_t input_length, size_t least,
     size_t most, uint32_t *room, size_t room_length);
