@@ -1,10 +1,7 @@
 //! The encoding of a bimap of keys and values, each of one size, decoded in place.
-ghost use Rattle.std.specs.Prelude.{◌≡◌, ◌≢◌, ◌↔◌, ◌⊎◌, ◌+◌, ◌-◌, ◌*◌, ◌^◌, ◌<◌, ◌≤◌, ℕ, List, drop, length, take};
-ghost use Rattle.std.specs.List.{flat_map};
+ghost use Rattle.std.specs.Prelude.{◌≡◌, ◌≢◌, ◌↔◌, ◌⊎◌, ◌+◌, ◌*◌, ◌^◌, ◌<◌, ◌≤◌, ℕ, List, drop, length, take};
 ghost use Rattle.std.specs.Map.{keys_of, values_of};
-ghost use Rattle.commonware_base.specs.Source.{position_of, rest_of};
 ghost use Rattle.commonware_base.specs.Varint.{varint};
-ghost use Rattle.commonware_sequence.specs.FixedBytes.{own_bytes};
 ghost use Rattle.commonware_views.specs.Lists.{StandBy};
 ghost use Rattle.commonware_views.specs.Maps.{sized_map_fault};
 ghost use Rattle.commonware_views.specs.Repeats.{AreInOrder, IsFirstRepeat};
@@ -12,9 +9,8 @@ ghost use Rattle.commonware_c.specs.Bimaps.{BeginsWithMap, IsSizedBiMapOf};
 ghost use Rattle.commonware_c.specs.Committees.{between};
 ghost use Rattle.commonware_c.specs.Status.{IsRefusedWith};
 
+use crate::maps::{MapAt, find_map};
 use crate::statuses::{OK, REPEATED_VALUE, ROOM, status_of};
-use commonware_base::codec::{EncodeSize, RangeCfg, Source, UInt};
-use commonware_views::MapView;
 
 /// A bimap of keys and values at the start of an input, for a caller in C.
 ///
@@ -104,13 +100,11 @@ pub extern "C" fn commonware_bimap_read(
     } }
     ensures no_memory { result.status ≢ 5 }
 {
-    let mut source = Source::new(input);
-    let range = RangeCfg::from(least..=most);
-    match MapView::read(&mut source, key_size, value_size, range) {
-        Ok(pairs) => match pairs.values().first_repeat(room) {
-            Ok(None) => view_of(&pairs, &source),
+    match find_map(key_size, value_size, input, least, most) {
+        Ok(found) => match found.pairs.values().first_repeat(room) {
+            Ok(None) => view_of(&found),
             Ok(Some((first, second))) => repeated(first, second),
-            Err(_) => refused(ROOM, pairs.len()),
+            Err(_) => refused(ROOM, found.pairs.len()),
         },
         Err(error) => {
             let (status, number) = status_of(&error);
@@ -119,29 +113,27 @@ pub extern "C" fn commonware_bimap_read(
     }
 }
 
-/// Returns the view of a bimap that ends where the source is.
-fn view_of(pairs: &MapView<'_>, source: &Source<'_>) -> BimapView
-    requires few { length pairs.now < 2 ^ 32 }
-    requires end { length (flat_map own_bytes (values_of pairs.now)) ≤ position_of source.now }
+/// Returns the view of a map whose values are distinct.
+fn view_of(found: &MapAt<'_>) -> BimapView
+    requires { length found.now.pairs < 2 ^ 32 }
     ensures { result ≡ record {
       status = 0;
-      count = length pairs.now;
+      count = length found.now.pairs;
       number = 0;
-      keys = length (varint (length pairs.now));
-      values = position_of source.now - length (flat_map own_bytes (values_of pairs.now));
-      left = length (rest_of source.now);
+      keys = found.now.keys;
+      values = found.now.values;
+      left = found.now.left;
       first = 0;
       second = 0;
     } }
 {
-    let count = pairs.len() as u32;
     BimapView {
         status: OK,
-        count,
+        count: found.pairs.len() as u32,
         number: 0,
-        keys: UInt(count).encode_size(),
-        values: source.position() - pairs.values().as_bytes().len(),
-        left: source.remaining(),
+        keys: found.keys,
+        values: found.values,
+        left: found.left,
         first: 0,
         second: 0,
     }

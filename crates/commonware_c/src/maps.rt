@@ -1,10 +1,12 @@
 //! The encoding of a map of keys and values, each of one size, decoded in place.
-ghost use Rattle.std.specs.Prelude.{◌≡◌, ◌≢◌, ◌↔◌, ◌+◌, ◌*◌, ℕ, List, length};
+ghost use Rattle.std.specs.Prelude.{◌≡◌, ◌≢◌, ◌↔◌, ◌+◌, ◌*◌, ℕ, IfErr, IfOk, IsOk, List, length};
 ghost use Rattle.std.specs.Map.{keys_of, values_of};
+ghost use Rattle.commonware_base.specs.Refusal.{Refuses};
 ghost use Rattle.commonware_base.specs.Varint.{varint};
 ghost use Rattle.commonware_views.specs.Lists.{StandBy};
 ghost use Rattle.commonware_views.specs.Maps.{IsSizedMapOf, sized_map_fault};
 ghost use Rattle.commonware_c.specs.Committees.{between};
+ghost use Rattle.commonware_c.specs.Maps.{IsMapAt};
 ghost use Rattle.commonware_c.specs.Status.{IsRefusedWith, number_of, status_of};
 
 use crate::statuses::{OK, status_of};
@@ -66,26 +68,55 @@ pub extern "C" fn commonware_map_read(
     } }
     ensures no_memory { result.status ≢ 5 }
 {
-    let mut source = Source::new(input);
-    match MapView::read(
-        &mut source,
-        key_size,
-        value_size,
-        RangeCfg::from(least..=most),
-    ) {
-        Ok(pairs) => {
-            let count = pairs.len() as u32;
-            PairsView {
-                status: OK,
-                count,
-                number: 0,
-                keys: UInt(count).encode_size(),
-                values: source.position() - pairs.values().as_bytes().len(),
-                left: source.remaining(),
-            }
-        }
+    match find_map(key_size, value_size, input, least, most) {
+        Ok(found) => PairsView {
+            status: OK,
+            count: found.pairs.len() as u32,
+            number: 0,
+            keys: found.keys,
+            values: found.values,
+            left: found.left,
+        },
         Err(error) => refused(&error),
     }
+}
+
+/// A map at the start of an input, and where its parts are.
+#[derive(Drop)]
+pub(crate) struct MapAt<'a> {
+    pub(crate) pairs: MapView<'a>,
+    pub(crate) keys: usize,
+    pub(crate) values: usize,
+    pub(crate) left: usize,
+}
+
+/// Finds the map of `least` to `most` pairs at the start of the input.
+pub(crate) fn find_map<'a>(
+    key_size: usize,
+    value_size: usize,
+    input: &'a [u8],
+    least: usize,
+    most: usize,
+) -> Result<MapAt<'a>, Error>
+    ensures found { IfOk result (λ found. IsMapAt key_size value_size (between least most)
+        input.now found.pairs found.keys found.values found.left) }
+    ensures refused { IfErr result
+        (Refuses (sized_map_fault key_size value_size (between least most) input.now) (Unit {0})) }
+    ensures exactly { IsOk result ↔ ((pairs : List (List ℕ × List ℕ)) × (rest : List ℕ)
+        × IsSizedMapOf key_size value_size (between least most) input.now pairs rest) }
+{
+    let mut source = Source::new(input);
+    let range = RangeCfg::from(least..=most);
+    let pairs = MapView::read(&mut source, key_size, value_size, range)?;
+    let keys = UInt(pairs.len() as u32).encode_size();
+    let values = source.position() - pairs.values().as_bytes().len();
+    let left = source.remaining();
+    Ok(MapAt {
+        pairs,
+        keys,
+        values,
+        left,
+    })
 }
 
 /// Returns the view of a refusal.
