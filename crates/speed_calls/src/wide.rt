@@ -11,62 +11,61 @@ use std::alloc::{AllocError, Global};
 use std::io::Write;
 use std::time::Clock;
 
-/// The names of the lines of items of one size.
-struct Names {
-    dedup: &'static str,
-    write: &'static str,
-    read: &'static str,
-    position: &'static str,
-}
-
-/// Those of items of 32 bytes, as hashes and Ed25519 keys are.
-const OF_32: Names = Names {
-    dedup: "wide_dedup",
-    write: "wide_write",
-    read: "wide_read",
-    position: "wide_position",
-};
-
-/// Those of items of 48 bytes, as keys of BLS12-381 are.
-const OF_48: Names = Names {
-    dedup: "wide48_dedup",
-    write: "wide48_write",
-    read: "wide48_read",
-    position: "wide48_position",
-};
-
-/// The lines of sets of items of 32 and of 48 bytes.
+/// The lines of sets of items of 32 bytes, as hashes and keys of Ed25519 have, and of 48, as keys of
+/// BLS12-381 in G1 have.
 pub(crate) fn time_wide<C: Clock, W: Write>(
     bench: &mut Bench<C, W>,
     numbers: &[u32],
     rounds: u64,
 ) -> Result<(), Failure> {
-    time_items::<32, C, W>(bench, &OF_32, numbers, rounds)?;
-    time_items::<48, C, W>(bench, &OF_48, numbers, rounds)
-}
-
-/// The lines of sets of items of N bytes that begin with the numbers: built, written, read, and
-/// looked up.
-fn time_items<const N: usize, C: Clock, W: Write>(
-    bench: &mut Bench<C, W>,
-    names: &Names,
-    numbers: &[u32],
-    rounds: u64,
-) -> Result<(), Failure>
-    requires { 4 ≤ N }
-{
     let alloc = bench.alloc();
-    let items: Vec<FixedBytes<N>> = numbers.iter().map(|number| wide(*number)).collect(alloc)?;
-    let work = Work::new(names.dedup, numbers.len(), rounds);
-    bench.line(work, 0, || Ok(set_of(alloc, &items)?.len() as u64))?;
-    let set = set_of(alloc, &items)?;
-    time_codec(bench, names, &set, rounds)?;
-    let work = Work {
-        name: names.position,
-        ..work
-    };
+    let items = items_of::<32>(alloc, numbers)?;
+    let names = ("wide_dedup", "wide_write");
+    let (set, bytes) = time_built(bench, names, &items, rounds)?;
+    let work = Work::new("wide_read", set.len(), rounds);
+    bench.line(work, 0, || count_read::<32>(alloc, &bytes))?;
+    let work = Work::new("wide_position", items.len(), rounds);
+    bench.folded(work, 0, |sum| Ok(sum_of_places(&set, &items, sum)))?;
+    let items = items_of::<48>(alloc, numbers)?;
+    let names = ("wide48_dedup", "wide48_write");
+    let (set, bytes) = time_built(bench, names, &items, rounds)?;
+    let work = Work::new("wide48_read", set.len(), rounds);
+    bench.line(work, 0, || count_read::<48>(alloc, &bytes))?;
+    let work = Work::new("wide48_position", items.len(), rounds);
     bench.folded(work, 0, |sum| Ok(sum_of_places(&set, &items, sum)))?;
     Ok(())
+}
+
+/// The lines of a set that is built of the items and written, by these names; and the set and its
+/// bytes.
+fn time_built<const N: usize, C: Clock, W: Write>(
+    bench: &mut Bench<C, W>,
+    names: (&'static str, &'static str),
+    items: &[FixedBytes<N>],
+    rounds: u64,
+) -> Result<(Set<FixedBytes<N>, Global>, Vec<u8>), Failure> {
+    let alloc = bench.alloc();
+    let work = Work::new(names.0, items.len(), rounds);
+    bench.line(work, 0, || Ok(set_of(alloc, items)?.len() as u64))?;
+    let set = set_of(alloc, items)?;
+    let bytes = written(alloc, &set)?;
+    let work = Work::new(names.1, set.len(), rounds);
+    bench.line(work, 0, || Ok(written(alloc, &set)?.len() as u64))?;
+    Ok((set, bytes))
+}
+
+/// The items that begin with the numbers.
+fn items_of<const N: usize>(
+    alloc: Global,
+    numbers: &[u32],
+) -> Result<Vec<FixedBytes<N>>, AllocError>
+    requires { 4 ≤ N }
+{
+    let mut items = Vec::new(alloc);
+    for number in numbers {
+        items.push(wide(*number))?;
+    }
+    Ok(items)
 }
 
 /// The item whose first four bytes are the number, the most significant first, and the rest zeros.
@@ -85,24 +84,10 @@ fn set_of<const N: usize>(
     Set::from_iter_dedup(alloc, items.iter().copied())
 }
 
-/// The lines of the set written and read.
-fn time_codec<const N: usize, C: Clock, W: Write>(
-    bench: &mut Bench<C, W>,
-    names: &Names,
-    set: &Set<FixedBytes<N>, Global>,
-    rounds: u64,
-) -> Result<(), Failure> {
-    let alloc = bench.alloc();
-    let bytes = written(alloc, set)?;
-    let work = Work::new(names.write, set.len(), rounds);
-    bench.line(work, 0, || Ok(written(alloc, set)?.len() as u64))?;
-    let work = Work::new(names.read, set.len(), rounds);
-    bench.line(work, 0, || count_read::<N>(alloc, &bytes))?;
-    Ok(())
-}
-
 /// How many items the set at the start of the bytes has, or 1 where they are refused.
-fn count_read<const N: usize>(alloc: Global, bytes: &[u8]) -> Result<u64, Failure> {
+fn count_read<const N: usize>(alloc: Global, bytes: &[u8]) -> Result<u64, Failure>
+    requires { N ≤ 96 }
+{
     let limits = (RangeCfg::from(..), ());
     match read::<Set<FixedBytes<N>, Global>>(alloc, bytes, &limits)? {
         Some(set) => Ok(set.len() as u64),

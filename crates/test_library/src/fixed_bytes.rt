@@ -10,6 +10,7 @@ use commonware_sequence::{FixedBytes, Prefixed, U64, bytes_order};
 use commonware_utils::codec::{Error, RangeCfg};
 use commonware_utils::ordered::{BiMap, Map, Set};
 use std::alloc::{AllocError, Global};
+use std::cmp::Ordering;
 use std::convert::AsSlice;
 use test_equipment::Refusing;
 use test_equipment::walk::{Heap, Outcome, Refusable, makes_requests, requests};
