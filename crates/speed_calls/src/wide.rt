@@ -11,8 +11,8 @@ use std::alloc::{AllocError, Global};
 use std::io::Write;
 use std::time::Clock;
 
-/// The lines of sets of items of 32 bytes, as hashes and keys of Ed25519 have, and of 48, as keys of
-/// BLS12-381 in G1 have.
+/// The lines of sets of items of 32 bytes, as hashes and keys of Ed25519 have, and of 48, as keys
+/// of BLS12-381 in G1 have.
 pub(crate) fn time_wide<C: Clock, W: Write>(
     bench: &mut Bench<C, W>,
     numbers: &[u32],
