@@ -323,6 +323,30 @@ fn more_than_65536_pairs_are_read() {
 }
 
 #[test]
+fn sizes_near_the_limits_have_a_result() {
+    let mut seen = Seen::default();
+    for bits in [8, 31, 32, 33, 59, 60, 61, 62, 63, 64] {
+        let power = if bits == 64 { 0 } else { 1usize << bits };
+        for more in [-2, -1, 0, 1, 2] {
+            let size = power.wrapping_add_signed(more);
+            for input in [
+                &[0, 0, 9][..],
+                &[1, 7, 1, 8],
+                &[1, 1, 8],
+                &[2, 5, 7, 2, 8, 8],
+                &[2, 5, 7, 2],
+                &[255, 255, 255, 255, 15, 1, 2],
+            ] {
+                for sizes in [(1, size), (size, 1), (size, size), (size, 0)] {
+                    seen.note(try_bimap(sizes, input, (0, usize::MAX), 2));
+                }
+            }
+        }
+    }
+    seen.assert_each(5, 5);
+}
+
+#[test]
 fn the_repeat_with_the_least_second_index_is_told() {
     // Of groups of equal values the one is told whose second member comes first, also where the first
     // member of another comes before, and where the value of another is less.

@@ -468,7 +468,7 @@ fn two_keys(size: usize, at: usize, bytes: (u8, u8), after: (u8, u8)) -> [Vec<u8
 
 #[test]
 fn each_byte_decides_which_key_is_less() {
-    let sizes = (1..=40).chain([47, 48, 49, 63, 64, 65, 95, 96, 97, 127, 128, 129, 300]);
+    let sizes = (1..=50).chain([63, 64, 65, 95, 96, 97, 127, 128, 129, 300]);
     for size in sizes {
         for at in 0..size {
             for bytes in [(0, 1), (0, 255), (1, 2), (127, 128), (254, 255)] {

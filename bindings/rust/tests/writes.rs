@@ -268,6 +268,42 @@ fn maps_are_written_as_by_a_stable_sort() {
     seen.assert_each(4, cases() / 100);
 }
 
+/// Returns numbers below `count` that repeat past the half, rising, falling or in no order.
+fn some_numbers(count: usize, way: usize) -> impl Iterator<Item = usize> {
+    let distinct = count / 2 + 1;
+    (0..count).map(move |i| match way {
+        0 => i % distinct,
+        1 => count - 1 - i % distinct,
+        _ => i * 7_919 % distinct,
+    })
+}
+
+#[test]
+fn many_keys_and_pairs_that_repeat_are_written() {
+    for count in [255, 256, 257, 513, 4_097, 65_537, 70_000, 140_000] {
+        for way in 0..3 {
+            let keys: Vec<u8> = some_numbers(count, way)
+                .flat_map(|number| numbered_key(20, number))
+                .collect();
+            let (set, distinct) = naive_set(20, &keys);
+            assert_eq!(distinct, count / 2 + 1);
+            assert_eq!(try_write(20, &keys, set.len()), "ok");
+            assert_eq!(try_write(20, &keys, set.len() - 1), "room");
+            // Each value is another, so that it tells which of the equal keys is written.
+            let pairs: Vec<u8> = (keys.chunks(20).zip(0..count as u32))
+                .flat_map(|(key, i)| [key, &i.to_be_bytes()].concat())
+                .collect();
+            let (map, _) = naive_map((20, 4), &pairs);
+            assert_eq!(try_map_write(&FIRSTS, (20, 4), &pairs, map.len()), "ok");
+            assert_eq!(
+                try_map_write(&FIRSTS, (20, 4), &pairs, map.len() - 1),
+                "room"
+            );
+            assert_eq!(try_unique((20, 4), &pairs, map.len()), "repeat");
+        }
+    }
+}
+
 #[test]
 fn sizes_of_pairs_whose_sum_wraps_have_a_result() {
     for sizes in [
@@ -275,6 +311,10 @@ fn sizes_of_pairs_whose_sum_wraps_have_a_result() {
         (usize::MAX, 1),
         (usize::MAX, usize::MAX),
         (1 << 63, 1 << 63),
+        // Sizes that are 0 and 1 where they are cut to 32 bits.
+        (1, 1 << 32),
+        (1 << 32, 1),
+        (1, (1 << 32) + 1),
     ] {
         assert_eq!(try_map_write(&FIRSTS, sizes, &[1, 2], 9), "not whole");
         assert_eq!(try_map_write(&FIRSTS, sizes, &[], 9), "ok");
@@ -395,7 +435,14 @@ fn the_first_repeat_among_many_pairs_is_told() {
 
 #[test]
 fn sizes_of_unique_pairs_whose_sum_wraps_have_a_result() {
-    for sizes in [(1, usize::MAX), (usize::MAX, 1), (1 << 63, 1 << 63)] {
+    for sizes in [
+        (1, usize::MAX),
+        (usize::MAX, 1),
+        (1 << 63, 1 << 63),
+        (1, 1 << 32),
+        (1 << 32, 1),
+        (1, (1 << 32) + 1),
+    ] {
         assert_eq!(try_unique(sizes, &[1, 1], 9), "not whole");
         assert_eq!(try_unique(sizes, &[], 9), "ok");
         assert_eq!(try_unique(sizes, &[], 1), "room");
