@@ -59,7 +59,7 @@ extern "C" {
 enum commonware_status {
     COMMONWARE_OK = 0,
     COMMONWARE_END_OF_INPUT = 1,   /* the input ends before the value does */
-    COMMONWARE_INVALID_VARINT = 2, /* longer than it has to be, or past 4294967295 */
+    COMMONWARE_INVALID_VARINT = 2, /* a varint is longer than it has to be, or past 4294967295 */
     COMMONWARE_INVALID_LENGTH = 3, /* the length `number` is out of range */
     COMMONWARE_NOT_STRICT = 4,     /* the items aren't strictly increasing */
     COMMONWARE_MEMORY = 5,         /* an allocation failed; says nothing of the input */
@@ -73,8 +73,8 @@ enum commonware_status {
     COMMONWARE_NO_MODEL = 13,      /* k is below 2 */
     COMMONWARE_NO_SLOT = 14,       /* the value is no decision for a slot */
     COMMONWARE_OTHER_SLOT = 15,    /* the values are for two different slots */
-    COMMONWARE_NO_SIZE = 16,       /* the key has no bytes, and no number of such can be told */
-    COMMONWARE_NOT_WHOLE = 17,     /* bytes follow the last whole key */
+    COMMONWARE_NO_SIZE = 16,       /* keys have no bytes, so that it can't be told how many there are */
+    COMMONWARE_NOT_WHOLE = 17,     /* bytes follow the last whole key, or the last whole pair */
     COMMONWARE_REPEATED_VALUE = 18, /* two pairs have the same value */
     COMMONWARE_REPEATED_KEY = 19    /* a pair has the key of an earlier one */
 };
@@ -229,17 +229,20 @@ typedef struct {
  *
  * `room` is for indices, and its length is in indices; what it holds before the call doesn't matter.
  * After OK its first `count` are the indices of the pairs in the order of their values, by which a key is
- * found by its value in O(log n) comparisons; what follows them stays. After REPEATED_VALUE its first
- * indices, as many as there are pairs, are in this order too, those of the same value in their own order.
- * At every other status `room` is as it was. How many it takes is told by a call with `room_length` 0. It
- * takes O(n log n) comparisons. Never MEMORY. */
+ * found by its value in O(log n) comparisons. After REPEATED_VALUE its first indices, as many as there are
+ * pairs, are in this order too, those of the same value in their own order. At both what follows them
+ * stays, and at every other status all of `room` does. A call with `room_length` 0 returns ROOM with how
+ * many indices it takes, or OK for no pairs. It takes O(n log n) comparisons. Never MEMORY.
+ *
+ * There is no call that writes a bimap: it is what commonware_map_write_unique writes, and this call says
+ * whether two values are the same. */
 commonware_bimap_view commonware_bimap_read(
     size_t key_size, size_t value_size, const uint8_t *input, size_t input_length, size_t least,
     size_t most, uint32_t *room, size_t room_length);
 
 /* Writes the map of these pairs to the start of `out`, in the order of their keys: each is a key of
  * `key_size` bytes and then its value of `value_size`, one pair after another; `pairs_length` is in
- * bytes. They may come in any order. Of pairs with equal keys the first is written, so the view's
+ * bytes. They may come in any order. Of pairs with equal keys the first is written, so at OK and ROOM
  * `count` is less than the number of pairs exactly where a key repeats. 10 + pairs_length bytes
  * always suffice. NO_SIZE exactly where `key_size` is 0; NOT_WHOLE exactly where it is greater and
  * the sum of both sizes, which never wraps, doesn't divide `pairs_length`; INVALID_LENGTH where the
@@ -249,11 +252,11 @@ commonware_written_view commonware_map_write(
     size_t out_length);
 
 /* Writes the map of these pairs as commonware_map_write does, where no key repeats: OK then, with all
- * pairs. Where one does, no pair is dropped for it, but REPEATED_KEY returned with the least index of
- * a pair whose key an earlier pair has. The status is the first of these: NO_SIZE, NOT_WHOLE,
- * REPEATED_KEY or MEMORY as they come, INVALID_LENGTH, ROOM; where there is memory, REPEATED_KEY
- * exactly where the pairs are whole and a key repeats. 10 + pairs_length bytes always suffice. Never
- * NOT_STRICT. */
+ * pairs. Where one does, nothing is written, and REPEATED_KEY comes with the least index of a pair
+ * whose key an earlier pair has. The status is the first of these: NO_SIZE, NOT_WHOLE,
+ * REPEATED_KEY or MEMORY, whichever is met first, INVALID_LENGTH where the pairs are more than
+ * 4294967295, ROOM. Where there is memory, it is REPEATED_KEY exactly where the keys have bytes, the
+ * pairs are whole and a key repeats. 10 + pairs_length bytes always suffice. Never NOT_STRICT. */
 commonware_written_view commonware_map_write_unique(
     size_t key_size, size_t value_size, const uint8_t *pairs, size_t pairs_length, uint8_t *out,
     size_t out_length);
@@ -289,7 +292,7 @@ commonware_written_view commonware_certificate_write(
  * the decision. A slot is what a protocol decides once, as bytes of its choice: a height and a view, say.
  * Members sign this value, and a certificate of it is written by commonware_certificate_write. At OK and
  * ROOM the view's `size` is told, `count` never. INVALID_LENGTH for the first of the slot, the decision and
- * the value that is past 4294967295. */
+ * the value that is past 4294967295. Never MEMORY. */
 commonware_written_view commonware_value_write(
     const uint8_t *slot, size_t slot_length, const uint8_t *decision, size_t decision_length,
     uint8_t *out, size_t out_length);
@@ -298,7 +301,7 @@ commonware_written_view commonware_value_write(
 typedef struct {
     uint32_t status;        /* OK, or why it is none */
     uint32_t signers;       /* at OK: how many members signed */
-    size_t number;          /* at INVALID_LENGTH: the stated length; at LEFT_OVER: how many bytes follow */
+    size_t number;          /* at LEFT_OVER: how many bytes follow the certificate */
     size_t value_start;     /* at OK: the offset of the value */
     size_t value_length;    /* at OK: how many bytes it has */
     size_t slot_start;      /* at OK: the offset of the slot, which is never 0; 0 where the value has none */

@@ -498,6 +498,7 @@ static void test_slots(void) {
     uint8_t bytes[8] = {0xee, 0xee, 0xee, 0xee, 0xee};
     commonware_written_view written = commonware_value_write(OF(slot), OF(a), bytes, 3);
     CHECK(written.status == COMMONWARE_ROOM && written.size == 4 && bytes[0] == 0xee);
+    CHECK(commonware_value_write(OF(slot), OF(a), NULL, 0).status == COMMONWARE_ROOM);
     written = commonware_value_write(OF(slot), OF(a), OF(bytes));
     CHECK(written.status == COMMONWARE_OK && written.size == 4 && written.count == 0);
     CHECK(memcmp(bytes, value, 4) == 0 && bytes[4] == 0xee);
@@ -533,6 +534,8 @@ static void test_slots(void) {
     CHECK(view.status == COMMONWARE_NO_SLOT && view.which == 1);
     view = commonware_equivocation(3, 4, OF(one), OF(none), OF(out));
     CHECK(view.status == COMMONWARE_NO_SLOT && view.which == 2);
+    view = commonware_equivocation(3, 4, NULL, 0, NULL, 0, NULL, 0);
+    CHECK(view.status == COMMONWARE_END_OF_INPUT && view.which == 1);
     view = commonware_equivocation(3, 3, OF(one), OF(two), OF(out));
     CHECK(view.status == COMMONWARE_OUTSIDE && view.which == 2 && out[0] == 1);
 }

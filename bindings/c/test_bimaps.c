@@ -68,6 +68,7 @@ static void test_room(void) {
     }
     CHECK(IS(commonware_bimap_read(1, 2, OF(pairs), 0, 9, NULL, 0),
              .status = COMMONWARE_ROOM, .number = 3));
+    CHECK(IS(commonware_bimap_read(1, 2, NULL, 0, 0, 9, NULL, 0), .status = COMMONWARE_END_OF_INPUT));
     CHECK(stays_from(room, 0, 3));
     const uint8_t none[] = {0, 0, 7};
     CHECK(IS(commonware_bimap_read(20, 8, OF(none), 0, 9, NULL, 0), .keys = 1, .values = 2, .left = 1));
