@@ -13,6 +13,8 @@ use std::ops::RangeInclusive;
 /// runs. It has the indices of the pairs in the order of their values, so that a key is found by
 /// its value too; the keys and values themselves aren't copied. Every number is a size.
 ///
+/// A bimap is encoded by [`MapView::encode_unique`]; that its values differ is seen as it is read.
+///
 /// ```
 /// use commonware_proved::{BiMapError, BiMapView};
 ///
@@ -158,7 +160,7 @@ impl<'a> BiMapView<'a> {
         self.pairs
     }
 
-    /// Returns the keys.
+    /// Returns the keys in order.
     ///
     /// ```
     /// # use commonware_proved::BiMapView;
@@ -179,12 +181,37 @@ impl<'a> BiMapView<'a> {
     /// assert!(bimap.values().eq([[60], [40]]));
     /// # Ok::<(), commonware_proved::BiMapError>(())
     /// ```
-    #[must_use]
     pub fn values(&self) -> Items<'a> {
         self.pairs.values()
     }
 
-    /// Returns the value of a key, or `None` where the key isn't there, in O(log n) comparisons.
+    /// Returns how many bytes a value has. A key has as many as [`SetView::size`] of the keys.
+    ///
+    /// ```
+    /// # use commonware_proved::BiMapView;
+    /// assert_eq!(BiMapView::whole(20, 8, &[0, 0])?.value_size(), 8);
+    /// # Ok::<(), commonware_proved::BiMapError>(())
+    /// ```
+    #[must_use]
+    pub fn value_size(&self) -> usize {
+        self.pairs.value_size()
+    }
+
+    /// Returns the value of the key at an index, or `None` past the last.
+    ///
+    /// ```
+    /// # use commonware_proved::BiMapView;
+    /// let bimap = BiMapView::whole(1, 1, &[2, 5, 7, 2, 60, 40])?;
+    /// assert_eq!((bimap.value(1), bimap.value(2)), (Some(&[40][..]), None));
+    /// # Ok::<(), commonware_proved::BiMapError>(())
+    /// ```
+    #[must_use]
+    pub fn value(&self, index: usize) -> Option<&'a [u8]> {
+        self.pairs.value(index)
+    }
+
+    /// Returns the value of a key, or `None` where the key isn't there, as one of another size
+    /// never is, in O(log n) comparisons.
     ///
     /// ```
     /// # use commonware_proved::BiMapView;
@@ -197,8 +224,8 @@ impl<'a> BiMapView<'a> {
         self.pairs.get(key)
     }
 
-    /// Returns the index of the pair with a value, or `None` where there is none, in O(log n)
-    /// comparisons.
+    /// Returns the index of the pair with a value, or `None` where the value isn't there, as one of
+    /// another size never is, in O(log n) comparisons.
     ///
     /// ```
     /// # use commonware_proved::BiMapView;
@@ -237,6 +264,28 @@ impl<'a> BiMapView<'a> {
     /// ```
     pub fn iter(&self) -> Zip<Items<'a>, Items<'a>> {
         self.pairs.iter()
+    }
+
+    /// Returns copies of the pairs in the order of their keys.
+    ///
+    /// ```
+    /// # use commonware_proved::BiMapView;
+    /// let copies = BiMapView::whole(1, 1, &[1, 5, 1, 60])?.to_owned_pairs();
+    /// assert_eq!(copies, [(vec![5], vec![60])]);
+    /// # Ok::<(), commonware_proved::BiMapError>(())
+    /// ```
+    #[must_use]
+    pub fn to_owned_pairs(&self) -> Vec<(Vec<u8>, Vec<u8>)> {
+        self.pairs.to_owned_pairs()
+    }
+}
+
+impl<'a> IntoIterator for BiMapView<'a> {
+    type Item = (&'a [u8], &'a [u8]);
+    type IntoIter = Zip<Items<'a>, Items<'a>>;
+
+    fn into_iter(self) -> Zip<Items<'a>, Items<'a>> {
+        self.iter()
     }
 }
 

@@ -25,24 +25,52 @@ pub struct Checked<'a> {
 
 impl<'a> Checked<'a> {
     /// Returns the bytes that were signed.
+    ///
+    /// ```
+    /// # use commonware_proved::{FaultModel, check};
+    /// assert_eq!(check(FaultModel::N3F1, 1, &[1, b'x', 1, 0])?.value(), b"x");
+    /// # Ok::<(), commonware_proved::CheckError>(())
+    /// ```
     #[must_use]
     pub fn value(&self) -> &'a [u8] {
         self.value
     }
 
     /// Returns the slot that the value is for, or `None` where it is for none.
+    ///
+    /// ```
+    /// # use commonware_proved::{FaultModel, check};
+    /// let input = [3, 1, b'7', b'A', 1, 0];
+    /// assert_eq!(check(FaultModel::N3F1, 1, &input)?.slot(), Some(&b"7"[..]));
+    /// // A length of 9 bytes, which aren't there.
+    /// assert_eq!(check(FaultModel::N3F1, 1, &[1, 9, 1, 0])?.slot(), None);
+    /// # Ok::<(), commonware_proved::CheckError>(())
+    /// ```
     #[must_use]
     pub fn slot(&self) -> Option<&'a [u8]> {
         self.parts.map(|(slot, _)| slot)
     }
 
     /// Returns the decision that the value is for its slot, or `None` where it has none.
+    ///
+    /// ```
+    /// # use commonware_proved::{FaultModel, check};
+    /// let input = [3, 1, b'7', b'A', 1, 0];
+    /// assert_eq!(check(FaultModel::N3F1, 1, &input)?.decision(), Some(&b"A"[..]));
+    /// # Ok::<(), commonware_proved::CheckError>(())
+    /// ```
     #[must_use]
     pub fn decision(&self) -> Option<&'a [u8]> {
         self.parts.map(|(_, decision)| decision)
     }
 
     /// Returns how many members signed.
+    ///
+    /// ```
+    /// # use commonware_proved::{FaultModel, check};
+    /// assert_eq!(check(FaultModel::N3F1, 4, &[0, 3, 0, 2, 3])?.signers(), 3);
+    /// # Ok::<(), commonware_proved::CheckError>(())
+    /// ```
     #[must_use]
     pub fn signers(&self) -> u32 {
         self.signers
@@ -100,6 +128,16 @@ impl Error for CheckError {
 /// # Errors
 ///
 /// Why it is no certificate of a quorum.
+///
+/// ```
+/// use commonware_proved::{CheckError, FaultModel, check};
+///
+/// // The value 9, signed by 0, 1 and 2.
+/// let input = [1, 9, 3, 0, 1, 2];
+/// assert_eq!(check(FaultModel::N3F1, 4, &input)?.value(), [9]);
+/// assert_eq!(check(FaultModel::N5F1, 4, &input), Err(CheckError::TooFew));
+/// # Ok::<(), CheckError>(())
+/// ```
 pub fn check(model: FaultModel, members: u32, input: &[u8]) -> Result<Checked<'_>, CheckError> {
     // SAFETY: the pointer and the length are those of one slice, which is borrowed for the call.
     let view = unsafe {

@@ -179,7 +179,7 @@ impl<'a> Committee<'a> {
     ///
     /// # Errors
     ///
-    /// `InvalidLength` where they are more than 4294967295, and `Memory`.
+    /// `InvalidLength` where the distinct keys are more than 4294967295, and `Memory`.
     ///
     /// ```
     /// # use commonware_proved::Committee;

@@ -54,6 +54,7 @@ impl<'a> List<'a> {
 /// # Ok::<(), commonware_proved::Refusal>(())
 /// ```
 #[derive(Clone, Debug)]
+#[must_use = "iterators are lazy and do nothing unless consumed"]
 pub struct Items<'a> {
     list: List<'a>,
 }

@@ -2,12 +2,14 @@
 //! faulty, the encodings of committees and of certificates, and of sets, maps and bimaps of keys of
 //! any size, and which members signed both of two different values.
 //!
-//! Each call is one call of the static library `commonware_c`, which is written in Rattle and
-//! whose contracts are proved; nothing is decided here, but that a key of another size than the
-//! keys of a set isn't there, and where one of no bytes is. No call panics or aborts: an
-//! allocation failure is an error, which says nothing of the input. Only the copies of keys and
-//! pairs ([`Set::to_vec`], [`SetView::to_owned_keys`], [`MapView::to_owned_pairs`]) take their
-//! memory as `Vec` does.
+//! What is decoded, encoded, looked up and judged is so by calls of the static library
+//! `commonware_c`, which is written in Rattle and whose contracts are proved. Little is decided
+//! here: that a key of another size than the keys of a set isn't there, and where one of no bytes
+//! is; that bytes are left over; and where a value of a bimap is, by a search of the indices that
+//! the library has put in order. No call panics or aborts: an allocation failure is an error,
+//! which says nothing of the input. Only copies take their memory as `Vec` does: those of keys and
+//! pairs ([`Set::to_vec`], [`SetView::to_owned_keys`], [`MapView::to_owned_pairs`],
+//! [`BiMapView::to_owned_pairs`]), and the clones of a [`Certificate`] and of a [`BiMapView`].
 //!
 //! ```
 //! use commonware_proved::{Certificate, Committee, FaultModel, check, equivocation, slot_value};

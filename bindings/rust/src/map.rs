@@ -174,7 +174,7 @@ impl<'a> MapView<'a> {
         self.keys.is_empty()
     }
 
-    /// Returns the keys.
+    /// Returns the keys in order.
     ///
     /// ```
     /// # use commonware_proved::MapView;
@@ -207,7 +207,6 @@ impl<'a> MapView<'a> {
     /// assert_eq!(map.values().map(|value| u32::from(value[0])).sum::<u32>(), 100);
     /// # Ok::<(), commonware_proved::Refusal>(())
     /// ```
-    #[must_use]
     pub fn values(&self) -> Items<'a> {
         self.values.iter()
     }

@@ -195,7 +195,8 @@ impl<'a> SetView<'a> {
     ///
     /// # Errors
     ///
-    /// `NoSize` and `NotWhole`, `InvalidLength` where they are more than 4294967295, and `Memory`.
+    /// `NoSize` where `size` is 0, `NotWhole`, `InvalidLength` where the distinct keys are more than
+    /// 4294967295, and `Memory`.
     ///
     /// ```
     /// # use commonware_proved::{EncodeError, SetView};
@@ -414,7 +415,8 @@ impl<'a, const N: usize> Set<'a, N> {
     ///
     /// # Errors
     ///
-    /// `NoSize` where `N` is 0, `InvalidLength` where they are more than 4294967295, and `Memory`.
+    /// `NoSize` where `N` is 0, `InvalidLength` where the distinct keys are more than 4294967295, and
+    /// `Memory`.
     ///
     /// ```
     /// # use commonware_proved::{EncodeError, Set};

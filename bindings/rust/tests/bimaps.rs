@@ -184,11 +184,21 @@ fn try_bimap(
         assert_eq!(ours.get(key), Some(value), "{}", case());
         assert_eq!(ours.key_of(value), Some(key), "{}", case());
         assert_eq!(ours.index_of_value(value), Some(index), "{}", case());
+        assert_eq!(ours.value(index), Some(value), "{}", case());
     }
+    assert_eq!(
+        (ours.value(count), ours.value_size()),
+        (None, sizes.1),
+        "{}",
+        case()
+    );
     for other in [&[][..], &[0], &[1, 1], &[7; 96]] {
         let found = map.values.iter().position(|value| *value == other);
         assert_eq!(ours.index_of_value(other), found, "{}", case());
     }
+    let copies = ours.to_owned_pairs();
+    let copied = copies.iter().map(|(key, value)| (&key[..], &value[..]));
+    assert!(ours.into_iter().eq(copied), "{}", case());
     "ok"
 }
 
