@@ -243,6 +243,45 @@ fn each_byte_of_a_key_makes_it_another() {
     });
 }
 
+/// Two items that differ in their last byte alone are written, read and found.
+fn large_items_are_told_apart(size: usize) {
+    let (mut less, mut greater) = (vec![0x5a; size], vec![0x5a; size]);
+    (less[size - 1], greater[size - 1]) = (1, 2);
+    let (less, greater) = (&less[..], &greater[..]);
+    let set = [&[2], less, greater].concat();
+    let written = SetView::encode(size, &[greater, less, greater].concat());
+    assert!(written.as_ref() == Ok(&set), "{size}");
+    let keys = SetView::whole(size, &set).expect("a set");
+    let places = [less, greater].map(|key| keys.index_of(key));
+    assert_eq!(places, [Some(0), Some(1)], "{size}");
+    let wrong = [&[2], greater, less].concat();
+    let refused = SetView::whole(size, &wrong).err();
+    assert_eq!(refused, Some(Refusal::NotStrict), "{size}");
+
+    let pairs = [greater, less, less, greater].concat();
+    let map = [&set[..], &[2], greater, less].concat();
+    let encoders = [MapView::encode, MapView::encode_unique];
+    for written in encoders.map(|encode| encode(size, size, &pairs)) {
+        assert!(written.as_ref() == Ok(&map), "{size}");
+    }
+    let bimap = BiMapView::whole(size, size, &map).expect("a bimap");
+    for (key, value) in [(less, greater), (greater, less)] {
+        assert!(bimap.get(key) == Some(value), "{size}");
+        assert!(bimap.key_of(value) == Some(key), "{size}");
+    }
+    let twice = MapView::encode_unique(size, 0, &[less, less].concat());
+    assert_eq!(twice.err(), Some(EncodeError::RepeatedKey(1)), "{size}");
+}
+
+#[test]
+fn items_past_every_buffer_are_told_apart() {
+    for size in [
+        1_000, 4_095, 4_096, 4_097, 65_535, 65_536, 65_537, 1_000_003,
+    ] {
+        large_items_are_told_apart(size);
+    }
+}
+
 #[test]
 fn limits_hold_at_their_edges() {
     for count in [
