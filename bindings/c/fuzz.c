@@ -345,47 +345,67 @@ static void try_list(size_t size, const uint8_t *input, size_t length) {
     }
 }
 
-/* Whether the row at an index has the key of an earlier one. */
-static bool repeats_key(const uint8_t *rows, size_t size, size_t key_size, size_t index) {
-    for (size_t i = 0; i < index; i++) {
-        if (memcmp(rows + i * size, rows + index * size, key_size) == 0) {
-            return true;
-        }
-    }
-    return false;
+/* Rows of a key and a value, one after another. */
+struct rows {
+    const uint8_t *bytes;
+    size_t key_size, value_size, count;
+};
+
+static const uint8_t *row_at(struct rows rows, size_t index) {
+    return rows.bytes + index * (rows.key_size + rows.value_size);
 }
 
-/* Any bytes as rows of a key and a value: the first row that has the key of an earlier one is told;
- * where none has, each value is found by its key in the map that is written. */
+/* The index of the first row with the key of a row, which may be that one. */
+static size_t first_with_key(struct rows rows, size_t index) {
+    size_t first = 0;
+    while (memcmp(row_at(rows, first), row_at(rows, index), rows.key_size) != 0) {
+        first++;
+    }
+    return first;
+}
+
+/* A map that was written of rows: it has this number of pairs, and each key has the value of the first row
+ * with it. */
+static void try_written(struct rows rows, commonware_written_view view, const uint8_t *out, size_t count) {
+    REQUIRE(view.status == COMMONWARE_OK && view.count == count && view.number == 0);
+    REQUIRE(out[view.size] == 0xee);
+    const commonware_map_view map =
+        commonware_map_read(rows.key_size, rows.value_size, out, view.size, count, count);
+    REQUIRE(map.status == COMMONWARE_OK && map.left == 0);
+    for (size_t i = 0; i < rows.count; i++) {
+        const commonware_place_view place = commonware_set_index(
+            out + map.keys, count * rows.key_size, row_at(rows, i), rows.key_size);
+        REQUIRE(place.status == COMMONWARE_OK);
+        const uint8_t *value = row_at(rows, first_with_key(rows, i)) + rows.key_size;
+        REQUIRE(memcmp(out + map.values + place.index * rows.value_size, value, rows.value_size) == 0);
+    }
+}
+
+/* Any bytes as rows: of rows with one key the first is written, or the first row that has the key of an
+ * earlier one is told. */
 static void try_rows(size_t key_size, size_t value_size, const uint8_t *input, size_t length) {
     const size_t size = key_size + value_size;
     if (key_size == 0 || key_size > length || size > length || length % size > 0) {
         return;
     }
-    const size_t count = length / size, most = 10 + length;
-    size_t first = 0;
-    while (first < count && !repeats_key(input, size, key_size, first)) {
-        first++;
+    const struct rows rows = {input, key_size, value_size, length / size};
+    const size_t most = 10 + length;
+    size_t distinct = 0, repeat = rows.count;
+    for (size_t i = rows.count; i > 0; i--) {
+        const bool is_first = first_with_key(rows, i - 1) == i - 1;
+        distinct += is_first;
+        repeat = is_first ? repeat : i - 1;
     }
     uint8_t *out = room(most, 1);
+    try_written(rows, commonware_map_write(key_size, value_size, input, length, out, most), out, distinct);
+    memset(out, 0xee, most);
     const commonware_written_view view =
         commonware_map_write_unique(key_size, value_size, input, length, out, most);
-    if (first < count) {
-        REQUIRE(view.status == COMMONWARE_REPEATED_KEY && view.number == first);
+    if (repeat == rows.count) {
+        try_written(rows, view, out, rows.count);
+    } else {
+        REQUIRE(view.status == COMMONWARE_REPEATED_KEY && view.number == repeat);
         REQUIRE(view.count == 0 && view.size == 0 && out[0] == 0xee);
-        free(out);
-        return;
-    }
-    REQUIRE(view.status == COMMONWARE_OK && view.count == count && view.number == 0);
-    const commonware_map_view map =
-        commonware_map_read(key_size, value_size, out, view.size, count, count);
-    REQUIRE(map.status == COMMONWARE_OK && map.left == 0);
-    for (size_t i = 0; i < count; i++) {
-        const uint8_t *key = input + i * size;
-        const commonware_place_view place =
-            commonware_set_index(out + map.keys, count * key_size, key, key_size);
-        REQUIRE(place.status == COMMONWARE_OK);
-        REQUIRE(memcmp(out + map.values + place.index * value_size, key + key_size, value_size) == 0);
     }
     free(out);
 }
