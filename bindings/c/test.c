@@ -758,6 +758,9 @@ static void test_memory(void) {
                 break;
             }
             CHECK(status == COMMONWARE_MEMORY && out[0] == 0xeeeeeeee && committee[1] == 0xee);
+            if (status != COMMONWARE_MEMORY) {
+                break;
+            }
         }
         CHECK(allowed == requests && (allowed > 0) == (call == 0 || call > 8));
         printf("call %d: each of %zu requests refused\n", call, allowed);

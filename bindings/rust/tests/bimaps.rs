@@ -7,12 +7,12 @@ mod common;
 #[path = "../src/raw.rs"]
 mod raw;
 
+use common::cases;
 use common::naive::{read_varint, varint};
 use common::random::{Random, spoil};
 use common::seen::{Seen, name};
 use commonware_proved::{BiMapError, BiMapView, Member, Refusal};
 use std::collections::HashMap;
-use std::env;
 
 /// Statuses of the library.
 const ROOM: u32 = 11;
@@ -20,12 +20,6 @@ const REPEATED_VALUE: u32 = 18;
 
 /// What a place of a room has before a call.
 const BEFORE: u32 = 0xeeee_eeee;
-
-/// Returns how many cases a test tries.
-fn cases() -> usize {
-    let said = env::var("COMMONWARE_CASES");
-    said.map_or(1_000_000, |cases| cases.parse().expect("a number"))
-}
 
 /// A map as a plain reader finds it: its columns, and what follows them.
 struct Columns<'a> {

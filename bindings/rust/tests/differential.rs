@@ -1,5 +1,6 @@
 //! The library beside a naive implementation: 100,000 random cases of each call and more.
 
+#[allow(dead_code, reason = "the other tests use the rest")]
 mod common;
 
 use common::naive::{

@@ -7,11 +7,11 @@ mod common;
 #[path = "../src/raw.rs"]
 mod raw;
 
+use common::cases;
 use common::naive::{read_varint, varint};
 use common::random::{Random, spoil};
 use common::seen::{Seen, name};
 use commonware_proved::{Committee, MapView, Member, Refusal, Set, SetView};
-use std::env;
 
 /// Sizes that are in use beside those from 0 to 20.
 const SIZES: [usize; 4] = [32, 33, 48, 96];
@@ -21,12 +21,6 @@ const OK: u32 = 0;
 const ABSENT: u32 = 12;
 const NO_SIZE: u32 = 16;
 const NOT_WHOLE: u32 = 17;
-
-/// Returns how many cases a test tries.
-fn cases() -> usize {
-    let said = env::var("COMMONWARE_CASES");
-    said.map_or(1_000_000, |cases| cases.parse().expect("a number"))
-}
 
 /// Returns a size, which is seldom a hostile one.
 fn some_size(random: &mut Random) -> usize {

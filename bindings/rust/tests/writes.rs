@@ -1,5 +1,5 @@
-//! Sets and maps of any size are written as by a sort and a removal of repeats: 200,000 random cases
-//! of each, or as many as COMMONWARE_CASES says.
+//! Sets and maps of any size are written as by a sort and a removal of repeats: 1,000,000 random
+//! cases of each, or as many as COMMONWARE_CASES says.
 
 #[allow(dead_code, reason = "the other tests use the rest")]
 mod common;
@@ -7,12 +7,12 @@ mod common;
 #[path = "../src/raw.rs"]
 mod raw;
 
+use common::cases;
 use common::naive::varint;
 use common::random::Random;
 use common::seen::Seen;
 use commonware_proved::{EncodeError, MapView, Member, SetView};
 use std::collections::BTreeSet;
-use std::env;
 
 /// Statuses of the library.
 const OK: u32 = 0;
@@ -23,11 +23,6 @@ const REPEATED_KEY: u32 = 19;
 
 /// What stands in the room before a call.
 const UNTOUCHED: u8 = 0xee;
-
-fn cases() -> usize {
-    let said = env::var("COMMONWARE_CASES");
-    said.map_or(200_000, |cases| cases.parse().expect("a number"))
-}
 
 /// Returns the status, the count, the number and the size.
 fn set_write(size: usize, keys: &[u8], out: &mut [u8]) -> (u32, usize, usize, usize) {

@@ -21,7 +21,7 @@ pub struct CheckView {
     pub status: u32,
     /// How many signers there are.
     pub signers: u32,
-    /// The length that is out of range, or how many bytes are left over, where that is the status.
+    /// How many bytes are left over, where that is the status.
     pub number: usize,
     /// Where the value begins.
     pub value_start: usize,

@@ -24,7 +24,7 @@ pub struct ConflictView {
     pub status: u32,
     /// 1 or 2 where the status is about the first or the second input alone, else 0.
     pub which: u32,
-    /// The length that is out of range, or how many bytes are left over, where that is the status.
+    /// How many bytes are left over, where that is the status.
     pub number: usize,
     /// How many members are named, or would be where the room is too small.
     pub count: usize,

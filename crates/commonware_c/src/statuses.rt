@@ -40,7 +40,7 @@ pub(crate) const TOO_FEW: u32 = 10;
 /// The caller's room is too short.
 pub(crate) const ROOM: u32 = 11;
 
-/// The key isn't among the members.
+/// The key isn't among the members, or the keys.
 pub(crate) const ABSENT: u32 = 12;
 
 /// There is no fault model at a k below 2.
