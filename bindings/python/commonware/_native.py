@@ -1,0 +1,254 @@
+"""The shared library: where it is, its functions as `bindings/c/commonware.h` declares them, and what they get
+from Python. The other modules call it by this one alone."""
+
+import array
+import ctypes
+import operator
+import os
+import pathlib
+import sys
+from ctypes import c_char, c_size_t, c_uint32, c_void_p
+from typing import Any, Callable, Iterable, NamedTuple, Optional, Tuple, Type, Union
+
+from . import errors
+
+NAME = "libcommonware.so.1"
+U32_MAX = 2**32 - 1
+SIZE_MAX = 2**64 - 1
+
+BytesLike = Union[bytes, bytearray, memoryview]
+"""What has bytes. Every other object with the buffer protocol is taken too."""
+
+Indices = array.array
+"""Numbers of 32 bits, as the library has them on the one machine that it is for."""
+
+OK, NOT_STRICT, ROOM, REPEATED_VALUE = 0, 4, 11, 18
+
+
+def _find() -> str:
+    """Returns the path of the library, or its name where the system has to find it."""
+    folder = os.environ.get("COMMONWARE_C_LIB")
+    if folder:
+        return str(pathlib.Path(folder).absolute() / NAME)
+    beside = pathlib.Path(__file__).resolve().parents[2] / "prebuilt" / "x86_64-linux" / NAME
+    return str(beside) if beside.is_file() else NAME
+
+
+def _load() -> ctypes.CDLL:
+    if sys.maxsize != 2**63 - 1 or not sys.platform.startswith("linux"):
+        raise ImportError("commonware needs a 64-bit Python on x86-64 Linux.")
+    try:
+        return ctypes.CDLL(_find())
+    except OSError as error:
+        raise ImportError(
+            f"commonware can't load its library ({error}): set COMMONWARE_C_LIB to the folder that has {NAME}."
+        ) from None
+
+
+def _view(name: str, *fields: Tuple[str, Any]) -> Type[ctypes.Structure]:
+    """Returns the struct of a result, whose first field is a status."""
+    return type(name, (ctypes.Structure,), {"_fields_": [("status", c_uint32), *fields]})
+
+
+def _sizes(*names: str) -> Iterable[Tuple[str, Any]]:
+    return ((name, c_size_t) for name in names)
+
+
+_KEYS = _view("Keys", ("count", c_uint32), *_sizes("number", "start", "left"))
+_PAIRS = _view("Pairs", ("count", c_uint32), *_sizes("number", "keys", "values", "left"))
+_BIMAP = _view(
+    "BiMap", ("count", c_uint32), *_sizes("number", "keys", "values", "left", "first", "second")
+)
+_PLACE = _view("Place", *_sizes("index"))
+_WRITTEN = _view("Written", *_sizes("count", "number", "size"))
+_CERTIFICATE = _view(
+    "Certificate", ("signers", c_uint32), *_sizes("number", "value_start", "value_length", "left")
+)
+_CHECK = _view(
+    "Check",
+    ("signers", c_uint32),
+    *_sizes("number", "value_start", "value_length", "slot_start", "slot_length"),
+    *_sizes("decision_start", "decision_length"),
+)
+_CONFLICT = _view("Conflict", ("which", c_uint32), *_sizes("number", "count"))
+
+_INPUT = (c_void_p, c_size_t)
+_LIBRARY = _load()
+
+
+def _function(name: str, result: Any, *arguments: Any) -> Callable[..., Any]:
+    try:
+        function = getattr(_LIBRARY, f"commonware_{name}")
+    except AttributeError:
+        raise ImportError(f"{_LIBRARY._name} is another version of the library, without {name}.") from None
+    function.restype, function.argtypes = result, arguments
+    called: Callable[..., Any] = function
+    return called
+
+
+max_faults = _function("max_faults", c_uint32, c_uint32, c_uint32)
+quorum = _function("quorum", c_uint32, c_uint32, c_uint32)
+smaller_quorum = _function("smaller_quorum", c_uint32, c_uint32, c_uint32)
+committee_read = _function("committee_read", _KEYS, *_INPUT, c_size_t, c_size_t)
+committee_index = _function("committee_index", _PLACE, *_INPUT, c_void_p)
+committee_write = _function("committee_write", _WRITTEN, *_INPUT, *_INPUT)
+set_read = _function("set_read", _KEYS, c_size_t, *_INPUT, c_size_t, c_size_t)
+set_index = _function("set_index", _PLACE, *_INPUT, *_INPUT)
+set_write = _function("set_write", _WRITTEN, c_size_t, *_INPUT, *_INPUT)
+map_read = _function("map_read", _PAIRS, c_size_t, c_size_t, *_INPUT, c_size_t, c_size_t)
+map_write = _function("map_write", _WRITTEN, c_size_t, c_size_t, *_INPUT, *_INPUT)
+map_write_unique = _function("map_write_unique", _WRITTEN, c_size_t, c_size_t, *_INPUT, *_INPUT)
+bimap_read = _function(
+    "bimap_read", _BIMAP, c_size_t, c_size_t, *_INPUT, c_size_t, c_size_t, *_INPUT
+)
+certificate_read = _function(
+    "certificate_read", _CERTIFICATE, *_INPUT, c_size_t, c_size_t, *_INPUT
+)
+certificate_write = _function("certificate_write", _WRITTEN, *_INPUT, *_INPUT, *_INPUT)
+value_write = _function("value_write", _WRITTEN, *_INPUT, *_INPUT, *_INPUT)
+certificate_check = _function("certificate_check", _CHECK, c_uint32, c_uint32, *_INPUT)
+conflict = _function("conflict", _CONFLICT, c_uint32, c_uint32, *_INPUT, *_INPUT, *_INPUT)
+equivocation = _function(
+    "equivocation", _CONFLICT, c_uint32, c_uint32, *_INPUT, *_INPUT, *_INPUT
+)
+
+
+class _Buffer(ctypes.Structure):
+    """The `Py_buffer` of Python's C interface."""
+
+    _fields_ = [
+        ("buf", c_void_p),
+        ("obj", c_void_p),
+        ("len", ctypes.c_ssize_t),
+        ("itemsize", ctypes.c_ssize_t),
+        ("readonly", ctypes.c_int),
+        ("ndim", ctypes.c_int),
+        ("format", c_void_p),
+        ("shape", c_void_p),
+        ("strides", c_void_p),
+        ("suboffsets", c_void_p),
+        ("internal", c_void_p),
+    ]
+
+
+def _address(view: memoryview) -> int:
+    """Returns where the bytes of a view are, which stay there as long as there is a view of them."""
+    buffer = _Buffer()
+    ctypes.pythonapi.PyObject_GetBuffer(ctypes.py_object(view), ctypes.byref(buffer), 0)
+    address: int = buffer.buf or 0
+    ctypes.pythonapi.PyBuffer_Release(ctypes.byref(buffer))
+    return address
+
+
+class Input(NamedTuple):
+    """Bytes that no one can change, and where they are."""
+
+    data: memoryview
+    pointer: Union[bytes, int]
+
+    @property
+    def arguments(self) -> Tuple[Union[bytes, int], int]:
+        """The pointer and the length that the library gets."""
+        return self.pointer, self.data.nbytes
+
+
+def input_of(data: BytesLike) -> Input:
+    """Returns the bytes of an argument. Bytes, and read-only views of bytes, are used where they are; what
+    others may write to meanwhile is copied."""
+    if type(data) is bytes:
+        return Input(memoryview(data), data)
+    try:
+        view = memoryview(data)
+    except TypeError:
+        raise TypeError(f"a bytes-like object is required, not {type(data).__name__!r}") from None
+    if type(view.obj) is bytes and view.c_contiguous and view.nbytes > 0:
+        view = view.cast("B") if view.format != "B" or view.ndim != 1 else view
+        return Input(view, _address(view))
+    copy = view.tobytes()
+    return Input(memoryview(copy), copy)
+
+
+def number_of(name: str, number: int, most: int) -> int:
+    """Returns an argument that is from 0 to `most`."""
+    index = operator.index(number)
+    if not 0 <= index <= most:
+        raise errors.OutOfRange(name, index, most)
+    return index
+
+
+def limits_of(least: int, most: Optional[int]) -> Tuple[int, int]:
+    """Returns the limits of a number of items, where None is no limit."""
+    return (
+        number_of("least", least, SIZE_MAX),
+        SIZE_MAX if most is None else number_of("most", most, SIZE_MAX),
+    )
+
+
+def written(call: Callable[..., Any], most: int, *arguments: Any) -> bytes:
+    """Returns what a call writes, which is at most `most` bytes and at least one."""
+    try:
+        out = bytearray(most)
+    except MemoryError:
+        raise errors.OutOfMemory() from None
+    view = call(*arguments, ctypes.byref(c_char.from_buffer(out)), most)
+    if view.status == NOT_STRICT:
+        raise errors.NotStrict(view.number)
+    check_status(view.status, view.number)
+    with memoryview(out) as whole:
+        return bytes(whole[: view.size])
+
+
+def pointed(indices: Indices) -> Tuple[Any, int]:
+    """Returns the pointer and the length of indices that the library gets."""
+    if len(indices) == 0:
+        return None, 0
+    return ctypes.byref(c_uint32.from_buffer(indices)), len(indices)
+
+
+def room_for(length: int) -> Tuple[Indices, Tuple[Any, int]]:
+    """Returns room for some indices, and the pointer and the length that the library gets."""
+    try:
+        room = array.array("I", [0]) * length
+    except MemoryError:
+        raise errors.OutOfMemory() from None
+    return room, pointed(room)
+
+
+def indices_of(name: str, numbers: Iterable[int]) -> Indices:
+    """Returns the indices that an argument lists."""
+    return array.array("I", (number_of(name, number, U32_MAX) for number in numbers))
+
+
+_PLAIN = {
+    1: errors.EndOfInput,
+    2: errors.InvalidVarint,
+    4: errors.NotStrict,
+    5: errors.OutOfMemory,
+    7: errors.NoMembers,
+    8: errors.SameValue,
+    9: errors.Outside,
+    10: errors.TooFew,
+    13: errors.NoModel,
+    14: errors.NoSlot,
+    15: errors.OtherSlot,
+    16: errors.NoSize,
+}
+_NUMBERED = {
+    3: errors.InvalidLength,
+    6: errors.LeftOver,
+    17: errors.NotWhole,
+    19: errors.RepeatedKey,
+}
+
+
+def check_status(status: int, number: int = 0, which: int = 0) -> None:
+    """Raises the error of a status of the library, with its number, where it isn't OK."""
+    if status == OK:
+        return
+    if status in _NUMBERED:
+        error: errors.CommonwareError = _NUMBERED[status](number)
+    else:
+        error = _PLAIN[status]()
+    if which:
+        error.which = which
+    raise error
