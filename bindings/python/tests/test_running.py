@@ -1,0 +1,266 @@
+"""The examples, which library is loaded, threads, and memory."""
+
+import doctest
+import importlib
+import os
+import pathlib
+import pkgutil
+import re
+import resource
+import shutil
+import subprocess
+import sys
+import tarfile
+import tempfile
+import threading
+import time
+import unittest
+import zipfile
+
+import commonware
+from commonware import (
+    BiMapView,
+    Certificate,
+    Committee,
+    CommonwareError,
+    MapView,
+    SetView,
+    _native,
+    check,
+    conflict,
+    equivocation,
+    slot_value,
+)
+
+HERE = pathlib.Path(__file__).resolve().parents[1]
+PAGE = HERE.parent / "README.md"
+NAMES = [f"commonware.{it.name}" for it in pkgutil.iter_modules(commonware.__path__)]
+MODULES = [commonware, *map(importlib.import_module, NAMES)]
+
+
+def load_tests(loader, tests, pattern):
+    for module in MODULES:
+        if ">>> " in pathlib.Path(module.__file__).read_text():
+            tests.addTests(doctest.DocTestSuite(module))
+    return tests
+
+
+def python(*words, **environment):
+    """Runs Python over this package, and returns what it prints and its status."""
+    settings = {**os.environ, "PYTHONPATH": str(HERE), "PYTHONDONTWRITEBYTECODE": "1", **environment}
+    settings = {name: text for name, text in settings.items() if text is not None}
+    told = subprocess.run([sys.executable, *words], env=settings, cwd="/", capture_output=True, text=True)
+    return told.stdout + told.stderr, told.returncode
+
+
+class Examples(unittest.TestCase):
+    def test_the_program_of_the_page(self):
+        page = PAGE.read_text()
+        program = re.search(r"```python\n(.*?)```", page, re.DOTALL)[1]
+        self.assertEqual((HERE / "examples/committee.py").read_text(), program)
+        prints = re.search(r"```text\n(.*?)```", page, re.DOTALL)[1]
+        self.assertEqual(python(str(HERE / "examples/committee.py")), (prints, 0))
+
+    def test_every_name_is_documented(self):
+        for name in commonware.__all__:
+            it = getattr(commonware, name)
+            self.assertTrue(it is commonware.BytesLike or isinstance(it, int) or it.__doc__, name)
+            for part, member in vars(it).items() if isinstance(it, type) else ():
+                if not part.startswith("_") and callable(member):
+                    self.assertTrue(member.__doc__, f"{name}.{part}")
+        text, status = python("-m", "pydoc", "commonware")
+        self.assertEqual(status, 0)
+        for name in commonware.__all__:
+            self.assertIn(name, text)
+
+
+    def test_what_pip_installs(self):
+        with tempfile.TemporaryDirectory() as folder:
+            build = "import sys, wheels; print(wheels.build_wheel(sys.argv[1]), wheels.build_sdist(sys.argv[1]))"
+            text, status = python("-c", build, folder)
+            self.assertEqual(status, 0, text)
+            wheel, sources = (pathlib.Path(folder) / it for it in text.split())
+            with zipfile.ZipFile(wheel) as archive:
+                names = archive.namelist()
+                archive.extractall(folder)
+            record = (pathlib.Path(folder) / names[-1]).read_text().splitlines()
+            self.assertEqual([it.split(",")[0] for it in record], names)
+            self.assertTrue({"commonware/py.typed", "commonware/_native.py"} < set(names))
+            self.assertEqual(len([it for it in names if it.startswith("commonware/")]), len(MODULES) + 1)
+            with tarfile.open(sources) as archive:
+                self.assertEqual(len(archive.getnames()), len(MODULES) + 3)
+            asked = "import commonware; print(commonware.__file__)"
+            text, status = python("-c", asked, PYTHONPATH=folder)
+            self.assertEqual((text, status), (f"{folder}/commonware/__init__.py\n", 0))
+
+
+class Library(unittest.TestCase):
+    def test_the_folder_that_is_said(self):
+        said = pathlib.Path(_native._LIBRARY._name)
+        with tempfile.TemporaryDirectory() as folder:
+            text, status = python("-c", "import commonware", COMMONWARE_C_LIB=folder)
+            self.assertNotEqual(status, 0)
+            sentence = text.splitlines()[-1]
+            self.assertRegex(sentence, r"^ImportError: commonware can't load its library \(.*\): set COMMONWARE_C_LIB ")
+            (pathlib.Path(folder) / _native.NAME).write_bytes(b"no library")
+            text, status = python("-c", "import commonware", COMMONWARE_C_LIB=folder)
+            self.assertIn("ImportError: ", text.splitlines()[-1])
+            if said.is_file():
+                shutil.copy(said, folder)
+                asked = "import commonware; print(commonware._native._LIBRARY._name)"
+                text, status = python("-c", asked, COMMONWARE_C_LIB=folder)
+                self.assertEqual((text, status), (f"{pathlib.Path(folder) / _native.NAME}\n", 0))
+
+    def test_the_folder_beside_the_package(self):
+        said = pathlib.Path(_native._LIBRARY._name)
+        if not said.is_file():
+            self.skipTest("the library is the system's")
+        with tempfile.TemporaryDirectory() as folder:
+            top = pathlib.Path(folder).resolve()
+            shutil.copytree(HERE / "commonware", top / "python/commonware")
+            asked = "import commonware; print(commonware._native._LIBRARY._name)"
+            settings = {"PYTHONPATH": str(top / "python"), "COMMONWARE_C_LIB": None}
+            self.assertIn("ImportError: ", python("-c", asked, **settings)[0])
+            beside = top / "prebuilt/x86_64-linux"
+            beside.mkdir(parents=True)
+            shutil.copy(said, beside)
+            self.assertEqual(python("-c", asked, **settings), (f"{beside / _native.NAME}\n", 0))
+
+    def test_every_function_of_the_header_is_declared(self):
+        header = HERE.parent / "c/commonware.h"
+        text = re.sub(r"/\*.*?\*/", "", header.read_text(), flags=re.DOTALL)
+        declared = re.findall(r"\bcommonware_(\w+)\(((?:[^()]|\([^()]*\))*)\);", text)
+        self.assertGreater(len(declared), 15)
+        for name, arguments in declared:
+            self.assertEqual(len(getattr(_native, name).argtypes), arguments.count(",") + 1, name)
+
+    def test_every_result_of_the_header_is_declared(self):
+        text = re.sub(r"/\*.*?\*/", "", (HERE.parent / "c/commonware.h").read_text(), flags=re.DOTALL)
+        results = dict((name, body) for body, name in re.findall(r"typedef struct \{(.*?)\} (\w+);", text, re.DOTALL))
+        kinds = {"uint32_t": _native.c_uint32, "size_t": _native.c_size_t}
+        for result, name in re.findall(r"\b(commonware_\w+_view) commonware_(\w+)\(", text):
+            fields = [(field, kinds[kind]) for kind, field in re.findall(r"(\w+) (\w+);", results[result])]
+            self.assertEqual(getattr(_native, name).restype._fields_, fields, name)
+
+    def test_every_status_of_the_header_has_an_error(self):
+        text = (HERE.parent / "c/commonware.h").read_text()
+        for name, number in re.findall(r"COMMONWARE_(\w+) = (\d+)", text):
+            kind = {**_native._PLAIN, **_native._NUMBERED}.get(int(number))
+            words = {"MEMORY": "OutOfMemory"}.get(name, name.title().replace("_", ""))
+            if name not in ("OK", "ROOM", "ABSENT", "REPEATED_VALUE"):
+                self.assertEqual(kind.__name__, words, name)
+
+
+KEYS = [bytes([i // 250, i % 250]) * 24 for i in range(300)]
+SET = SetView.encode(48, KEYS)
+MAP = MapView.encode(48, 48, zip(KEYS, KEYS))
+FIRST = Certificate.encode(slot_value(b"view 7", b"A"), range(201))
+SECOND = Certificate.encode(slot_value(b"view 7", b"B"), range(99, 300))
+
+
+def each_call():
+    """Calls each function of the library once, and some that refuse."""
+    assert SetView.encode(48, SetView.decode(48, bytearray(SET)).data) == SET
+    assert SetView.decode(48, memoryview(b"-" + SET)[1:]).index_of(KEYS[290]) == 290
+    assert MapView.encode(48, 48, MapView.decode(48, 48, MAP)) == MAP
+    assert MapView.encode_unique(48, 48, zip(KEYS, KEYS)) == MAP
+    assert BiMapView.decode(48, 48, MAP).key_of(KEYS[7]) == KEYS[7]
+    assert Committee.from_keys([bytes([i]) * 32 for i in range(99)]).index_of(98 * bytes(1)) is None
+    assert Certificate.encode(Certificate.decode(FIRST).value, range(201)) == FIRST
+    assert check(3, 300, FIRST).slot == Certificate.decode(FIRST).slot == b"view 7"
+    assert conflict(3, 300, FIRST, SECOND) == equivocation(3, 300, FIRST, SECOND) == tuple(range(99, 201))
+    for call in (
+        lambda: SetView.decode(48, SET[:-1]),
+        lambda: BiMapView.decode(48, 0, MAP),
+        lambda: MapView.encode_unique(1, 1, b"abab"),
+        lambda: Certificate.encode(b"", [3, 3]),
+        lambda: conflict(3, 300, FIRST, FIRST),
+    ):
+        try:
+            call()
+        except CommonwareError:
+            continue
+        raise AssertionError("it is refused")
+
+
+def pages():
+    """Returns how many bytes the process has in memory."""
+    return int(pathlib.Path("/proc/self/statm").read_text().split()[1]) * resource.getpagesize()
+
+
+class Running(unittest.TestCase):
+    def test_eight_threads(self):
+        failed = []
+
+        def work():
+            try:
+                for _ in range(60):
+                    each_call()
+            except BaseException as error:
+                failed.append(error)
+
+        threads = [threading.Thread(target=work) for _ in range(8)]
+        for thread in threads:
+            thread.start()
+        for thread in threads:
+            thread.join()
+        self.assertEqual(failed, [])
+
+    def test_the_lock_is_not_held(self):
+        keys = os.urandom(32 * 200_000)
+        counted, done = 0, threading.Event()
+
+        def work():
+            SetView.encode(32, keys)
+            done.set()
+
+        thread = threading.Thread(target=work)
+        thread.start()
+        while not done.is_set():
+            counted += 1
+            time.sleep(0.0005)
+        thread.join()
+        self.assertGreater(counted, 3)
+
+    def test_no_memory_is_lost(self):
+        for _ in range(100):
+            each_call()
+        before = pages()
+        for _ in range(2000):
+            each_call()
+        # Each round takes more than 100,000 bytes.
+        self.assertLess(pages() - before, 4_000_000)
+
+    def test_allocation_failures_are_errors(self):
+        program = """
+import array, resource
+from commonware import *
+data, keys, pairs = bytes(60_000_000), bytes(48_000_000), bytes(48_000_000)
+signers = Certificate.encode(b"", range(4_000_000))
+column = array.array("I", range(4_000_000))
+column.byteswap()
+column = bytes([0x80, 0x92, 0xF4, 1]) + column.tobytes()
+bimap = column + column
+size = int(open("/proc/self/statm").read().split()[0]) * resource.getpagesize()
+resource.setrlimit(resource.RLIMIT_AS, (size + 6_000_000, size + 6_000_000))
+for call in (
+    lambda: SetView.encode(32, keys),
+    lambda: Committee.encode(keys),
+    lambda: MapView.encode(16, 16, pairs),
+    lambda: MapView.encode_unique(16, 16, pairs),
+    lambda: Certificate.encode(data, []),
+    lambda: slot_value(b"", data),
+    lambda: Certificate.decode(signers),
+    lambda: BiMapView.decode(4, 4, bimap),
+):
+    try:
+        call()
+    except OutOfMemory as error:
+        print(type(error).__name__, error)
+"""
+        text, status = python("-c", program)
+        self.assertEqual((text, status), (8 * "OutOfMemory out of memory\n", 0))
+
+
+if __name__ == "__main__":
+    unittest.main()
