@@ -1,0 +1,3 @@
+module commonware.example/commonware
+
+go 1.19
