@@ -1,0 +1,256 @@
+package commonware_test
+
+import (
+	"bytes"
+	"encoding/binary"
+	"errors"
+	"math"
+	"os"
+	"os/exec"
+	"regexp"
+	"runtime"
+	"sync"
+	"testing"
+
+	. "commonware.example/commonware"
+)
+
+func TestNegativeNumbers(t *testing.T) {
+	calls := map[string]func(number int) error{
+		"ReadSet size":          func(n int) error { _, _, err := ReadSet(n, nil, 0, 1); return err },
+		"ReadSet least":         func(n int) error { _, _, err := ReadSet(1, nil, n, 1); return err },
+		"ReadSet most":          func(n int) error { _, _, err := ReadSet(1, nil, 0, n); return err },
+		"DecodeSet":             func(n int) error { _, err := DecodeSet(n, nil); return err },
+		"EncodeSet":             func(n int) error { _, err := EncodeSet(n, nil); return err },
+		"ReadCommittee least":   func(n int) error { _, _, err := ReadCommittee(nil, n, 1); return err },
+		"ReadCommittee most":    func(n int) error { _, _, err := ReadCommittee(nil, 0, n); return err },
+		"ReadMap keys":          func(n int) error { _, _, err := ReadMap(n, 1, nil, 0, 1); return err },
+		"ReadMap values":        func(n int) error { _, _, err := ReadMap(1, n, nil, 0, 1); return err },
+		"ReadBiMap keys":        func(n int) error { _, _, err := ReadBiMap(n, 1, nil, 0, 1); return err },
+		"ReadBiMap least":       func(n int) error { _, _, err := ReadBiMap(1, 1, nil, n, 1); return err },
+		"EncodeMap keys":        func(n int) error { _, err := EncodeMap(n, 1, nil); return err },
+		"EncodeUniqueMap":       func(n int) error { _, err := EncodeUniqueMap(1, n, nil); return err },
+		"ReadCertificate bytes": func(n int) error { _, _, err := ReadCertificate(nil, n, 1); return err },
+		"ReadCertificate most":  func(n int) error { _, _, err := ReadCertificate(nil, 1, n); return err },
+	}
+	for name, call := range calls {
+		for _, number := range []int{-1, math.MinInt} {
+			same(t, call(number), ErrNegative, name)
+		}
+	}
+}
+
+func TestSizesAtTheEdges(t *testing.T) {
+	for _, size := range []int{math.MaxInt, math.MaxInt/2 + 1, math.MaxInt / 3, 1 << 62} {
+		set, err := DecodeSet(size, []byte{0})
+		same(t, []interface{}{set.Len(), set.Size(), err}, []interface{}{0, size, nil})
+		for _, input := range [][]byte{{1}, {2, 7, 8}, {3, 7, 8, 9}, {255, 255, 255, 255, 15}} {
+			_, err = DecodeSet(size, input)
+			same(t, err, ErrEndOfInput)
+			_, err = DecodeMap(size, size, input)
+			same(t, err, ErrEndOfInput)
+		}
+		_, err = DecodeBiMap(1, size, []byte{1, 7, 1, 8})
+		same(t, err, ErrEndOfInput)
+		_, err = EncodeUniqueMap(size, size, []byte("abc"))
+		same(t, err, NotWholeError{Count: 3})
+	}
+	set, err := DecodeSet(0, []byte{1})
+	same(t, []interface{}{set.Len(), len(set.Key(0)), set.Contains(nil), set.Contains([]byte{0}), err},
+		[]interface{}{1, 0, true, false, nil})
+	set, err = DecodeSet(0, []byte{0})
+	same(t, []interface{}{set.Contains(nil), err}, []interface{}{false, nil})
+	_, err = DecodeSet(0, []byte{255, 255, 255, 255, 15})
+	same(t, err, ErrNotStrict)
+	_, err = EncodeSet(0, nil)
+	same(t, err, ErrNoSize)
+	_, err = DecodeBiMap(1, 0, []byte{2, 7, 8, 2})
+	same(t, err, RepeatedValueError{First: 0, Second: 1})
+	_, _, err = ReadSet(20, []byte{0}, 2, 1)
+	same(t, err, InvalidLengthError{Length: 0})
+	quorum, err := FaultModel(math.MaxUint32).Quorum(math.MaxUint32)
+	same(t, []interface{}{quorum, err}, []interface{}{uint32(math.MaxUint32), nil})
+}
+
+func TestNoInput(t *testing.T) {
+	for _, input := range [][]byte{nil, {}} {
+		_, err := DecodeSet(1, input)
+		same(t, err, ErrEndOfInput)
+		_, err = DecodeCommittee(input)
+		same(t, err, ErrEndOfInput)
+		_, err = DecodeBiMap(1, 1, input)
+		same(t, err, ErrEndOfInput)
+		_, err = DecodeCertificate(input)
+		same(t, err, ErrEndOfInput)
+		_, err = Check(N3F1, 4, input)
+		same(t, err, ErrEndOfInput)
+		_, err = Conflict(N3F1, 4, input, input)
+		same(t, err, CertificateError{Which: 1, Err: ErrEndOfInput})
+		encoded, err := EncodeSet(1, input)
+		same(t, []interface{}{encoded, err}, []interface{}{[]byte{0}, nil})
+		value, err := SlotValue(input, input)
+		same(t, []interface{}{value, err}, []interface{}{[]byte{0}, nil})
+	}
+	encoded, err := Certificate{}.Encode()
+	same(t, []interface{}{encoded, err}, []interface{}{[]byte{0, 0}, nil})
+	committee, err := NewCommittee(nil)
+	same(t, []interface{}{committee.Len(), len(committee.Members()), err}, []interface{}{0, 0, nil})
+	_, err = committee.Quorum(N3F1)
+	same(t, err, ErrNoMembers)
+	var none Set
+	same(t, none.Contains(nil) || Committee{}.Contains(Member{}) || none.Len() > 0, false)
+	_, isThere := BiMap{}.KeyOf(nil)
+	same(t, isThere, false)
+}
+
+// Slices have no room behind them, so that to append to one changes nothing else.
+func TestSlicesOfTheInput(t *testing.T) {
+	input := []byte("\x02ab\x02xymore")
+	pairs, rest, err := ReadMap(1, 1, input, 0, 9)
+	same(t, err, nil)
+	for _, part := range [][]byte{pairs.Key(0), pairs.Value(0), pairs.Keys().Bytes()} {
+		same(t, len(part), cap(part))
+		_ = append(part, '!')
+	}
+	same(t, string(input), "\x02ab\x02xymore")
+	same(t, &rest[0] == &input[6] && &pairs.Value(1)[0] == &input[5], true)
+	// Whoever writes to the input changes the view, and nothing else goes wrong.
+	input[1] = 'z'
+	pairs.Get([]byte("b"))
+	same(t, pairs.Key(0), []byte("z"))
+}
+
+func TestIndicesPastTheLast(t *testing.T) {
+	set, _ := DecodeSet(1, []byte("\x02ab"))
+	committee, _ := NewCommittee([]Member{{}})
+	for _, index := range []int{-1, 2, math.MaxInt} {
+		for _, call := range []func(){func() { set.Key(index) }, func() { committee.Member(index) }} {
+			func() {
+				defer func() {
+					_, isRuntime := recover().(runtime.Error)
+					same(t, isRuntime, true)
+				}()
+				call()
+			}()
+		}
+	}
+}
+
+func TestErrorsAreFound(t *testing.T) {
+	_, err := Certificate{Signers: []uint32{3, 3}}.Encode()
+	same(t, []interface{}{errors.Is(err, ErrNotStrict), err}, []interface{}{true, NotStrictError{Index: 1}})
+	input := []byte{1, 0xaa, 3, 0, 1, 2}
+	_, err = Conflict(N3F1, 4, input, append(input[:6:6], 0))
+	same(t, errors.Is(err, LeftOverError{Count: 1}), true)
+	same(t, err.Error(), "certificate 2: commonware: 1 bytes left over")
+	_, err = Conflict(N3F1, 4, input, input)
+	same(t, err, ErrSameValue)
+	_, err = Conflict(1, 0, nil, nil)
+	same(t, err, ErrNoModel)
+}
+
+func numbered(count int) []byte {
+	keys := make([]byte, 4*count)
+	for i := 0; i < count; i++ {
+		binary.BigEndian.PutUint32(keys[4*i:], uint32(i))
+	}
+	return keys
+}
+
+func TestManyItems(t *testing.T) {
+	const count = 70_000
+	keys := numbered(count)
+	encoded, err := EncodeSet(4, keys)
+	same(t, err, nil)
+	same(t, bytes.Equal(encoded[3:], keys), true)
+	set, err := DecodeSet(4, encoded)
+	same(t, []interface{}{set.Len(), err}, []interface{}{count, nil})
+	bimap, err := DecodeBiMap(4, 4, append(append([]byte{}, encoded...), encoded...))
+	same(t, err, nil)
+	signers := make([]uint32, count)
+	for i := range signers {
+		at, isThere := set.IndexOf(keys[4*i : 4*i+4])
+		same(t, isThere && at == i, true)
+		key, isThere := bimap.KeyOf(keys[4*i : 4*i+4])
+		same(t, isThere && bytes.Equal(key, keys[4*i:4*i+4]), true)
+		signers[i] = uint32(5 * i)
+	}
+	value := bytes.Repeat([]byte{7}, 1_000_000)
+	input, err := Certificate{value, signers}.Encode()
+	same(t, err, nil)
+	certificate, err := DecodeCertificate(input)
+	same(t, err, nil)
+	same(t, bytes.Equal(certificate.Value, value), true)
+	same(t, certificate.Signers, signers)
+}
+
+func TestManyGoroutines(t *testing.T) {
+	encoded, _ := EncodeSet(4, numbered(1000))
+	input := append(append([]byte{}, encoded...), encoded...)
+	var group sync.WaitGroup
+	for worker := 0; worker < 8; worker++ {
+		group.Add(1)
+		go func() {
+			defer group.Done()
+			for i := 0; i < 200; i++ {
+				bimap, err := DecodeBiMap(4, 4, input)
+				key, isThere := bimap.KeyOf(bimap.Value(i))
+				written, _ := EncodeSet(4, bimap.Keys().Bytes())
+				if err != nil || !isThere || !bytes.Equal(key, bimap.Key(i)) || !bytes.Equal(written, encoded) {
+					t.Errorf("%v %v", err, isThere)
+				}
+				if i%20 == 0 {
+					runtime.GC()
+				}
+			}
+		}()
+	}
+	group.Wait()
+}
+
+// The memory that the library takes for what it writes is given back.
+func TestNoMemoryIsLost(t *testing.T) {
+	pages := func() int {
+		text, err := os.ReadFile("/proc/self/statm")
+		if err != nil {
+			t.Skip(err)
+		}
+		return numberOf(string(bytes.Fields(text)[1])) * os.Getpagesize()
+	}
+	write := func() {
+		for i := 0; i < 50; i++ {
+			if _, err := EncodeUniqueMap(4, 4, numbered(4000)); err != nil {
+				t.Fatal(err)
+			}
+		}
+		runtime.GC()
+	}
+	write()
+	before := pages()
+	for i := 0; i < 20; i++ {
+		write()
+	}
+	// Each call takes more than 16,000 bytes, and there were 1,000.
+	if after := pages(); after-before > 8_000_000 {
+		t.Errorf("%d bytes more than %d", after-before, before)
+	}
+}
+
+func block(t *testing.T, page, language string) string {
+	found := regexp.MustCompile("(?s)```" + language + "\n(.*?)```").FindStringSubmatch(page)
+	if found == nil {
+		t.Fatalf("the page has no program in %s", language)
+	}
+	return found[1]
+}
+
+func TestTheProgramOfThePage(t *testing.T) {
+	page, err := os.ReadFile("../README.md")
+	same(t, err, nil)
+	program, err := os.ReadFile("examples/committee/main.go")
+	same(t, err, nil)
+	same(t, string(program), block(t, string(page), "go"))
+	prints, err := exec.Command("go", "run", "./examples/committee").CombinedOutput()
+	same(t, err, nil, string(prints))
+	same(t, string(prints), block(t, string(page), "text"))
+}
