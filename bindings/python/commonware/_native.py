@@ -131,12 +131,19 @@ class _Buffer(ctypes.Structure):
     ]
 
 
+# Objects of this module's own: those that are attributes of pythonapi may be declared otherwise by another one.
+_get_buffer = ctypes.PYFUNCTYPE(ctypes.c_int, ctypes.py_object, ctypes.POINTER(_Buffer), ctypes.c_int)(
+    ("PyObject_GetBuffer", ctypes.pythonapi)
+)
+_release_buffer = ctypes.PYFUNCTYPE(None, ctypes.POINTER(_Buffer))(("PyBuffer_Release", ctypes.pythonapi))
+
+
 def _address(view: memoryview) -> int:
     """Returns where the bytes of a view are, which stay there as long as there is a view of them."""
     buffer = _Buffer()
-    ctypes.pythonapi.PyObject_GetBuffer(ctypes.py_object(view), ctypes.byref(buffer), 0)
-    address: int = buffer.buf or 0
-    ctypes.pythonapi.PyBuffer_Release(ctypes.byref(buffer))
+    _get_buffer(view, ctypes.byref(buffer), 0)
+    address: int = buffer.buf
+    _release_buffer(ctypes.byref(buffer))
     return address
 
 

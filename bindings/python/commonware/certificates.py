@@ -121,7 +121,7 @@ class Certificate:
 
     @property
     def slot(self) -> Optional[bytes]:
-        """The slot that the value is for, or None where it is for none."""
+        """The slot that the value is for, or None where it is for none. To tell it takes a copy of the value, once."""
         parts = self._slot_and_decision()
         return None if parts is None else parts[0]
 
@@ -151,7 +151,7 @@ class Certificate:
         return bytes(self._encoding)
 
     def __reduce__(self) -> Tuple[Any, ...]:
-        return Certificate.decode, (bytes(self),)
+        return type(self).decode, (bytes(self),)
 
     def __repr__(self) -> str:
         return f"<Certificate of {len(self._signers)} signers for a value of {len(self._value)} bytes>"

@@ -52,6 +52,13 @@ class _Pairs(Mapping[bytes, bytes]):
         pairs._values = items_at(sizes[1], found.count, data, found.values)
         return pairs
 
+    @classmethod
+    def decode(
+        cls: Type[_Map], key_size: int, value_size: int, data: BytesLike, least: int = 0, most: Optional[int] = None
+    ) -> _Map:
+        """Decodes what the whole input is."""
+        raise NotImplementedError
+
     @property
     def key_size(self) -> int:
         """How many bytes a key has."""
@@ -103,6 +110,9 @@ class _Pairs(Mapping[bytes, bytes]):
 
     def __bytes__(self) -> bytes:
         return bytes(self._encoding)
+
+    def __reduce__(self) -> Tuple[Any, ...]:
+        return type(self).decode, (self.key_size, self.value_size, bytes(self))
 
     def __repr__(self) -> str:
         sizes = f"keys of {self.key_size} bytes and values of {self.value_size}"
@@ -213,9 +223,6 @@ class MapView(_Pairs):
         """
         return _encoded(_native.map_write_unique, key_size, value_size, pairs)
 
-    def __reduce__(self) -> Tuple[Any, ...]:
-        return MapView.decode, (self.key_size, self.value_size, bytes(self))
-
 
 class BiMapView(_Pairs):
     r"""The pairs of a bimap, whose keys are strictly increasing and whose values all differ, where its encoding
@@ -300,6 +307,3 @@ class BiMapView(_Pairs):
         """
         index = self.index_of_value(value)
         return None if index is None else self._keys[index]
-
-    def __reduce__(self) -> Tuple[Any, ...]:
-        return BiMapView.decode, (self.key_size, self.value_size, bytes(self))

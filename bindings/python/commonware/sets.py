@@ -92,14 +92,6 @@ class _KeySequence(Sequence[bytes]):
     def __bytes__(self) -> bytes:
         return bytes(self._encoding)
 
-    def __reduce__(self) -> Tuple[Any, ...]:
-        return _again, (type(self), self.size, bytes(self))
-
-
-def _again(kind: Type["_KeySequence"], size: int, data: bytes) -> "_KeySequence":
-    """Returns what was pickled."""
-    return SetView.decode(size, data) if kind is SetView else Committee.decode(data)
-
 
 class SetView(_KeySequence):
     r"""The keys of a set, strictly increasing, where its encoding has them, all of one size. Nothing is copied
@@ -190,6 +182,9 @@ class SetView(_KeySequence):
         keys = input_of(self._items.data)
         place = _native.set_index(*keys.arguments, *given.arguments)
         return place.index if place.status == OK else None
+
+    def __reduce__(self) -> Tuple[Any, ...]:
+        return type(self).decode, (self.size, bytes(self))
 
     def __repr__(self) -> str:
         return f"<SetView of {len(self)} keys of {self.size} bytes>"
@@ -300,6 +295,9 @@ class Committee(_KeySequence):
         """Returns the least size whose subsets share f + 1 members with each quorum; raises what the function
         `smaller_quorum` raises."""
         return faults.smaller_quorum(k, len(self))
+
+    def __reduce__(self) -> Tuple[Any, ...]:
+        return type(self).decode, (bytes(self),)
 
     def __repr__(self) -> str:
         return f"<Committee of {len(self)} members>"

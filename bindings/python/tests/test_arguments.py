@@ -37,6 +37,14 @@ CERTIFICATE = bytes([1, 0xAA, 3, 0, 1, 2])
 OTHER = bytes([1, 0xBB, 3, 1, 2, 3])
 
 
+class Addresses(SetView):
+    """A program's own class of sets."""
+
+
+class Weights(MapView):
+    """A program's own class of maps."""
+
+
 class Types(unittest.TestCase):
     def test_inputs_that_have_no_bytes(self):
         calls = [
@@ -249,6 +257,8 @@ class Ownership(unittest.TestCase):
             for other in (pickle.loads(pickle.dumps(result)), copy.copy(result), copy.deepcopy(result)):
                 self.assertEqual((type(other), other, bytes(other)), (type(result), result, bytes(result)))
         self.assertEqual(pickle.loads(pickle.dumps(bimap)).key_of(b"y"), b"b")
+        for result in (Addresses.decode(1, b"\2ab"), Weights.decode(1, 1, b"\2ab\2xy")):
+            self.assertEqual(type(pickle.loads(pickle.dumps(result))), type(result))
         error = pickle.loads(pickle.dumps(RepeatedValue(2, 3)))
         self.assertEqual((error.first, error.second), (2, 3))
         for result in (keys, committee, pairs, bimap, certificate):

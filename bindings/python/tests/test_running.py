@@ -126,6 +126,16 @@ class Library(unittest.TestCase):
             shutil.copy(said, beside)
             self.assertEqual(python("-c", asked, **settings), (f"{beside / _native.NAME}\n", 0))
 
+    def test_another_module_declares_what_python_has(self):
+        program = """
+import ctypes
+ctypes.pythonapi.PyObject_GetBuffer.argtypes = [ctypes.c_char_p]
+ctypes.pythonapi.PyBuffer_Release.argtypes = []
+import commonware
+print(list(commonware.SetView.decode(1, memoryview(b"-\\2ab")[1:])))
+"""
+        self.assertEqual(python("-c", program), ("[b'a', b'b']\n", 0))
+
     def test_every_function_of_the_header_is_declared(self):
         header = HERE.parent / "c/commonware.h"
         text = re.sub(r"/\*.*?\*/", "", header.read_text(), flags=re.DOTALL)
