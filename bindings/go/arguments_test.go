@@ -123,8 +123,13 @@ func TestSlicesOfTheInput(t *testing.T) {
 func TestIndicesPastTheLast(t *testing.T) {
 	set, _ := DecodeSet(1, []byte("\x02ab"))
 	committee, _ := NewCommittee([]Member{{}})
+	empty, _ := DecodeSet(0, []byte{1})
+	pairs, _ := DecodeMap(1, 0, []byte{2, 7, 8, 2})
 	for _, index := range []int{-1, 2, math.MaxInt} {
-		for _, call := range []func(){func() { set.Key(index) }, func() { committee.Member(index) }} {
+		for _, call := range []func(){
+			func() { set.Key(index) }, func() { committee.Member(index) }, func() { empty.Key(index) },
+			func() { pairs.Value(index) }, func() { pairs.Key(index) },
+		} {
 			func() {
 				defer func() {
 					_, isRuntime := recover().(runtime.Error)

@@ -159,7 +159,7 @@ func written(view C.commonware_written_view, room []byte) ([]byte, error) {
 	if err := errorOf(uint32(view.status), int(view.number)); err != nil {
 		return nil, err
 	}
-	return room[:view.size:view.size], nil
+	return room[:view.size], nil
 }
 
 func nativeCommitteeWrite(members []byte) ([]byte, error) {

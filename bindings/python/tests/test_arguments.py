@@ -140,6 +140,12 @@ class Types(unittest.TestCase):
         self.assertEqual(Certificate.encode(b"", [most]), bytes([0, 1, 255, 255, 255, 255, 15]))
         self.assertEqual(Certificate.decode(bytes([0, 1, 255, 255, 255, 255, 15])).signers, (most,))
 
+    def test_keys_of_another_size_are_not_there(self):
+        committee, keys = Committee.from_keys(64 * b"a"), SetView.decode(32, b"\1" + 32 * b"a")
+        for size in (0, 1, 31, 33, 64):
+            for view in (committee, keys):
+                self.assertEqual((view.index_of(size * b"a"), size * b"a" in view), (None, False))
+
     def test_keys_of_a_wrong_size(self):
         with self.assertRaises(WrongSize) as caught:
             SetView.encode(2, [b"ok", b"a", b"abc"])
@@ -170,6 +176,15 @@ class Types(unittest.TestCase):
 
         for call in (lambda it: SetView.decode(1, it), lambda it: SetView.decode(1, memoryview(it))):
             self.assertEqual(list(call(Longer(b"\2ab"))), [b"a", b"b"])
+
+        class Others(bytes):
+            def __buffer__(self, flags):
+                return memoryview(b"\2xyz" + bytes(1000))
+
+        keys, rest = SetView.read(1, Others(b"\2ab"))
+        # Python 3.12 and later call the method.
+        wanted = ([b"x", b"y"], 1001) if sys.version_info >= (3, 12) else ([b"a", b"b"], 0)
+        self.assertEqual((list(keys), len(rest), keys.index_of(keys[1])), (*wanted, 1))
         self.assertEqual(list(SetView.decode(1, memoryview(b"\2ab").cast("B", (3, 1)))), [b"a", b"b"])
         self.assertEqual(list(SetView.decode(4, memoryview(b"\1abc\2ab\0")[:5])), [b"abc\2"])
 
