@@ -271,6 +271,31 @@ for call in (
         text, status = python("-c", program)
         self.assertEqual((text, status), (8 * "OutOfMemory out of memory\n", 0))
 
+    def test_allocation_failures_of_the_library_are_errors(self):
+        program = """
+import os, resource, traceback
+from commonware import *
+keys = os.urandom(20_000_000)
+hard = resource.getrlimit(resource.RLIMIT_AS)[1]
+for call in (
+    lambda: SetView.encode(32, keys),
+    lambda: Committee.encode(keys),
+    lambda: MapView.encode(16, 16, keys),
+    lambda: MapView.encode_unique(16, 16, keys),
+):
+    # Enough for what is written, and not for what the library takes beside that.
+    size = int(open("/proc/self/statm").read().split()[0]) * resource.getpagesize()
+    resource.setrlimit(resource.RLIMIT_AS, (size + 25_000_000, hard))
+    try:
+        call()
+    except OutOfMemory as error:
+        print(traceback.extract_tb(error.__traceback__)[-1].name)
+    resource.setrlimit(resource.RLIMIT_AS, (hard, hard))
+print(len(SetView.encode(32, keys)) - len(keys))
+"""
+        text, status = python("-c", program)
+        self.assertEqual((text, status), (4 * "check_status\n" + "3\n", 0))
+
 
 if __name__ == "__main__":
     unittest.main()
