@@ -92,7 +92,7 @@ fn status_of(refusal: &Refusal) -> (u32, usize) {
 /// room after the call.
 type Found = ((u32, usize), [usize; 4], (usize, usize), Vec<u32>);
 
-/// Calls the library with a room of so many places.
+/// Calls the library with a room of this number of places.
 fn call(sizes: (usize, usize), input: &[u8], limits: (usize, usize), places: usize) -> Found {
     let mut room = vec![BEFORE; places];
     // SAFETY: each pointer and the length after it are those of one slice; the room is a new one.

@@ -188,7 +188,7 @@ fn writing_a_map_of_unique_keys_returns_each_allocation_failure() {
     let find = || match encode(&pairs) {
         Err(EncodeError::RepeatedKey(200)) => Ok(()),
         Err(error) => Err(error),
-        Ok(_) => panic!("the key of row 192 repeats"),
+        Ok(_) => panic!("the last pair has the key of an earlier one"),
     };
     assert!(refuse_each(&EncodeError::Memory, find) > 0);
 }
