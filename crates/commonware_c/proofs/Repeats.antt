@@ -168,6 +168,7 @@ module _ (ks : ℕ) (rows : List (List ℕ)) (pairs : List (List ℕ × List ℕ
   map_of_all vs count bytes is = record {
     are_all = are;
     count_is = is.count_is ∙ as_many;
+    count_short = is.count_short;
     bytes_is = is.bytes_is;
     bytes_most = is.bytes_most;
   }

@@ -82,6 +82,7 @@ module _ (ks vs : ℕ) (rows : List (List ℕ)) (pairs : List (List ℕ × List 
         firsts = firsts;
         count_is = same;
         count_most = omega (arith, same, pairs_not_more);
+        count_short = short;
         bytes_is = omega (
           arith,
           number_at,

@@ -1,5 +1,5 @@
 -- What the C functions return for the encoding of a committee: numbers, and where its members are.
-use Rattle.std.specs.Prelude.{◌≡◌, ℕ, ◌+◌, ◌*◌, ◌≤◌, List, Some, length, nat_eq}
+use Rattle.std.specs.Prelude.{◌≡◌, ℕ, ◌+◌, ◌*◌, ◌^◌, ◌<◌, ◌≤◌, List, Some, length, nat_eq}
 use Rattle.std.specs.Cmp.Lexicographic.{pointwise}
 use Rattle.std.specs.declared.ops.Bound.TheVariants.{Included}
 use Rattle.commonware_base.specs.Fault.{Fault}
@@ -26,11 +26,12 @@ committee_fault least most = key_set_fault 32 (between least most)
 abbrev pub StandAt : List ℕ → ℕ → List (List ℕ) → Type 0
 StandAt = StandBy 32
 
--- the set is these keys of `size` bytes in order, of equal ones one; it has `count` of them, no more than the keys, and
--- `bytes` bytes
+-- the set is these keys of `size` bytes in order, of equal ones one; it has `count` of them, no more than the keys and
+-- fewer than 2 ^ 32, so that it can be written, and `bytes` bytes
 pub record IsSetOf (size : ℕ) (keys set : List (List ℕ)) (count bytes : ℕ) : Type 0 where
   pub dedup : IsDedup (pointwise nat_eq) bytes_cmp keys set
   pub count_is : count ≡ length set
   pub count_most : count ≤ length keys
+  pub count_short : count < 2 ^ 32
   pub bytes_is : bytes ≡ length (list_enc own_bytes set)
   pub bytes_most : bytes ≤ 5 + size * count

@@ -1,5 +1,5 @@
 -- What a caller in C has written of pairs of keys and values, each of one size.
-use Rattle.std.specs.Prelude.{◌≡◌, ℕ, ◌+◌, ◌*◌, ◌<◌, ◌≤◌, List, Some, drop, length, map, nat_eq, slice_get, take}
+use Rattle.std.specs.Prelude.{◌≡◌, ℕ, ◌+◌, ◌*◌, ◌^◌, ◌<◌, ◌≤◌, List, Some, drop, length, map, nat_eq, slice_get, take}
 use Rattle.std.specs.Borrow.{Bor}
 use Rattle.std.specs.Cmp.Lexicographic.{pointwise}
 use Rattle.std.specs.List.Sorted.{IsPermutation}
@@ -22,13 +22,14 @@ abbrev pub IsFirstOfEach : ℕ → List (List ℕ) → List (List ℕ × List �
 IsFirstOfEach key_size rows =
     IsDedup (on_keys (pointwise nat_eq)) (on_keys bytes_cmp) (map (pair_of key_size) rows)
 
--- The map has the first pair of each key, in the order of the keys: `count` of them, no more than the rows, and `bytes`
--- bytes.
+-- The map has the first pair of each key, in the order of the keys: `count` of them, no more than the rows and fewer
+-- than 2 ^ 32, so that it can be written, and `bytes` bytes.
 pub record IsMapOf (key_size value_size : ℕ) (rows : List (List ℕ)) (pairs : List (List ℕ × List ℕ)) (count bytes : ℕ) :
     Type 0 where
   pub firsts : IsFirstOfEach key_size rows pairs
   pub count_is : count ≡ length pairs
   pub count_most : count ≤ length rows
+  pub count_short : count < 2 ^ 32
   pub bytes_is : bytes ≡ length (map_enc own_bytes own_bytes pairs)
   pub bytes_most : bytes ≤ 10 + (key_size + value_size) * count
 
@@ -51,10 +52,11 @@ pub record AreAllPairs (key_size : ℕ) (rows : List (List ℕ)) (pairs : List (
   pub strict : IsStrict (on_keys bytes_cmp) pairs
 
 -- The map has the pairs of all rows, no two of which have one key, in the order of the keys: as many as there are rows,
--- and `bytes` bytes.
+-- fewer than 2 ^ 32, and `bytes` bytes.
 pub record IsMapOfAll (key_size value_size : ℕ) (rows : List (List ℕ)) (pairs : List (List ℕ × List ℕ))
     (count bytes : ℕ) : Type 0 where
   pub are_all : AreAllPairs key_size rows pairs
   pub count_is : count ≡ length rows
+  pub count_short : count < 2 ^ 32
   pub bytes_is : bytes ≡ length (map_enc own_bytes own_bytes pairs)
   pub bytes_most : bytes ≤ 10 + (key_size + value_size) * count

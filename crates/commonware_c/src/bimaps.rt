@@ -57,7 +57,8 @@ pub extern "C" fn commonware_bimap_read(
     most: usize,
     room: &mut [u32],
 ) -> BimapView
-    ensures accepted { result.status ≡ 0 → (pairs : List (List ℕ × List ℕ)) × (rest : List ℕ)
+    ensures accepted { result.status ≡ 0
+        → (pairs : List (List ℕ × List ℕ)) × (rest : List ℕ)
         × IsSizedBiMapOf key_size value_size (between least most) input.now pairs rest
         × (result.count ≡ length pairs) × (result.left ≡ length rest)
         × StandBy key_size input.now result.keys (keys_of pairs)

@@ -44,7 +44,8 @@ pub extern "C" fn commonware_map_read(
     least: usize,
     most: usize,
 ) -> PairsView
-    ensures accepted { result.status ≡ 0 → (pairs : List (List ℕ × List ℕ)) × (rest : List ℕ)
+    ensures accepted { result.status ≡ 0
+        → (pairs : List (List ℕ × List ℕ)) × (rest : List ℕ)
         × IsSizedMapOf key_size value_size (between least most) input.now pairs rest
         × (result.count ≡ length pairs) × (result.left ≡ length rest)
         × StandBy key_size input.now result.keys (keys_of pairs)

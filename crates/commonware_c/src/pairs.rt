@@ -26,15 +26,18 @@ pub extern "C" fn commonware_map_write(
     pairs: &[u8],
     out: &mut [u8],
 ) -> WrittenView
-    ensures written { result.status ≡ 0 → (rows : List (List ℕ)) × (map : List (List ℕ × List ℕ))
+    ensures written { result.status ≡ 0
+        → (rows : List (List ℕ)) × (map : List (List ℕ × List ℕ))
         × AreItemsOf (key_size + value_size) pairs.now rows
         × IsMapOf key_size value_size rows map result.count result.size
         × (out.new ≡ spliced 0 (map_enc own_bytes own_bytes map) out.old) }
-    ensures room { result.status ≡ 11 → (rows : List (List ℕ)) × (map : List (List ℕ × List ℕ))
+    ensures room { result.status ≡ 11
+        → (rows : List (List ℕ)) × (map : List (List ℕ × List ℕ))
         × AreItemsOf (key_size + value_size) pairs.now rows
         × IsMapOf key_size value_size rows map result.count result.size
         × (length out.old < result.size) }
-    ensures long { result.status ≡ 3 → (rows : List (List ℕ)) × (map : List (List ℕ × List ℕ))
+    ensures long { result.status ≡ 3
+        → (rows : List (List ℕ)) × (map : List (List ℕ × List ℕ))
         × AreItemsOf (key_size + value_size) pairs.now rows
         × IsFirstOfEach key_size rows map × (result.number ≡ length map) × (2 ^ 32 ≤ length map) }
     ensures no_size { (result.status ≡ 16) ↔ (key_size ≡ 0) }

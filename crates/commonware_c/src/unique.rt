@@ -29,15 +29,18 @@ pub extern "C" fn commonware_map_write_unique(
     pairs: &[u8],
     out: &mut [u8],
 ) -> WrittenView
-    ensures written { result.status ≡ 0 → (rows : List (List ℕ)) × (map : List (List ℕ × List ℕ))
+    ensures written { result.status ≡ 0
+        → (rows : List (List ℕ)) × (map : List (List ℕ × List ℕ))
         × AreItemsOf (key_size + value_size) pairs.now rows
         × IsMapOfAll key_size value_size rows map result.count result.size
         × (out.new ≡ spliced 0 (map_enc own_bytes own_bytes map) out.old) }
-    ensures room { result.status ≡ 11 → (rows : List (List ℕ)) × (map : List (List ℕ × List ℕ))
+    ensures room { result.status ≡ 11
+        → (rows : List (List ℕ)) × (map : List (List ℕ × List ℕ))
         × AreItemsOf (key_size + value_size) pairs.now rows
         × IsMapOfAll key_size value_size rows map result.count result.size
         × (length out.old < result.size) }
-    ensures long { result.status ≡ 3 → (rows : List (List ℕ)) × (map : List (List ℕ × List ℕ))
+    ensures long { result.status ≡ 3
+        → (rows : List (List ℕ)) × (map : List (List ℕ × List ℕ))
         × AreItemsOf (key_size + value_size) pairs.now rows × AreAllPairs key_size rows map
         × (result.number ≡ length rows) × (2 ^ 32 ≤ length rows) }
     ensures repeated { result.status ≡ 19 → (rows : List (List ℕ))

@@ -49,6 +49,7 @@ is_set size keys items set count front are dedup short same number_at =
       dedup = dedup;
       count_is = number;
       count_most = omega (arith, number, set_not_longer items (values set) dedup);
+      count_short = short;
       bytes_is = omega (arith, number_at, ap (λ n. length (varint n)) number, flat, long);
       bytes_most = omega (arith, number_at, varint-length count short);
     }
