@@ -29,7 +29,7 @@ pub record AreInOrder (items : List (List ℕ)) (places : List ℕ) : Type 0 whe
   pub each : IsPermutation (range_with_len 0 (length items)) places
   pub sorted : IsSorted (place_cmp items) places
 
--- why the positions of so many items don't go into a room of so many places, each for a number below 2 ^ 32
+-- why the positions of `count` items don't go into a room of `places` numbers, each below 2 ^ 32
 abbrev pub IsNoRoom : ℕ → ℕ → NoRoom → Type 0
 IsNoRoom count places (Short needed) = (needed ≡ count) × (places < count)
 IsNoRoom count places (TooMany items) = (items ≡ count) × (count ≤ places) × (2 ^ 32 < count)
