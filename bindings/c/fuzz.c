@@ -1,8 +1,8 @@
-/* The readers and writers beside a decoder that is written from docs/FORMAT.md alone. The data of a case
- * is three bytes of limits and then the input of the calls.
+/* The readers and writers beside a decoder that is written from docs/FORMAT.md alone. The data of a
+ * case is three bytes of limits and then the input of the calls.
  *
- * clang -fsanitize=fuzzer makes a fuzzer of it. With COMMONWARE_DRIVER it has a main of its own, which
- * takes a number n and files: it tries each file, and n random changes of each. */
+ * clang -fsanitize=fuzzer makes a fuzzer of it. With COMMONWARE_DRIVER it has a main of its own,
+ * which takes a number n and files: it tries each file, and n random changes of each. */
 #include "commonware.h"
 
 #include <stdbool.h>
@@ -134,14 +134,13 @@ static void *room(size_t elements, size_t size) {
     return block;
 }
 
-static void try_index(const uint8_t (*members)[32], uint32_t count, const uint8_t *input) {
-    const uint8_t(*key)[32] = (const uint8_t(*)[32])input;
+static void try_index(const uint8_t *members, uint32_t count, const uint8_t *key) {
     const commonware_place_view view = commonware_committee_index(members, count, key);
-    uint32_t place = 0;
-    while (place < count && memcmp(members[place], input, 32) < 0) {
+    size_t place = 0;
+    while (place < count && memcmp(members + 32 * place, key, 32) < 0) {
         place++;
     }
-    const bool is_there = place < count && memcmp(members[place], input, 32) == 0;
+    const bool is_there = place < count && memcmp(members + 32 * place, key, 32) == 0;
     REQUIRE(view.status == (is_there ? COMMONWARE_OK : COMMONWARE_ABSENT) && view.index == place);
 }
 
@@ -157,23 +156,23 @@ static void try_committee(const uint8_t *input, size_t length, size_t least, siz
     }
     REQUIRE(view.count == count && view.left == rest.length);
     REQUIRE(view.start + 32 * (size_t)count + rest.length == length);
-    const uint8_t(*members)[32] = (const uint8_t(*)[32])(input + view.start);
+    const uint8_t *members = input + view.start;
     if (length >= 32) {
         try_index(members, count, input);
         try_index(members, count, input + length - 32);
     }
     /* From the last to the first, and then all again. */
-    uint8_t(*keys)[32] = room(2 * (size_t)count, 32);
-    for (uint32_t i = 0; i < count; i++) {
-        memcpy(keys[count - 1 - i], members[i], 32);
-        memcpy(keys[count + i], members[i], 32);
+    uint8_t *keys = room(2 * (size_t)count, 32);
+    for (size_t i = 0; i < count; i++) {
+        memcpy(keys + 32 * (count - 1 - i), members + 32 * i, 32);
+        memcpy(keys + 32 * (count + i), members + 32 * i, 32);
     }
     const size_t size = length - rest.length;
     uint8_t *out = room(size, 1);
-    const uint8_t(*given)[32] = (const uint8_t(*)[32])keys;
-    commonware_written_view written = commonware_committee_write(given, 2 * (size_t)count, out, size - 1);
+    commonware_written_view written =
+        commonware_committee_write(keys, 2 * (size_t)count, out, size - 1);
     REQUIRE(written.status == COMMONWARE_ROOM && written.size == size && out[0] == 0xee);
-    written = commonware_committee_write(given, 2 * (size_t)count, out, size);
+    written = commonware_committee_write(keys, 2 * (size_t)count, out, size);
     REQUIRE(written.status == COMMONWARE_OK && written.size == size && written.count == count);
     REQUIRE(memcmp(out, input, size) == 0 && out[size] == 0xee);
     free(keys);
@@ -274,7 +273,8 @@ static void try_map(size_t key_size, size_t value_size, const uint8_t *input, si
     REQUIRE(set.status == COMMONWARE_OK && set.start == view.keys && set.count == count);
 }
 
-/* Of a map that was found: all its pairs as a bimap, whose indices have to be in the order of the values. */
+/* Of a map that was found: all its pairs as a bimap, whose indices have to be in the order of the
+ * values. */
 static void try_pairs(commonware_map_view map, size_t value_size, commonware_bimap_view view,
                       const uint8_t *input, const uint32_t *indices) {
     const uint8_t *values = input + map.values;
@@ -283,7 +283,8 @@ static void try_pairs(commonware_map_view map, size_t value_size, commonware_bim
         REQUIRE(indices[i] < map.count);
         if (i > 0) {
             const size_t one = indices[i - 1], other = indices[i];
-            const int order = memcmp(values + one * value_size, values + other * value_size, value_size);
+            const int order =
+                memcmp(values + one * value_size, values + other * value_size, value_size);
             REQUIRE(order < 0 || (order == 0 && one < other));
             if (order == 0 && other < second) {
                 first = one;
@@ -306,12 +307,13 @@ static void try_bimap(size_t key_size, size_t value_size, const uint8_t *input, 
         commonware_map_read(key_size, value_size, input, length, least, most);
     const size_t places = map.count;
     uint32_t *indices = room(places + 1, sizeof(uint32_t));
-    commonware_bimap_view view = commonware_bimap_read(key_size, value_size, input, length, least, most,
-                                                       indices, places - (places > 0));
+    commonware_bimap_view view = commonware_bimap_read(key_size, value_size, input, length, least,
+                                                       most, indices, places - (places > 0));
     REQUIRE(indices[0] == 0xeeeeeeee);
     if (map.status == COMMONWARE_OK && places > 0) {
         REQUIRE(view.status == COMMONWARE_ROOM && view.number == places && view.count == 0);
-        view = commonware_bimap_read(key_size, value_size, input, length, least, most, indices, places);
+        view = commonware_bimap_read(key_size, value_size, input, length, least, most, indices,
+                                     places);
     }
     if (map.status == COMMONWARE_OK) {
         REQUIRE(view.number == 0 && indices[places] == 0xeeeeeeee);
@@ -364,9 +366,10 @@ static size_t first_with_key(struct rows rows, size_t index) {
     return first;
 }
 
-/* A map that was written of rows: it has this number of pairs, and each key has the value of the first row
- * with it. */
-static void try_written(struct rows rows, commonware_written_view view, const uint8_t *out, size_t count) {
+/* A map that was written of rows: it has this number of pairs, and each key has the value of the
+ * first row with it. */
+static void try_written(struct rows rows, commonware_written_view view, const uint8_t *out,
+                        size_t count) {
     REQUIRE(view.status == COMMONWARE_OK && view.count == count && view.number == 0);
     REQUIRE(out[view.size] == 0xee);
     const commonware_map_view map =
@@ -377,12 +380,13 @@ static void try_written(struct rows rows, commonware_written_view view, const ui
             out + map.keys, count * rows.key_size, row_at(rows, i), rows.key_size);
         REQUIRE(place.status == COMMONWARE_OK);
         const uint8_t *value = row_at(rows, first_with_key(rows, i)) + rows.key_size;
-        REQUIRE(memcmp(out + map.values + place.index * rows.value_size, value, rows.value_size) == 0);
+        REQUIRE(memcmp(out + map.values + place.index * rows.value_size, value, rows.value_size) ==
+                0);
     }
 }
 
-/* Any bytes as rows: of rows with one key the first is written, or the first row that has the key of an
- * earlier one is told. */
+/* Any bytes as rows: of rows with one key the first is written, or the first row that has the key
+ * of an earlier one is told. */
 static void try_rows(size_t key_size, size_t value_size, const uint8_t *input, size_t length) {
     const size_t size = key_size + value_size;
     if (key_size == 0 || key_size > length || size > length || length % size > 0) {
@@ -397,7 +401,8 @@ static void try_rows(size_t key_size, size_t value_size, const uint8_t *input, s
         repeat = is_first ? repeat : i - 1;
     }
     uint8_t *out = room(most, 1);
-    try_written(rows, commonware_map_write(key_size, value_size, input, length, out, most), out, distinct);
+    try_written(rows, commonware_map_write(key_size, value_size, input, length, out, most), out,
+                distinct);
     memset(out, 0xee, most);
     const commonware_written_view view =
         commonware_map_write_unique(key_size, value_size, input, length, out, most);
@@ -429,7 +434,8 @@ static void try_sizes(const uint8_t *input, size_t length, size_t low, size_t hi
     }
 }
 
-static void try_certificate(const uint8_t *input, size_t length, size_t most_bytes, size_t most_signers) {
+static void try_certificate(const uint8_t *input, size_t length, size_t most_bytes,
+                            size_t most_signers) {
     struct rest rest = {input, length};
     struct parts parts = {NULL, 0, 0, room(length, sizeof(uint32_t))};
     uint32_t stated = 0;
@@ -456,7 +462,8 @@ static void try_certificate(const uint8_t *input, size_t length, size_t most_byt
         free(out);
         if (parts.count > 0) {
             const size_t short_by_one = parts.count - 1;
-            view = commonware_certificate_read(input, length, most_bytes, most_signers, signers, short_by_one);
+            view = commonware_certificate_read(input, length, most_bytes, most_signers, signers,
+                                               short_by_one);
             REQUIRE(view.status == COMMONWARE_ROOM && view.signers == parts.count);
         }
     }
@@ -509,7 +516,8 @@ static bool find_slot(const struct parts *parts, struct rest *slot, struct rest 
 }
 
 static bool are_same(struct rest one, struct rest other) {
-    return one.length == other.length && (one.length == 0 || memcmp(one.bytes, other.bytes, one.length) == 0);
+    return one.length == other.length &&
+           (one.length == 0 || memcmp(one.bytes, other.bytes, one.length) == 0);
 }
 
 /* What two values are to one another: of a conflict, or of an equivocation. */
@@ -518,7 +526,8 @@ static struct verdict judge_values(const struct parts *parts, bool by_slot) {
     if (!by_slot) {
         const struct rest values[2] = {{parts[0].value, parts[0].value_length},
                                        {parts[1].value, parts[1].value_length}};
-        return (struct verdict){are_same(values[0], values[1]) ? COMMONWARE_SAME_VALUE : COMMONWARE_OK, 0};
+        return (struct verdict){
+            are_same(values[0], values[1]) ? COMMONWARE_SAME_VALUE : COMMONWARE_OK, 0};
     }
     for (uint32_t i = 0; i < 2; i++) {
         if (!find_slot(&parts[i], &slots[i], &decisions[i])) {
@@ -528,11 +537,13 @@ static struct verdict judge_values(const struct parts *parts, bool by_slot) {
     if (!are_same(slots[0], slots[1])) {
         return (struct verdict){COMMONWARE_OTHER_SLOT, 0};
     }
-    return (struct verdict){are_same(decisions[0], decisions[1]) ? COMMONWARE_SAME_VALUE : COMMONWARE_OK, 0};
+    return (struct verdict){
+        are_same(decisions[0], decisions[1]) ? COMMONWARE_SAME_VALUE : COMMONWARE_OK, 0};
 }
 
 /* Whether the signers are members, and at least a quorum, one list after the other. */
-static struct verdict judge_signers(const struct parts *parts, uint32_t lists, uint32_t k, uint32_t members) {
+static struct verdict judge_signers(const struct parts *parts, uint32_t lists, uint32_t k,
+                                    uint32_t members) {
     for (uint32_t i = 0; i < lists; i++) {
         if (has_outsider(&parts[i], members)) {
             return (struct verdict){COMMONWARE_OUTSIDE, i + 1};
@@ -554,8 +565,8 @@ static uint32_t decode_whole(struct rest rest, struct parts *parts) {
 }
 
 /* The members that signed both of two inputs: the bytes before a place, and those from it on. */
-static void try_both(uint32_t k, uint32_t members, const uint8_t *input, size_t length, size_t place,
-                     bool by_slot) {
+static void try_both(uint32_t k, uint32_t members, const uint8_t *input, size_t length,
+                     size_t place, bool by_slot) {
     const struct rest rests[2] = {{input, place}, {input + place, length - place}};
     struct parts parts[2];
     struct verdict wanted = {COMMONWARE_OK, 0};
@@ -576,9 +587,10 @@ static void try_both(uint32_t k, uint32_t members, const uint8_t *input, size_t 
     size_t both = 0;
     uint32_t *out = room(length, sizeof(uint32_t));
     const commonware_conflict_view view =
-        by_slot
-            ? commonware_equivocation(k, members, input, place, input + place, length - place, out, length)
-            : commonware_conflict(k, members, input, place, input + place, length - place, out, length);
+        by_slot ? commonware_equivocation(k, members, input, place, input + place, length - place,
+                                          out, length)
+                : commonware_conflict(k, members, input, place, input + place, length - place, out,
+                                      length);
     REQUIRE(view.status == wanted.status && view.which == wanted.which);
     for (uint32_t i = 0; view.status == COMMONWARE_OK && i < parts[0].count; i++) {
         for (uint32_t j = 0; j < parts[1].count; j++) {

@@ -1,25 +1,6 @@
-/* Calls each function: what it returns and refuses, at the end of a readable page too, and with each
- * allocation failing in turn. Prints what failed, and ends with 0 where nothing did. */
-#define _DEFAULT_SOURCE
-#include "commonware.h"
-
-#include <stdbool.h>
-#include <stdio.h>
-#include <stdlib.h>
-#include <string.h>
-#include <sys/mman.h>
-#include <unistd.h>
-
-static int failed;
-
-static void check(bool holds, const char *what, int line) {
-    if (!holds) {
-        printf("test.c:%d: %s\n", line, what);
-        failed++;
-    }
-}
-
-#define CHECK(condition) check((condition), #condition, __LINE__)
+/* Calls each function: what it returns and refuses, and with each allocation failing in turn.
+ * Prints what failed, and ends with 0 where nothing did. */
+#include "tests.h"
 
 /* In place of the archive's heap: one that allows some requests, and refuses all after them. */
 struct tried {
@@ -27,9 +8,9 @@ struct tried {
     unsigned char *block;
 };
 
-struct tried rattle_alloc(size_t size, size_t align);
-struct tried rattle_realloc(unsigned char *block, size_t kept, size_t size, size_t align);
-void rattle_dealloc(unsigned char *block);
+struct tried commonware_alloc(size_t size, size_t align);
+struct tried commonware_realloc(unsigned char *block, size_t kept, size_t size, size_t align);
+void commonware_dealloc(unsigned char *block);
 
 static size_t requests, allowed = SIZE_MAX, live;
 static unsigned char no_block;
@@ -39,7 +20,7 @@ static struct tried tried(unsigned char *block) {
     return result;
 }
 
-struct tried rattle_alloc(size_t size, size_t align) {
+struct tried commonware_alloc(size_t size, size_t align) {
     if (requests++ >= allowed) {
         return tried(NULL);
     }
@@ -47,7 +28,7 @@ struct tried rattle_alloc(size_t size, size_t align) {
     return tried(malloc(size != 0 ? size : align));
 }
 
-struct tried rattle_realloc(unsigned char *block, size_t kept, size_t size, size_t align) {
+struct tried commonware_realloc(unsigned char *block, size_t kept, size_t size, size_t align) {
     (void)kept;
     if (requests++ >= allowed) {
         return tried(NULL);
@@ -55,15 +36,55 @@ struct tried rattle_realloc(unsigned char *block, size_t kept, size_t size, size
     return tried(realloc(block, size != 0 ? size : align));
 }
 
-void rattle_dealloc(unsigned char *block) {
+void commonware_dealloc(unsigned char *block) {
     live--;
     free(block);
 }
 
-#define OF(array) (array), sizeof(array) / sizeof *(array)
+#if COMMONWARE_VERSION != 1000000 || COMMONWARE_VERSION_MAJOR != 1
+#error "commonware.h has another version than these tests"
+#endif
 
-/* Two certificates for different values, by 0, 1, 2 and by 1, 2, 3. */
-static const uint8_t first[] = {1, 0xaa, 3, 0, 1, 2}, second[] = {1, 0xbb, 3, 1, 2, 3};
+/* The version is 1.0.0, of the header and of the library. */
+static void test_version(void) {
+    CHECK(commonware_version() == 1000000);
+    CHECK(COMMONWARE_VERSION == 1000000 && COMMONWARE_VERSION_MAJOR == 1);
+    CHECK(COMMONWARE_VERSION_MINOR == 0 && COMMONWARE_VERSION_PATCH == 0);
+}
+
+static void test_status_text(void) {
+    static const struct {
+        uint32_t status;
+        const char *text;
+    } told[] = {
+        {COMMONWARE_OK, "no error"},
+        {COMMONWARE_END_OF_INPUT, "the input ends before the value does"},
+        {COMMONWARE_INVALID_VARINT, "a varint is longer than it has to be, or past 4294967295"},
+        {COMMONWARE_INVALID_LENGTH, "a length is out of range"},
+        {COMMONWARE_NOT_STRICT, "the items aren't strictly increasing"},
+        {COMMONWARE_MEMORY, "an allocation failed"},
+        {COMMONWARE_LEFT_OVER, "bytes follow the certificate"},
+        {COMMONWARE_NO_MEMBERS, "a committee of 0 members"},
+        {COMMONWARE_SAME_VALUE, "both certificates are for one value"},
+        {COMMONWARE_OUTSIDE, "a signer is no member"},
+        {COMMONWARE_TOO_FEW, "fewer signers than a quorum"},
+        {COMMONWARE_ROOM, "the room for the result is too short"},
+        {COMMONWARE_ABSENT, "the key isn't among the members, or the keys"},
+        {COMMONWARE_NO_MODEL, "k is below 2"},
+        {COMMONWARE_NO_SLOT, "the value is no decision for a slot"},
+        {COMMONWARE_OTHER_SLOT, "the values are for two different slots"},
+        {COMMONWARE_NO_SIZE, "keys have no bytes: it can't be told how many there are"},
+        {COMMONWARE_NOT_WHOLE, "bytes follow the last whole key, or the last whole pair"},
+        {COMMONWARE_REPEATED_VALUE, "two pairs have the same value"},
+        {COMMONWARE_REPEATED_KEY, "a pair has the key of an earlier one"},
+        {20, "no status of this version"},
+        {UINT32_MAX, "no status of this version"},
+    };
+    for (size_t i = 0; i < sizeof told / sizeof *told; i++) {
+        CHECK(strcmp(commonware_status_text(told[i].status), told[i].text) == 0);
+        CHECK(told[i].status == (i < 21 ? i : UINT32_MAX));
+    }
+}
 
 static void test_numbers(void) {
     CHECK(commonware_max_faults(COMMONWARE_N3F1, 4) == 1);
@@ -93,9 +114,8 @@ static void test_committee(void) {
     for (size_t i = 0; i < 5; i++) {
         memset(keys[i], (int)(7 * i % 4), 32);
     }
-    const uint8_t(*members)[32] = (const uint8_t(*)[32])keys;
     uint8_t bytes[COMMONWARE_COMMITTEE_SIZE(5)];
-    const commonware_written_view written = commonware_committee_write(members, 5, OF(bytes));
+    const commonware_written_view written = commonware_committee_write(&keys[0][0], 5, OF(bytes));
     CHECK(written.status == COMMONWARE_OK && written.count == 4 && written.size == 1 + 4 * 32);
     CHECK(bytes[0] == 4 && bytes[1] == 0 && bytes[33] == 1 && bytes[97] == 3 && bytes[128] == 3);
 
@@ -130,55 +150,25 @@ static void test_committee(void) {
 
     uint8_t room[128];
     memset(room, 0xee, sizeof room);
-    const commonware_written_view refused = commonware_committee_write(members, 5, OF(room));
+    const commonware_written_view refused = commonware_committee_write(&keys[0][0], 5, OF(room));
     CHECK(refused.status == COMMONWARE_ROOM && refused.size == 129 && refused.count == 4);
     CHECK(room[0] == 0xee && memcmp(room, room + 1, sizeof room - 1) == 0);
-    CHECK(commonware_committee_write(members, 5, NULL, 0).status == COMMONWARE_ROOM);
+    CHECK(commonware_committee_write(&keys[0][0], 5, NULL, 0).status == COMMONWARE_ROOM);
     const commonware_written_view none = commonware_committee_write(NULL, 0, OF(room));
     CHECK(none.status == COMMONWARE_OK && none.size == 1 && room[0] == 0 && room[1] == 0xee);
 }
 
 static void test_index(void) {
     uint8_t keys[3][32] = {{1}, {3}, {3, 0, 7}};
-    const uint8_t(*members)[32] = (const uint8_t(*)[32])keys;
     const uint8_t sought[5][32] = {{0}, {3}, {3, 0, 7}, {2}, {9}};
     const uint32_t statuses[5] = {12, 0, 0, 12, 12};
     const size_t indices[5] = {0, 1, 2, 1, 3};
     for (size_t i = 0; i < 5; i++) {
-        const commonware_place_view view = commonware_committee_index(members, 3, &sought[i]);
+        const commonware_place_view view = commonware_committee_index(&keys[0][0], 3, sought[i]);
         CHECK(view.status == statuses[i] && view.index == indices[i]);
     }
-    const commonware_place_view none = commonware_committee_index(NULL, 0, &sought[0]);
+    const commonware_place_view none = commonware_committee_index(NULL, 0, sought[0]);
     CHECK(none.status == COMMONWARE_ABSENT && none.index == 0);
-}
-
-/* Sizes of keys that are in use, and of one byte. */
-static const size_t sizes[] = {1, 20, 32, 33, 48, 96};
-
-#define SIZES (sizeof sizes / sizeof *sizes)
-
-/* What the view says, field by field; what isn't described at a status is 0. */
-static bool is_set(commonware_set_view view, uint32_t status, uint32_t count, size_t number,
-                   size_t start, size_t left) {
-    return view.status == status && view.count == count && view.number == number
-        && view.start == start && view.left == left;
-}
-
-static bool is_map(commonware_map_view view, uint32_t status, uint32_t count, size_t number,
-                   size_t keys, size_t values, size_t left) {
-    return view.status == status && view.count == count && view.number == number
-        && view.keys == keys && view.values == values && view.left == left;
-}
-
-static bool is_place(commonware_place_view view, uint32_t status, size_t index) {
-    return view.status == status && view.index == index;
-}
-
-/* Writes the keys 11 .. 11 22 and 11 .. 11 33 of this size, which differ in the last byte alone. */
-static void put_two(uint8_t *out, size_t size) {
-    memset(out, 0x11, 2 * size);
-    out[size - 1] = 0x22;
-    out[2 * size - 1] = 0x33;
 }
 
 static void test_set(void) {
@@ -265,7 +255,7 @@ static void test_set_index(void) {
         for (uint8_t last = 0x21; last <= 0x45; last++) {
             memset(key, 0x11, size);
             key[size - 1] = last;
-            const size_t less = (last > 0x22) + (last > 0x33) + (last > 0x44);
+            const size_t less = (size_t)((last > 0x22) + (last > 0x33) + (last > 0x44));
             const bool is_there = last == 0x22 || last == 0x33 || last == 0x44;
             const uint32_t status = is_there ? COMMONWARE_OK : COMMONWARE_ABSENT;
             CHECK(is_place(commonware_set_index(keys, 3 * size, key, size), status, less));
@@ -290,25 +280,23 @@ static void test_set_index(void) {
     CHECK(is_place(view, COMMONWARE_ABSENT, 2));
 }
 
-static bool is_written(commonware_written_view view, uint32_t status, size_t count, size_t number,
-                       size_t size) {
-    return view.status == status && view.count == count && view.number == number && view.size == size;
-}
-
-/* Keys of three bytes in any order, each once or more; the room as it was where nothing is written. */
+/* Keys of three bytes in any order, each once or more; the room as it was where nothing is
+ * written. */
 static void test_set_write(void) {
     const uint8_t keys[] = {5, 0, 2, 5, 0, 1, 5, 0, 2, 4, 9, 9};
     const uint8_t set[] = {3, 4, 9, 9, 5, 0, 1, 5, 0, 2, 0xee, 0xee};
     uint8_t out[12];
     memset(out, 0xee, sizeof out);
-    const uint8_t untouched[12] = {0xee, 0xee, 0xee, 0xee, 0xee, 0xee, 0xee, 0xee, 0xee, 0xee, 0xee, 0xee};
+    const uint8_t untouched[12] = {0xee, 0xee, 0xee, 0xee, 0xee, 0xee,
+                                   0xee, 0xee, 0xee, 0xee, 0xee, 0xee};
     CHECK(is_written(commonware_set_write(3, OF(keys), out, 9), COMMONWARE_ROOM, 3, 0, 10));
     CHECK(is_written(commonware_set_write(3, OF(keys), NULL, 0), COMMONWARE_ROOM, 3, 0, 10));
     CHECK(is_written(commonware_set_write(0, OF(keys), OF(out)), COMMONWARE_NO_SIZE, 0, 0, 0));
     CHECK(is_written(commonware_set_write(0, NULL, 0, OF(out)), COMMONWARE_NO_SIZE, 0, 0, 0));
     CHECK(is_written(commonware_set_write(5, OF(keys), OF(out)), COMMONWARE_NOT_WHOLE, 0, 2, 0));
     CHECK(is_written(commonware_set_write(13, OF(keys), OF(out)), COMMONWARE_NOT_WHOLE, 0, 12, 0));
-    CHECK(is_written(commonware_set_write(SIZE_MAX, OF(keys), OF(out)), COMMONWARE_NOT_WHOLE, 0, 12, 0));
+    CHECK(is_written(commonware_set_write(SIZE_MAX, OF(keys), OF(out)), COMMONWARE_NOT_WHOLE, 0, 12,
+                     0));
     CHECK(memcmp(out, untouched, sizeof out) == 0);
     CHECK(is_written(commonware_set_write(3, OF(keys), OF(out)), COMMONWARE_OK, 3, 0, 10));
     CHECK(memcmp(out, set, sizeof out) == 0);
@@ -388,9 +376,12 @@ static void test_map_write(void) {
     CHECK(is_written(commonware_map_write(2, 1, OF(pairs), out, 10), COMMONWARE_ROOM, 3, 0, 11));
     CHECK(is_written(commonware_map_write(2, 1, OF(pairs), NULL, 0), COMMONWARE_ROOM, 3, 0, 11));
     CHECK(is_written(commonware_map_write(0, 3, OF(pairs), OF(out)), COMMONWARE_NO_SIZE, 0, 0, 0));
-    CHECK(is_written(commonware_map_write(4, 1, OF(pairs), OF(out)), COMMONWARE_NOT_WHOLE, 0, 2, 0));
-    CHECK(is_written(commonware_map_write(SIZE_MAX, 2, OF(pairs), OF(out)), COMMONWARE_NOT_WHOLE, 0, 12, 0));
-    CHECK(is_written(commonware_map_write(1, SIZE_MAX, OF(pairs), OF(out)), COMMONWARE_NOT_WHOLE, 0, 12, 0));
+    CHECK(
+        is_written(commonware_map_write(4, 1, OF(pairs), OF(out)), COMMONWARE_NOT_WHOLE, 0, 2, 0));
+    CHECK(is_written(commonware_map_write(SIZE_MAX, 2, OF(pairs), OF(out)), COMMONWARE_NOT_WHOLE, 0,
+                     12, 0));
+    CHECK(is_written(commonware_map_write(1, SIZE_MAX, OF(pairs), OF(out)), COMMONWARE_NOT_WHOLE, 0,
+                     12, 0));
     CHECK(memcmp(out, untouched, sizeof out) == 0);
     CHECK(is_written(commonware_map_write(2, 1, OF(pairs), OF(out)), COMMONWARE_OK, 3, 0, 11));
     CHECK(memcmp(out, map, sizeof out) == 0);
@@ -406,17 +397,26 @@ static void test_map_write_unique(void) {
     uint8_t out[12], untouched[12];
     memset(out, 0xee, sizeof out);
     memset(untouched, 0xee, sizeof untouched);
-    CHECK(is_written(commonware_map_write_unique(2, 1, OF(pairs), OF(out)), COMMONWARE_REPEATED_KEY, 0, 3, 0));
-    CHECK(is_written(commonware_map_write_unique(1, 2, OF(pairs), OF(out)), COMMONWARE_REPEATED_KEY, 0, 1, 0));
-    CHECK(is_written(commonware_map_write_unique(2, 1, OF(pairs), NULL, 0), COMMONWARE_REPEATED_KEY, 0, 3, 0));
-    CHECK(is_written(commonware_map_write_unique(2, 1, pairs, 14, OF(out)), COMMONWARE_NOT_WHOLE, 0, 2, 0));
-    CHECK(is_written(commonware_map_write_unique(0, 3, OF(pairs), OF(out)), COMMONWARE_NO_SIZE, 0, 0, 0));
-    CHECK(is_written(commonware_map_write_unique(2, 1, pairs, 9, out, 10), COMMONWARE_ROOM, 3, 0, 11));
+    CHECK(is_written(commonware_map_write_unique(2, 1, OF(pairs), OF(out)), COMMONWARE_REPEATED_KEY,
+                     0, 3, 0));
+    CHECK(is_written(commonware_map_write_unique(1, 2, OF(pairs), OF(out)), COMMONWARE_REPEATED_KEY,
+                     0, 1, 0));
+    CHECK(is_written(commonware_map_write_unique(2, 1, OF(pairs), NULL, 0), COMMONWARE_REPEATED_KEY,
+                     0, 3, 0));
+    CHECK(is_written(commonware_map_write_unique(2, 1, pairs, 14, OF(out)), COMMONWARE_NOT_WHOLE, 0,
+                     2, 0));
+    CHECK(is_written(commonware_map_write_unique(0, 3, OF(pairs), OF(out)), COMMONWARE_NO_SIZE, 0,
+                     0, 0));
+    CHECK(is_written(commonware_map_write_unique(2, 1, pairs, 9, out, 10), COMMONWARE_ROOM, 3, 0,
+                     11));
     CHECK(memcmp(out, untouched, sizeof out) == 0);
-    CHECK(is_written(commonware_map_write_unique(2, 1, pairs, 9, out, 11), COMMONWARE_OK, 3, 0, 11));
+    CHECK(
+        is_written(commonware_map_write_unique(2, 1, pairs, 9, out, 11), COMMONWARE_OK, 3, 0, 11));
     CHECK(memcmp(out, map, sizeof out) == 0);
-    CHECK(is_written(commonware_map_write_unique(3, 0, pairs, 12, NULL, 0), COMMONWARE_REPEATED_KEY, 0, 3, 0));
-    CHECK(is_written(commonware_map_write_unique(2, 1, NULL, 0, NULL, 0), COMMONWARE_ROOM, 0, 0, 2));
+    CHECK(is_written(commonware_map_write_unique(3, 0, pairs, 12, NULL, 0), COMMONWARE_REPEATED_KEY,
+                     0, 3, 0));
+    CHECK(
+        is_written(commonware_map_write_unique(2, 1, NULL, 0, NULL, 0), COMMONWARE_ROOM, 0, 0, 2));
 }
 
 static void test_certificate(void) {
@@ -443,7 +443,8 @@ static void test_certificate(void) {
     const uint32_t indices[] = {0, 1, 2}, twice[] = {4, 5, 5}, large[] = {127, 128, UINT32_MAX};
     uint8_t bytes[COMMONWARE_CERTIFICATE_SIZE(1, 3)];
     memset(bytes, 0xee, sizeof bytes);
-    commonware_written_view written = commonware_certificate_write(first + 1, 1, OF(twice), OF(bytes));
+    commonware_written_view written =
+        commonware_certificate_write(first + 1, 1, OF(twice), OF(bytes));
     CHECK(written.status == COMMONWARE_NOT_STRICT && written.number == 2 && bytes[0] == 0xee);
     written = commonware_certificate_write(first + 1, 1, OF(indices), bytes, 5);
     CHECK(written.status == COMMONWARE_ROOM && written.size == 6 && bytes[0] == 0xee);
@@ -523,7 +524,8 @@ static void test_slots(void) {
 
     uint32_t out[4] = {9, 9, 9, 9};
     commonware_conflict_view view = commonware_equivocation(3, 4, OF(one), OF(two), OF(out));
-    CHECK(view.status == COMMONWARE_OK && view.count == 2 && out[0] == 1 && out[1] == 2 && out[2] == 9);
+    CHECK(view.status == COMMONWARE_OK && view.count == 2 && out[0] == 1 && out[1] == 2 &&
+          out[2] == 9);
     view = commonware_equivocation(3, 4, OF(one), OF(two), out, 1);
     CHECK(view.status == COMMONWARE_ROOM && view.count == 2 && view.which == 0);
     view = commonware_equivocation(3, 4, OF(one), OF(later), OF(out));
@@ -540,97 +542,6 @@ static void test_slots(void) {
     CHECK(view.status == COMMONWARE_OUTSIDE && view.which == 2 && out[0] == 1);
 }
 
-/* Sets, maps and keys of each size, and what they begin with, before a page that can't be read. */
-static void try_keys_before(uint8_t *stop) {
-    for (size_t i = 0; i < SIZES; i++) {
-        const size_t size = sizes[i], whole = 2 + 2 * size + 2 * (size / 2);
-        uint8_t map[2 + 3 * 96] = {2};
-        put_two(map + 1, size);
-        map[1 + 2 * size] = 2;
-        for (size_t end = 0; end <= 1 + 2 * size; end++) {
-            memcpy(stop - end, map, end);
-            const uint32_t status = commonware_set_read(size, stop - end, end, 0, 9).status;
-            CHECK(status == (end < 1 + 2 * size ? COMMONWARE_END_OF_INPUT : COMMONWARE_OK));
-        }
-        /* Two values, of half as many bytes as a key. */
-        memcpy(stop - whole, map, whole);
-        const commonware_map_view view =
-            commonware_map_read(size, size / 2, stop - whole, whole, 0, 9);
-        CHECK(is_map(view, COMMONWARE_OK, 2, 0, 1, 2 + 2 * size, 0));
-        put_two(stop - 2 * size, size);
-        const uint8_t *const key = stop - size;
-        CHECK(is_place(commonware_set_index(key - size, 2 * size, key, size), COMMONWARE_OK, 1));
-    }
-}
-
-/* Every input up to some length ends before a page that can't be read, and each room before one that
- * can't be written. */
-static void test_pages(void) {
-    const size_t page = (size_t)sysconf(_SC_PAGESIZE);
-    uint8_t *const pages = mmap(NULL, 4 * page, PROT_READ | PROT_WRITE, MAP_PRIVATE | MAP_ANONYMOUS, -1, 0);
-    CHECK(pages != MAP_FAILED);
-    CHECK(mprotect(pages + page, page, PROT_NONE) == 0);
-    CHECK(mprotect(pages + 3 * page, page, PROT_NONE) == 0);
-    try_keys_before(pages + page);
-    uint8_t committee[1 + 3 * 32] = {3};
-    committee[33] = 1;
-    committee[65] = 2;
-    for (size_t length = 0; length <= sizeof committee; length++) {
-        uint8_t *const input = pages + page - length;
-        memcpy(input, committee, length);
-        const uint32_t status = commonware_committee_read(input, length, 0, 9).status;
-        CHECK(status == (length < sizeof committee ? COMMONWARE_END_OF_INPUT : COMMONWARE_OK));
-    }
-    const uint8_t(*members)[32] = (const uint8_t(*)[32])(pages + page - 96);
-    CHECK(commonware_committee_index(members, 3, members + 2).index == 2);
-    uint8_t *const room = pages + 3 * page;
-    CHECK(commonware_committee_write(members, 3, room - 97, 97).status == COMMONWARE_OK);
-    CHECK(commonware_committee_write(members, 3, room - 96, 96).status == COMMONWARE_ROOM);
-    CHECK(memcmp(room - 97, committee, 97) == 0);
-    for (size_t length = 0; length <= sizeof first; length++) {
-        uint8_t *const input = pages + page - length;
-        memcpy(input, first, length);
-        uint32_t *const out = (uint32_t *)(void *)room - 3;
-        const uint32_t status = commonware_certificate_read(input, length, 9, 9, out, 3).status;
-        CHECK(status == (length < sizeof first ? COMMONWARE_END_OF_INPUT : COMMONWARE_OK));
-    }
-    const uint32_t *const indices = (const uint32_t *)(const void *)room - 3;
-    CHECK(commonware_certificate_write(first + 1, 1, indices, 3, pages + page - 6, 6).status == 0);
-    CHECK(memcmp(pages + page - 6, first, 6) == 0);
-    CHECK(munmap(pages, 4 * page) == 0);
-}
-
-/* Lengths past 2^32, over zeros that no one has to hold. */
-static void test_long(void) {
-    const size_t limit = (size_t)1 << 32;
-    uint8_t *const zeros = mmap(NULL, 4 * limit, PROT_READ, MAP_PRIVATE | MAP_ANONYMOUS | MAP_NORESERVE, -1, 0);
-    if (zeros == MAP_FAILED) {
-        puts("no room for lengths past 2^32");
-        return;
-    }
-    uint8_t out[3] = {9, 9, 9};
-    commonware_written_view written = commonware_certificate_write(zeros, limit, NULL, 0, OF(out));
-    CHECK(written.status == COMMONWARE_INVALID_LENGTH && written.number == limit && out[0] == 9);
-    const uint32_t *const indices = (const uint32_t *)(const void *)zeros;
-    written = commonware_certificate_write(zeros, 0, indices, limit, OF(out));
-    CHECK(written.status == COMMONWARE_INVALID_LENGTH && written.number == limit && out[0] == 9);
-    written = commonware_certificate_write(zeros, limit - 1, NULL, 0, OF(out));
-    CHECK(written.status == COMMONWARE_ROOM && written.size == limit + 5 && out[0] == 9);
-    const commonware_committee_view view = commonware_committee_read(zeros, 2 * limit, 0, SIZE_MAX);
-    CHECK(view.status == COMMONWARE_OK && view.count == 0 && view.left == 2 * limit - 1);
-    const commonware_set_view set = commonware_set_read(48, zeros, 2 * limit, 0, 9);
-    CHECK(is_set(set, COMMONWARE_OK, 0, 0, 1, 2 * limit - 1));
-    const commonware_map_view map = commonware_map_read(48, 96, zeros, 2 * limit, 0, 9);
-    CHECK(is_map(map, COMMONWARE_OK, 0, 0, 1, 2, 2 * limit - 2));
-    /* 2^30 keys of 16 zeros. */
-    const uint8_t one[16] = {[15] = 1};
-    CHECK(is_place(commonware_set_index(zeros, 4 * limit, OF(one)), COMMONWARE_ABSENT, limit / 4));
-    CHECK(is_place(commonware_set_index(zeros, 4 * limit - 1, OF(one)), COMMONWARE_NOT_WHOLE, 0));
-    CHECK(commonware_set_index(zeros, 4 * limit, zeros, 16).status == COMMONWARE_OK);
-    CHECK(is_place(commonware_set_index(zeros, limit + 1, zeros, limit), COMMONWARE_NOT_WHOLE, 0));
-    CHECK(munmap(zeros, 4 * limit) == 0);
-}
-
 /* Writes a committee of this many keys, with room for it and for one byte less. */
 static void write_keys(uint32_t count) {
     static uint8_t keys[300][32], bytes[COMMONWARE_COMMITTEE_SIZE(300)];
@@ -638,12 +549,11 @@ static void write_keys(uint32_t count) {
         keys[i][30] = (uint8_t)(i / 256);
         keys[i][31] = (uint8_t)i;
     }
-    const uint8_t(*members)[32] = (const uint8_t(*)[32])keys;
     const size_t size = (count < 128 ? 1 : 2) + 32 * (size_t)count;
-    commonware_written_view written = commonware_committee_write(members, count, bytes, size);
+    commonware_written_view written = commonware_committee_write(keys[0], count, bytes, size);
     CHECK(written.status == COMMONWARE_OK && written.count == count && written.size == size);
     CHECK(memcmp(bytes + size - 32 * (size_t)count, keys, 32 * (size_t)count) == 0);
-    written = commonware_committee_write(members, count, bytes, size - 1);
+    written = commonware_committee_write(keys[0], count, bytes, size - 1);
     CHECK(written.status == COMMONWARE_ROOM && written.count == count && written.size == size);
 }
 
@@ -684,16 +594,17 @@ static void read_pairs(uint32_t count) {
     CHECK(count == 0 || is_map(map, COMMONWARE_END_OF_INPUT, 0, 0, 0, 0, 0));
 }
 
-/* Writes and reads certificates that this many members signed, and finds that all of them signed both, with
- * room for the result and for one element less. */
+/* Writes and reads certificates that this many members signed, and finds that all of them signed
+ * both, with room for the result and for one element less. */
 static void use_signers(uint32_t count) {
     static uint8_t value[400], bytes[2][COMMONWARE_CERTIFICATE_SIZE(400, 300)];
     static uint32_t signers[300], out[300];
     for (uint32_t i = 0; i < count; i++) {
         signers[i] = i;
     }
-    /* The length of the value and the value, a number of one or two bytes, and one or two for each index. */
-    const size_t size = 402 + (count < 128 ? 1 : 2) + count + (count < 128 ? 0 : count - 128);
+    /* The length of the value and the value, a number of one or two bytes, and one or two for each
+     * index. */
+    const size_t size = 402 + (count < 128 ? 1u : 2u) + count + (count < 128 ? 0 : count - 128);
     for (uint8_t i = 0; i < 2; i++) {
         value[399] = i;
         commonware_written_view written =
@@ -730,7 +641,6 @@ static void test_sizes(void) {
 /* Each request refused in turn, with all after it, until a run has none refused. */
 static void test_memory(void) {
     uint8_t keys[5][32] = {{5}, {4}, {3}, {2}, {1}};
-    const uint8_t(*members)[32] = (const uint8_t(*)[32])keys;
     uint8_t committee[COMMONWARE_COMMITTEE_SIZE(5)];
     const uint8_t empty[] = {0, 0};
     uint32_t out[4];
@@ -741,18 +651,19 @@ static void test_memory(void) {
             memset(committee, 0xee, sizeof committee);
             committee[0] = 0;
             const uint32_t status =
-                call == 0   ? commonware_committee_write(members, 5, OF(committee)).status
+                call == 0   ? commonware_committee_write(keys[0], 5, OF(committee)).status
                 : call == 1 ? commonware_certificate_read(OF(first), 32, 256, OF(out)).status
                 : call == 2 ? commonware_conflict(3, 4, OF(first), OF(second), OF(out)).status
                 : call == 3 ? commonware_committee_read(OF(committee), 0, 256).status
-                : call == 4 ? commonware_committee_index(members, 0, members).status - COMMONWARE_ABSENT
+                : call == 4 ? commonware_committee_index(keys[0], 5, keys[2]).status
                 : call == 5 ? commonware_certificate_write(NULL, 0, NULL, 0, OF(committee)).status
                 : call == 6 ? commonware_set_read(20, OF(committee), 0, 256).status
                 : call == 7 ? commonware_map_read(20, 8, OF(empty), 0, 256).status
                 : call == 8 ? commonware_set_index(keys[0], 32, keys[0], 32).status
                 : call == 9 ? commonware_set_write(32, keys[0], 160, OF(committee)).status
-                : call == 10 ? commonware_map_write(20, 12, keys[0], 160, OF(committee)).status
-                            : commonware_map_write_unique(20, 12, keys[0], 160, OF(committee)).status;
+                : call == 10
+                    ? commonware_map_write(20, 12, keys[0], 160, OF(committee)).status
+                    : commonware_map_write_unique(20, 12, keys[0], 160, OF(committee)).status;
             CHECK(live == 0);
             if (status == COMMONWARE_OK) {
                 break;
@@ -768,7 +679,18 @@ static void test_memory(void) {
     allowed = SIZE_MAX;
 }
 
+/* The number is made of the parts, here of those of 1.23.456. */
+#undef COMMONWARE_VERSION_MINOR
+#undef COMMONWARE_VERSION_PATCH
+#define COMMONWARE_VERSION_MINOR 23
+#define COMMONWARE_VERSION_PATCH 456
+#if COMMONWARE_VERSION != 1023456
+#error "COMMONWARE_VERSION isn't made of the parts"
+#endif
+
 int main(void) {
+    test_version();
+    test_status_text();
     test_numbers();
     test_committee();
     test_index();
@@ -782,10 +704,7 @@ int main(void) {
     test_certificate();
     test_conflict();
     test_slots();
-    test_pages();
-    test_long();
     test_sizes();
     test_memory();
-    printf("%d failed\n", failed);
-    return failed != 0;
+    return report();
 }

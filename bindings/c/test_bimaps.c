@@ -1,26 +1,6 @@
-/* Calls commonware_bimap_read: what it returns and refuses, what it leaves of a room, at the end of a
- * readable page too. Prints what failed, and ends with 0 where nothing did. */
-#define _DEFAULT_SOURCE
-#include "commonware.h"
-
-#include <stdbool.h>
-#include <stdio.h>
-#include <string.h>
-#include <sys/mman.h>
-#include <unistd.h>
-
-static int failed;
-
-static void check(bool holds, const char *what, int line) {
-    if (!holds) {
-        printf("test_bimaps.c:%d: %s\n", line, what);
-        failed++;
-    }
-}
-
-#define CHECK(condition) check((condition), #condition, __LINE__)
-
-#define OF(array) (array), sizeof(array) / sizeof *(array)
+/* Calls commonware_bimap_read: what it returns and refuses, what it leaves of a room, at the end of
+ * a readable page too. Prints what failed, and ends with 0 where nothing did. */
+#include "tests.h"
 
 /* What a place of a room has before a call. */
 #define BEFORE 0xeeeeeeee
@@ -29,9 +9,9 @@ static void check(bool holds, const char *what, int line) {
 #define IS(view, ...) is_same((view), (commonware_bimap_view){__VA_ARGS__})
 
 static bool is_same(commonware_bimap_view view, commonware_bimap_view other) {
-    return view.status == other.status && view.count == other.count && view.number == other.number &&
-           view.keys == other.keys && view.values == other.values && view.left == other.left &&
-           view.first == other.first && view.second == other.second;
+    return view.status == other.status && view.count == other.count &&
+           view.number == other.number && view.keys == other.keys && view.values == other.values &&
+           view.left == other.left && view.first == other.first && view.second == other.second;
 }
 
 /* Whether all places of a room from one on are as they were. */
@@ -48,8 +28,8 @@ static const uint8_t pairs[] = {3, 5, 6, 8, 3, 9, 1, 2, 0, 9, 0, 0xaa, 0xbb};
 static void test_pairs(void) {
     uint32_t room[5];
     memset(room, 0xee, sizeof room);
-    CHECK(IS(commonware_bimap_read(1, 2, OF(pairs), 3, 3, OF(room)), .count = 3, .keys = 1, .values = 5,
-             .left = 2));
+    CHECK(IS(commonware_bimap_read(1, 2, OF(pairs), 3, 3, OF(room)), .count = 3, .keys = 1,
+             .values = 5, .left = 2));
     CHECK(room[0] == 1 && room[1] == 2 && room[2] == 0 && stays_from(room, 3, 5));
     memset(room, 0xee, sizeof room);
     CHECK(IS(commonware_bimap_read(1, 2, OF(pairs), 0, SIZE_MAX, room, 3), .count = 3, .keys = 1,
@@ -68,11 +48,14 @@ static void test_room(void) {
     }
     CHECK(IS(commonware_bimap_read(1, 2, OF(pairs), 0, 9, NULL, 0),
              .status = COMMONWARE_ROOM, .number = 3));
-    CHECK(IS(commonware_bimap_read(1, 2, NULL, 0, 0, 9, NULL, 0), .status = COMMONWARE_END_OF_INPUT));
+    CHECK(
+        IS(commonware_bimap_read(1, 2, NULL, 0, 0, 9, NULL, 0), .status = COMMONWARE_END_OF_INPUT));
     CHECK(stays_from(room, 0, 3));
     const uint8_t none[] = {0, 0, 7};
-    CHECK(IS(commonware_bimap_read(20, 8, OF(none), 0, 9, NULL, 0), .keys = 1, .values = 2, .left = 1));
-    CHECK(IS(commonware_bimap_read(20, 8, OF(none), 0, 9, OF(room)), .keys = 1, .values = 2, .left = 1));
+    CHECK(IS(commonware_bimap_read(20, 8, OF(none), 0, 9, NULL, 0), .keys = 1, .values = 2,
+             .left = 1));
+    CHECK(IS(commonware_bimap_read(20, 8, OF(none), 0, 9, OF(room)), .keys = 1, .values = 2,
+             .left = 1));
     CHECK(stays_from(room, 0, 3));
 }
 
@@ -126,7 +109,8 @@ static void test_repeated(void) {
     CHECK(IS(commonware_bimap_read(1, 0, OF(bytes), 0, 9, OF(room)),
              .status = COMMONWARE_REPEATED_VALUE, .first = 0, .second = 1));
     const uint8_t one[] = {1, 1};
-    CHECK(IS(commonware_bimap_read(0, 0, OF(one), 0, 9, OF(room)), .count = 1, .keys = 1, .values = 2));
+    CHECK(IS(commonware_bimap_read(0, 0, OF(one), 0, 9, OF(room)), .count = 1, .keys = 1,
+             .values = 2));
     CHECK(room[0] == 0);
 }
 
@@ -136,20 +120,8 @@ static void put_count(uint8_t *bytes, size_t count) {
     bytes[1] = (uint8_t)(count / 128);
 }
 
-/* Where bytes that end at the end of a readable page begin. */
-static uint8_t *before_end(size_t length) {
-    const size_t page = (size_t)sysconf(_SC_PAGESIZE), pages = length / page + 1;
-    uint8_t *map =
-        mmap(NULL, (pages + 1) * page, PROT_READ | PROT_WRITE, MAP_PRIVATE | MAP_ANONYMOUS, -1, 0);
-    if (map == MAP_FAILED || mprotect(map + pages * page, page, PROT_NONE) != 0) {
-        printf("no pages\n");
-        _exit(2);
-    }
-    return map + pages * page - length;
-}
-
-/* 1,000 pairs of keys of 32 bytes and values of 20 that fall, but for one that is made that of another:
- * the input and the room end where the page does. */
+/* 1,000 pairs of keys of 32 bytes and values of 20 that fall, but for one that is made that of
+ * another: the input and the room end where the page does. */
 static void test_many(void) {
     const size_t count = 1000, keys = 2, values = 4 + 32 * count, length = values + 20 * count;
     uint8_t *bytes = before_end(length);
@@ -163,20 +135,22 @@ static void test_many(void) {
         bytes[values + 20 * i + 17] = (uint8_t)(j / 256);
         bytes[values + 20 * i + 18] = (uint8_t)j;
     }
-    CHECK(IS(commonware_bimap_read(32, 20, bytes, length, 0, 1000, room, count), .count = 1000, .keys = 2,
-             .values = values));
+    CHECK(IS(commonware_bimap_read(32, 20, bytes, length, 0, 1000, room, count), .count = 1000,
+             .keys = 2, .values = values));
     bool falls = true;
     for (size_t i = 0; i < count; i++) {
         falls = falls && room[i] == count - 1 - i;
     }
     CHECK(falls);
-    static const size_t places[][2] = {{0, 999}, {0, 1}, {998, 999}, {255, 256}, {127, 700}, {499, 500}};
+    static const size_t places[][2] = {{0, 999},   {0, 1},     {998, 999},
+                                       {255, 256}, {127, 700}, {499, 500}};
     for (size_t i = 0; i < sizeof places / sizeof *places; i++) {
         uint8_t kept[20], *later = bytes + values + 20 * places[i][1];
         memcpy(kept, later, 20);
         memcpy(later, bytes + values + 20 * places[i][0], 20);
         CHECK(IS(commonware_bimap_read(32, 20, bytes, length, 0, 1000, room, count),
-                 .status = COMMONWARE_REPEATED_VALUE, .first = places[i][0], .second = places[i][1]));
+                 .status = COMMONWARE_REPEATED_VALUE, .first = places[i][0],
+                 .second = places[i][1]));
         memcpy(later, kept, 20);
     }
     CHECK(IS(commonware_bimap_read(32, 20, bytes, length, 0, 1000, room + 1, count - 1),
@@ -191,6 +165,5 @@ int main(void) {
     test_faults();
     test_repeated();
     test_many();
-    printf("%d failed\n", failed);
-    return failed != 0;
+    return report();
 }

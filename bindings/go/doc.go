@@ -19,4 +19,7 @@
 // folder of this module:
 //
 //	CGO_LDFLAGS=-L/folder/of/the/archive go build
+//
+// [Version] returns which version it is. A program that was linked with another major version
+// panics at its start.
 package commonware

@@ -31,6 +31,11 @@ func Example() {
 	// [1 2] <nil>
 }
 
+func ExampleVersion() {
+	fmt.Println(commonware.Version())
+	// Output: 1 0 0
+}
+
 func ExampleFaultModel_MaxFaults() {
 	fmt.Println(commonware.N3F1.MaxFaults(100))
 	fmt.Println(commonware.FaultModel(7).MaxFaults(20))

@@ -3,12 +3,18 @@ package commonware
 // #cgo CFLAGS: -I${SRCDIR}/../c
 // #cgo LDFLAGS: -L${SRCDIR}/../prebuilt/x86_64-linux -l:libcommonware.a
 // #include "commonware.h"
+// #if COMMONWARE_VERSION_MAJOR != 1
+// #error "commonware.h has another major version than 1, which this module needs"
+// #endif
 import "C"
 
 import (
 	"fmt"
 	"unsafe"
 )
+
+// neededMajor is the major version of the library that these functions call.
+const neededMajor = C.COMMONWARE_VERSION_MAJOR
 
 // The statuses of the library that aren't errors by themselves.
 const (
@@ -70,17 +76,16 @@ func indexPointer(indices []uint32) *C.uint32_t {
 	return (*C.uint32_t)(unsafe.Pointer(&indices[0]))
 }
 
-// memberPointer returns where the bytes of members are, one after another.
-func memberPointer(bytes []byte) *[MemberSize]C.uint8_t {
-	return (*[MemberSize]C.uint8_t)(unsafe.Pointer(bytePointer(bytes)))
-}
-
 // flat returns the bytes of members, one after another, where they are.
 func flat(members []Member) []byte {
 	if len(members) == 0 {
 		return nil
 	}
 	return unsafe.Slice(&members[0][0], MemberSize*len(members))
+}
+
+func nativeVersion() uint32 {
+	return uint32(C.commonware_version())
 }
 
 func nativeMaxFaults(k, n uint32) uint32 {
@@ -113,7 +118,7 @@ func nativeCommitteeRead(input []byte, least, most int) found {
 
 func nativeCommitteeIndex(members []byte, key *Member) (int, bool) {
 	place := C.commonware_committee_index(
-		memberPointer(members), C.size_t(len(members)/MemberSize), memberPointer(key[:]))
+		bytePointer(members), C.size_t(len(members)/MemberSize), bytePointer(key[:]))
 	return int(place.index), place.status == statusOK
 }
 
@@ -165,7 +170,8 @@ func written(view C.commonware_written_view, room []byte) ([]byte, error) {
 func nativeCommitteeWrite(members []byte) ([]byte, error) {
 	room := make([]byte, 5+len(members))
 	return written(C.commonware_committee_write(
-		memberPointer(members), C.size_t(len(members)/MemberSize), bytePointer(room), C.size_t(len(room))), room)
+		bytePointer(members), C.size_t(len(members)/MemberSize),
+		bytePointer(room), C.size_t(len(room))), room)
 }
 
 func nativeSetWrite(size int, keys []byte) ([]byte, error) {

@@ -1,67 +1,152 @@
-//! Links the static library: the one in the folder that COMMONWARE_C_LIB names, else that of this
-//! repository, which `rt lib` proves and builds where it isn't there.
+//! Links the static library in the folder that COMMONWARE_C_LIB names, else the one that comes with
+//! this repository, where PROVED says that it is of the crate's version and of these sources.
 
 use std::path::{Path, PathBuf};
 use std::process::Command;
 use std::{env, fs};
 
-/// The toolchain's archive whose one member is a heap over malloc, realloc and free.
-const HEAP: &str = "liblibc_c.a";
+/// Where the library of this repository is, from the crate's folder.
+const PREBUILT: &str = "../prebuilt/x86_64-linux";
+
+/// Where PROVED is, from the archive's folder: beside it, or where `bindings/install` puts it.
+const PROVED: [&str; 2] = ["PROVED", "../share/doc/commonware/PROVED"];
 
 fn main() {
     println!("cargo::rerun-if-env-changed=COMMONWARE_C_LIB");
-    if let Some(folder) = env::var_os("COMMONWARE_C_LIB").map(PathBuf::from) {
-        link(&folder, "commonware");
-        return;
-    }
-    let krate = Path::new(env!("CARGO_MANIFEST_DIR")).join("../../crates/commonware_c");
-    if !krate.join("out/libcommonware_c.a").is_file() {
-        build(&krate);
-    }
-    link(&krate.join("out"), "commonware_c");
-    link_heap();
-}
-
-/// Proves and builds the library.
-fn build(krate: &Path) {
-    println!("cargo::warning=commonware_c isn't built yet: `rt lib` proves and builds it");
-    match Command::new("rt").arg("lib").current_dir(krate).output() {
-        Ok(output) if output.status.success() => {}
-        Ok(output) => panic!(
-            "`rt lib` failed in {}:\n{}{}",
-            krate.display(),
-            String::from_utf8_lossy(&output.stdout),
-            String::from_utf8_lossy(&output.stderr)
-        ),
-        Err(error) => panic!(
-            "the library isn't built, and `rt` can't be run ({error}): set COMMONWARE_C_LIB to a \
-             folder that has libcommonware.a, as bindings/archive makes it"
-        ),
+    watch(Path::new("build.rs"));
+    if let Err(why) = link() {
+        println!("cargo::error={why}");
     }
 }
 
-/// Links the archive of this name in a folder.
-fn link(folder: &Path, name: &str) {
-    let archive = folder.join(format!("lib{name}.a"));
-    assert!(archive.is_file(), "{} isn't there", archive.display());
+/// Links the library, or returns why not.
+fn link() -> Result<(), String> {
+    check_target()?;
+    let krate = PathBuf::from(variable("CARGO_MANIFEST_DIR")?);
+    let named = env::var_os("COMMONWARE_C_LIB").filter(|folder| !folder.is_empty());
+    let folder = krate.join(named.unwrap_or_else(|| PREBUILT.into()));
+    let archive = folder.join("libcommonware.a");
+    if !archive.is_file() {
+        return Err(format!(
+            "there is no {}: COMMONWARE_C_LIB takes the absolute path of a folder that has \
+             libcommonware.a, as `bindings/archive` makes it",
+            archive.display()
+        ));
+    }
+    watch(&archive);
+    let proved = read_proved(&folder)?;
+    check_version(&proved, &folder)?;
+    check_sources(&proved, &folder, &krate)?;
     println!("cargo::rustc-link-search=native={}", folder.display());
-    println!("cargo::rustc-link-lib=static={name}");
-    println!("cargo::rerun-if-changed={}", archive.display());
+    println!("cargo::rustc-link-lib=static=commonware");
+    Ok(())
 }
 
-/// Links the heap that the library calls, from the folder `c` of the toolchain, whose first page
-/// `rt doc` names. A program that defines the three functions of the heap has its own.
-fn link_heap() {
-    let output = Command::new("rt").arg("doc").output();
-    let page = output.map(|output| PathBuf::from(String::from_utf8_lossy(&output.stdout).trim()));
-    let folder = page.ok().and_then(|page| Some(page.parent()?.join("c")));
-    let folder = folder.filter(|folder| folder.join(HEAP).is_file());
-    let folder = folder.unwrap_or_else(|| {
-        panic!("no {HEAP} in the folder `c` of the toolchain that `rt doc` names: is `rt` there?")
+/// Has cargo run this script again where the file changes, or a file of the folder.
+fn watch(path: &Path) {
+    println!("cargo::rerun-if-changed={}", path.display());
+}
+
+/// Returns a variable that cargo sets.
+fn variable(name: &str) -> Result<String, String> {
+    env::var(name).map_err(|error| format!("cargo sets no {name} that can be read: {error}"))
+}
+
+/// The library is for one target.
+fn check_target() -> Result<(), String> {
+    let arch = variable("CARGO_CFG_TARGET_ARCH")?;
+    let system = variable("CARGO_CFG_TARGET_OS")?;
+    if (&arch[..], &system[..]) == ("x86_64", "linux") {
+        return Ok(());
+    }
+    Err(format!(
+        "the library is for x86_64 Linux, and the target is {arch} {system}"
+    ))
+}
+
+/// Returns the text that says what the library of a folder was made of.
+fn read_proved(folder: &Path) -> Result<String, String> {
+    let places = PROVED.map(|place| folder.join(place));
+    let Some(path) = places.iter().find(|path| path.is_file()) else {
+        return Err(format!(
+            "there is no PROVED beside libcommonware.a in {}, nor at {} from there: it says of \
+             which version and sources the library is",
+            folder.display(),
+            PROVED[1]
+        ));
+    };
+    watch(path);
+    fs::read_to_string(path).map_err(|error| format!("{}: {error}", path.display()))
+}
+
+/// Returns what follows a word in the comments of PROVED.
+fn said<'a>(proved: &'a str, word: &str) -> Option<&'a str> {
+    let mut lines = proved.lines();
+    lines.find_map(|line| Some(line.strip_prefix("# ")?.strip_prefix(word)?.trim()))
+}
+
+/// The library has the major version of this crate.
+fn check_version(proved: &str, folder: &Path) -> Result<(), String> {
+    let ours = variable("CARGO_PKG_VERSION_MAJOR")?;
+    let version = said(proved, "version ").unwrap_or("(none)");
+    if version.split('.').next() == Some(&ours) {
+        return Ok(());
+    }
+    Err(format!(
+        "libcommonware.a in {} has version {version}, and this crate takes version {ours}",
+        folder.display()
+    ))
+}
+
+/// The library is of the sources in this repository, where the crate is in it.
+fn check_sources(proved: &str, folder: &Path, krate: &Path) -> Result<(), String> {
+    let script = krate.join("../sources");
+    if !script.is_file() {
+        return Ok(());
+    }
+    watch(&script);
+    let said_now = run(&script, &["--folders"]).and_then(|folders| {
+        watch_sources(&folders, krate);
+        run(&script, &[])
     });
-    // A copy, so that no other file of that folder is on the linker's path.
-    let out = PathBuf::from(env::var_os("OUT_DIR").expect("cargo sets OUT_DIR"));
-    fs::copy(folder.join(HEAP), out.join("libcommonware_heap.a")).expect("a copy of the heap");
-    println!("cargo::rustc-link-search=native={}", out.display());
-    println!("cargo::rustc-link-lib=static=commonware_heap");
+    let now = match said_now {
+        Ok(now) => now,
+        Err(why) => {
+            println!("cargo::warning=the library isn't compared with its sources: {why}");
+            // A path that is never there has cargo run this script each time.
+            watch(&krate.join("../sources can't be run"));
+            return Ok(());
+        }
+    };
+    if said(proved, "sources ") == Some(now.trim()) {
+        return Ok(());
+    }
+    Err(format!(
+        "libcommonware.a in {} isn't of these sources: `bindings/archive --update` builds it anew \
+         into bindings/prebuilt",
+        folder.display()
+    ))
+}
+
+/// Has cargo run this script again where a source of the library changes: those that all have, and
+/// those of these folders, one a line.
+fn watch_sources(folders: &str, krate: &Path) {
+    let root = krate.join("../..");
+    let paths = ["HANDLES", "crates.txt"].into_iter().chain(folders.lines());
+    for path in paths.map(|path| root.join(path)) {
+        if path.exists() {
+            watch(&path);
+        }
+    }
+}
+
+/// Returns what a program prints.
+fn run(program: &Path, words: &[&str]) -> Result<String, String> {
+    let name = program.display();
+    let output = Command::new(program).args(words).output();
+    let output = output.map_err(|error| format!("{name} can't be run: {error}"))?;
+    if !output.status.success() {
+        return Err(format!("{name} ends with {}", output.status));
+    }
+    String::from_utf8(output.stdout).map_err(|error| format!("{name} prints no text: {error}"))
 }

@@ -25,10 +25,14 @@ number that is negative or too large an `OutOfRange`, which is an `OverflowError
 
 Calls may come from any number of threads at once; the interpreter's lock isn't held while the library runs.
 
-The library is that of the folder in the environment variable COMMONWARE_C_LIB, else the one in
-`bindings/prebuilt/x86_64-linux` of the repository that this package is in, else the system's.
+The library is that of the folder in the environment variable COMMONWARE_C_LIB, else the one that
+was installed with this package, else the one in `bindings/prebuilt/x86_64-linux` of the repository
+that this package is in, else the system's. `version` returns its version. Where the major version
+isn't that of `__version__`, which is this package's, the import raises ImportError.
 """
 
+from ._library import __version__ as __version__
+from ._library import version
 from ._native import BytesLike
 from .certificates import Certificate, Checked, check, conflict, equivocation, slot_value
 from .errors import (
@@ -95,4 +99,5 @@ __all__ = [
     "quorum",
     "slot_value",
     "smaller_quorum",
+    "version",
 ]

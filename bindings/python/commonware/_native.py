@@ -1,18 +1,15 @@
-"""The shared library: where it is, its functions as `bindings/c/commonware.h` declares them, and what they get
-from Python. The other modules call it by this one alone."""
+"""The functions of the shared library as `bindings/c/commonware.h` declares them, and what they get
+from Python. The other modules call them by this one alone."""
 
 import array
 import ctypes
 import operator
-import os
-import pathlib
-import sys
 from ctypes import c_char, c_size_t, c_uint32, c_void_p
 from typing import Any, Callable, Iterable, NamedTuple, Optional, Tuple, Type, Union
 
 from . import errors
+from ._library import declare
 
-NAME = "libcommonware.so.1"
 U32_MAX = 2**32 - 1
 SIZE_MAX = 2**64 - 1
 
@@ -23,26 +20,6 @@ Indices = array.array
 """Numbers of 32 bits, as the library has them on the one machine that it is for."""
 
 OK, NOT_STRICT, ROOM, REPEATED_VALUE = 0, 4, 11, 18
-
-
-def _find() -> str:
-    """Returns the path of the library, or its name where the system has to find it."""
-    folder = os.environ.get("COMMONWARE_C_LIB")
-    if folder:
-        return str(pathlib.Path(folder).absolute() / NAME)
-    beside = pathlib.Path(__file__).resolve().parents[2] / "prebuilt" / "x86_64-linux" / NAME
-    return str(beside) if beside.is_file() else NAME
-
-
-def _load() -> ctypes.CDLL:
-    if sys.maxsize != 2**63 - 1 or not sys.platform.startswith("linux"):
-        raise ImportError("commonware needs a 64-bit Python on x86-64 Linux.")
-    try:
-        return ctypes.CDLL(_find())
-    except OSError as error:
-        raise ImportError(
-            f"commonware can't load its library ({error}): set COMMONWARE_C_LIB to the folder that has {NAME}."
-        ) from None
 
 
 def _view(name: str, *fields: Tuple[str, Any]) -> Type[ctypes.Structure]:
@@ -73,42 +50,30 @@ _CHECK = _view(
 _CONFLICT = _view("Conflict", ("which", c_uint32), *_sizes("number", "count"))
 
 _INPUT = (c_void_p, c_size_t)
-_LIBRARY = _load()
 
-
-def _function(name: str, result: Any, *arguments: Any) -> Callable[..., Any]:
-    try:
-        function = getattr(_LIBRARY, f"commonware_{name}")
-    except AttributeError:
-        raise ImportError(f"{_LIBRARY._name} is another version of the library, without {name}.") from None
-    function.restype, function.argtypes = result, arguments
-    called: Callable[..., Any] = function
-    return called
-
-
-max_faults = _function("max_faults", c_uint32, c_uint32, c_uint32)
-quorum = _function("quorum", c_uint32, c_uint32, c_uint32)
-smaller_quorum = _function("smaller_quorum", c_uint32, c_uint32, c_uint32)
-committee_read = _function("committee_read", _KEYS, *_INPUT, c_size_t, c_size_t)
-committee_index = _function("committee_index", _PLACE, *_INPUT, c_void_p)
-committee_write = _function("committee_write", _WRITTEN, *_INPUT, *_INPUT)
-set_read = _function("set_read", _KEYS, c_size_t, *_INPUT, c_size_t, c_size_t)
-set_index = _function("set_index", _PLACE, *_INPUT, *_INPUT)
-set_write = _function("set_write", _WRITTEN, c_size_t, *_INPUT, *_INPUT)
-map_read = _function("map_read", _PAIRS, c_size_t, c_size_t, *_INPUT, c_size_t, c_size_t)
-map_write = _function("map_write", _WRITTEN, c_size_t, c_size_t, *_INPUT, *_INPUT)
-map_write_unique = _function("map_write_unique", _WRITTEN, c_size_t, c_size_t, *_INPUT, *_INPUT)
-bimap_read = _function(
+max_faults = declare("max_faults", c_uint32, c_uint32, c_uint32)
+quorum = declare("quorum", c_uint32, c_uint32, c_uint32)
+smaller_quorum = declare("smaller_quorum", c_uint32, c_uint32, c_uint32)
+committee_read = declare("committee_read", _KEYS, *_INPUT, c_size_t, c_size_t)
+committee_index = declare("committee_index", _PLACE, *_INPUT, c_void_p)
+committee_write = declare("committee_write", _WRITTEN, *_INPUT, *_INPUT)
+set_read = declare("set_read", _KEYS, c_size_t, *_INPUT, c_size_t, c_size_t)
+set_index = declare("set_index", _PLACE, *_INPUT, *_INPUT)
+set_write = declare("set_write", _WRITTEN, c_size_t, *_INPUT, *_INPUT)
+map_read = declare("map_read", _PAIRS, c_size_t, c_size_t, *_INPUT, c_size_t, c_size_t)
+map_write = declare("map_write", _WRITTEN, c_size_t, c_size_t, *_INPUT, *_INPUT)
+map_write_unique = declare("map_write_unique", _WRITTEN, c_size_t, c_size_t, *_INPUT, *_INPUT)
+bimap_read = declare(
     "bimap_read", _BIMAP, c_size_t, c_size_t, *_INPUT, c_size_t, c_size_t, *_INPUT
 )
-certificate_read = _function(
+certificate_read = declare(
     "certificate_read", _CERTIFICATE, *_INPUT, c_size_t, c_size_t, *_INPUT
 )
-certificate_write = _function("certificate_write", _WRITTEN, *_INPUT, *_INPUT, *_INPUT)
-value_write = _function("value_write", _WRITTEN, *_INPUT, *_INPUT, *_INPUT)
-certificate_check = _function("certificate_check", _CHECK, c_uint32, c_uint32, *_INPUT)
-conflict = _function("conflict", _CONFLICT, c_uint32, c_uint32, *_INPUT, *_INPUT, *_INPUT)
-equivocation = _function(
+certificate_write = declare("certificate_write", _WRITTEN, *_INPUT, *_INPUT, *_INPUT)
+value_write = declare("value_write", _WRITTEN, *_INPUT, *_INPUT, *_INPUT)
+certificate_check = declare("certificate_check", _CHECK, c_uint32, c_uint32, *_INPUT)
+conflict = declare("conflict", _CONFLICT, c_uint32, c_uint32, *_INPUT, *_INPUT, *_INPUT)
+equivocation = declare(
     "equivocation", _CONFLICT, c_uint32, c_uint32, *_INPUT, *_INPUT, *_INPUT
 )
 

@@ -1,4 +1,4 @@
-"""The examples, which library is loaded, threads, and memory."""
+"""The examples, which library is loaded and which version it has, threads, and memory."""
 
 import doctest
 import importlib
@@ -10,12 +10,11 @@ import resource
 import shutil
 import subprocess
 import sys
-import tarfile
 import tempfile
 import threading
 import time
 import unittest
-import zipfile
+import unittest.mock
 
 import commonware
 from commonware import (
@@ -25,6 +24,7 @@ from commonware import (
     CommonwareError,
     MapView,
     SetView,
+    _library,
     _native,
     check,
     conflict,
@@ -74,57 +74,37 @@ class Examples(unittest.TestCase):
             self.assertIn(name, text)
 
 
-    def test_what_pip_installs(self):
-        with tempfile.TemporaryDirectory() as folder:
-            build = "import sys, wheels; print(wheels.build_wheel(sys.argv[1]), wheels.build_sdist(sys.argv[1]))"
-            text, status = python("-c", build, folder)
-            self.assertEqual(status, 0, text)
-            wheel, sources = (pathlib.Path(folder) / it for it in text.split())
-            with zipfile.ZipFile(wheel) as archive:
-                names = archive.namelist()
-                archive.extractall(folder)
-            record = (pathlib.Path(folder) / names[-1]).read_text().splitlines()
-            self.assertEqual([it.split(",")[0] for it in record], names)
-            self.assertTrue({"commonware/py.typed", "commonware/_native.py"} < set(names))
-            self.assertEqual(len([it for it in names if it.startswith("commonware/")]), len(MODULES) + 1)
-            with tarfile.open(sources) as archive:
-                self.assertEqual(len(archive.getnames()), len(MODULES) + 3)
-            asked = "import commonware; print(commonware.__file__)"
-            text, status = python("-c", asked, PYTHONPATH=folder)
-            self.assertEqual((text, status), (f"{folder}/commonware/__init__.py\n", 0))
-
-
 class Library(unittest.TestCase):
     def test_the_folder_that_is_said(self):
-        said = pathlib.Path(_native._LIBRARY._name)
+        said = pathlib.Path(_library.LIBRARY._name)
         with tempfile.TemporaryDirectory() as folder:
             text, status = python("-c", "import commonware", COMMONWARE_C_LIB=folder)
             self.assertNotEqual(status, 0)
             sentence = text.splitlines()[-1]
             self.assertRegex(sentence, r"^ImportError: commonware can't load its library \(.*\): set COMMONWARE_C_LIB ")
-            (pathlib.Path(folder) / _native.NAME).write_bytes(b"no library")
+            (pathlib.Path(folder) / _library.NAME).write_bytes(b"no library")
             text, status = python("-c", "import commonware", COMMONWARE_C_LIB=folder)
             self.assertIn("ImportError: ", text.splitlines()[-1])
             if said.is_file():
                 shutil.copy(said, folder)
-                asked = "import commonware; print(commonware._native._LIBRARY._name)"
+                asked = "import commonware; print(commonware._library.LIBRARY._name)"
                 text, status = python("-c", asked, COMMONWARE_C_LIB=folder)
-                self.assertEqual((text, status), (f"{pathlib.Path(folder) / _native.NAME}\n", 0))
+                self.assertEqual((text, status), (f"{pathlib.Path(folder) / _library.NAME}\n", 0))
 
     def test_the_folder_beside_the_package(self):
-        said = pathlib.Path(_native._LIBRARY._name)
+        said = pathlib.Path(_library.LIBRARY._name)
         if not said.is_file():
             self.skipTest("the library is the system's")
         with tempfile.TemporaryDirectory() as folder:
             top = pathlib.Path(folder).resolve()
             shutil.copytree(HERE / "commonware", top / "python/commonware")
-            asked = "import commonware; print(commonware._native._LIBRARY._name)"
+            asked = "import commonware; print(commonware._library.LIBRARY._name)"
             settings = {"PYTHONPATH": str(top / "python"), "COMMONWARE_C_LIB": None}
             self.assertIn("ImportError: ", python("-c", asked, **settings)[0])
             beside = top / "prebuilt/x86_64-linux"
             beside.mkdir(parents=True)
             shutil.copy(said, beside)
-            self.assertEqual(python("-c", asked, **settings), (f"{beside / _native.NAME}\n", 0))
+            self.assertEqual(python("-c", asked, **settings), (f"{beside / _library.NAME}\n", 0))
 
     def test_another_module_declares_what_python_has(self):
         program = """
@@ -139,9 +119,10 @@ print(list(commonware.SetView.decode(1, memoryview(b"-\\2ab")[1:])))
     def test_every_function_of_the_header_is_declared(self):
         header = HERE.parent / "c/commonware.h"
         text = re.sub(r"/\*.*?\*/", "", header.read_text(), flags=re.DOTALL)
-        declared = re.findall(r"\bcommonware_(\w+)\(((?:[^()]|\([^()]*\))*)\);", text)
+        declared = dict(re.findall(r"\bcommonware_(\w+)\(([^()]*)\);", text))
         self.assertGreater(len(declared), 15)
-        for name, arguments in declared:
+        self.assertEqual((declared.pop("version"), _library.version_number.argtypes), ("void", ()))
+        for name, arguments in declared.items():
             self.assertEqual(len(getattr(_native, name).argtypes), arguments.count(",") + 1, name)
 
     def test_every_result_of_the_header_is_declared(self):
@@ -159,6 +140,50 @@ print(list(commonware.SetView.decode(1, memoryview(b"-\\2ab")[1:])))
             words = {"MEMORY": "OutOfMemory"}.get(name, name.title().replace("_", ""))
             if name not in ("OK", "ROOM", "ABSENT", "REPEATED_VALUE"):
                 self.assertEqual(kind.__name__, words, name)
+
+
+class Version(unittest.TestCase):
+    def test_the_version_is_that_of_the_header(self):
+        text = (HERE.parent / "c/commonware.h").read_text()
+        parts = re.findall(r"(?m)^#define COMMONWARE_VERSION_(?:MAJOR|MINOR|PATCH) (\d+)$", text)
+        self.assertEqual(commonware.version(), tuple(map(int, parts)))
+
+    def test_the_number_is_split(self):
+        for number, parts in (
+            (1_000_000, (1, 0, 0)),
+            (12_345_678, (12, 345, 678)),
+            (999, (0, 0, 999)),
+        ):
+            with unittest.mock.patch.object(_library, "version_number", lambda: number):
+                self.assertEqual(commonware.version(), parts)
+
+    def test_the_version_is_that_of_the_project(self):
+        project = (HERE / "pyproject.toml").read_text()
+        self.assertEqual(re.findall(r'(?m)^version = "(.*)"$', project), [commonware.__version__])
+
+    def refusal(self, source):
+        """Returns the last line of an import over a library that is compiled from a source in C."""
+        with tempfile.TemporaryDirectory() as folder:
+            library = pathlib.Path(folder) / _library.NAME
+            words = ["cc", "-shared", "-fPIC", "-x", "c", "-", "-o", str(library)]
+            subprocess.run(words, input=source, text=True, check=True)
+            text, status = python("-c", "import commonware", COMMONWARE_C_LIB=folder)
+            self.assertNotEqual(status, 0)
+            return text.splitlines()[-1].replace(str(library), "LIBRARY")
+
+    @unittest.skipUnless(shutil.which("cc"), "no cc")
+    def test_libraries_of_other_versions_are_refused(self):
+        for number, said in ((2_003_004, "2.3.4"), (999_999, "0.999.999"), (10_000_000, "10.0.0")):
+            sentence = f"LIBRARY is version {said} of the library: this package needs version 1."
+            source = f"unsigned commonware_version(void) {{ return {number}; }}"
+            self.assertEqual(self.refusal(source), f"ImportError: {sentence}")
+        sentence = (
+            "ImportError: LIBRARY is another version of the library, without commonware_{}: "
+            "this package needs version 1.0.0."
+        )
+        self.assertEqual(self.refusal("int nothing;"), sentence.format("version"))
+        source = "unsigned commonware_version(void) { return 1000000; }"
+        self.assertEqual(self.refusal(source), sentence.format("max_faults"))
 
 
 KEYS = [bytes([i // 250, i % 250]) * 24 for i in range(300)]

@@ -1,29 +1,39 @@
 //! A value and those that signed it, from their encoding.
 
+use crate::error::whole;
+use crate::hex::Hex;
 use crate::room::zeros;
-use crate::{EncodeError, Refusal, raw, status};
+use crate::{CertificateBuf, EncodeError, Refusal, raw, status};
+use alloc::borrow::Cow;
+use alloc::vec::Vec;
+use core::fmt;
+use core::ops::Range;
 
-/// A value, and the indices of the members that signed it, strictly increasing. The value is borrowed
-/// from the certificate's encoding. Whether a signature is genuine isn't tested.
+/// A value, and the indices of the members that signed it, strictly increasing. The value is
+/// borrowed from the certificate's encoding, and a [`CertificateBuf`] owns that. Whether a
+/// signature is genuine isn't tested.
 ///
 /// ```
 /// use commonware_proved::Certificate;
 ///
 /// let bytes = Certificate::encode(b"block", &[0, 2, 3])?;
-/// let certificate = Certificate::try_from(&bytes[..])?;
+/// let certificate = Certificate::decode(&bytes)?;
 /// assert_eq!(certificate.value(), b"block");
 /// assert_eq!(certificate.signers(), [0, 2, 3]);
 /// # Ok::<(), Box<dyn std::error::Error>>(())
 /// ```
-#[derive(Clone, Debug, PartialEq, Eq, Hash)]
+#[derive(Clone, PartialEq, Eq, Hash)]
 pub struct Certificate<'a> {
-    value: &'a [u8],
-    signers: Vec<u32>,
+    encoding: &'a [u8],
+    /// Where the value is in the encoding.
+    value: Range<usize>,
+    signers: Cow<'a, [u32]>,
 }
 
 impl<'a> Certificate<'a> {
-    /// Decodes the certificate at the start of the input, with a value of up to `most_bytes` bytes and
-    /// up to `most_signers` signers, and returns what follows it.
+    /// Decodes the certificate at the start of the input, with a value of up to `most_bytes` bytes
+    /// and up to `most_signers` signers, and returns what follows it. The memory is that of the
+    /// indices, and is taken once the input is known to begin with a certificate.
     ///
     /// # Errors
     ///
@@ -31,9 +41,10 @@ impl<'a> Certificate<'a> {
     ///
     /// ```
     /// # use commonware_proved::{Certificate, Refusal};
-    /// let bytes = Certificate::encode(b"block", &[0, 2, 3])?;
+    /// let bytes = [&Certificate::encode(b"block", &[0, 2, 3])?[..], b"more"].concat();
+    /// let (certificate, rest) = Certificate::read(&bytes, 32, 256)?;
+    /// assert_eq!((certificate.signers().len(), rest), (3, &b"more"[..]));
     /// assert_eq!(Certificate::read(&bytes, 4, 256), Err(Refusal::InvalidLength(5)));
-    /// assert!(Certificate::read(&bytes, 32, 256)?.1.is_empty());
     /// # Ok::<(), Box<dyn std::error::Error>>(())
     /// ```
     pub fn read(
@@ -41,50 +52,42 @@ impl<'a> Certificate<'a> {
         most_bytes: usize,
         most_signers: usize,
     ) -> Result<(Certificate<'a>, &'a [u8]), Refusal> {
-        // Each signer takes at least one byte, so these suffice.
-        let mut signers = zeros(most_signers.min(input.len())).ok_or(Refusal::Memory)?;
-        // SAFETY: each pointer and the length after it are those of one slice; `signers` is a new one.
-        let view = unsafe {
-            raw::commonware_certificate_read(
-                input.as_ptr(),
-                input.len(),
-                most_bytes,
-                most_signers,
-                signers.as_mut_ptr(),
-                signers.len(),
-            )
-        };
-        if view.status != status::OK {
-            return Err(Refusal::of(view.status, view.number));
+        let view = call(input, (most_bytes, most_signers), &mut [])?;
+        let (encoding, rest) = input.split_at(input.len() - view.left);
+        Ok((Certificate::at(encoding, view)?, rest))
+    }
+
+    /// Decodes the certificate that the whole input is, of any lengths. The memory is that of the
+    /// indices, and is taken once the input is known to be a certificate.
+    ///
+    /// # Errors
+    ///
+    /// The first fault (decoding error) of the input, `LeftOver`, or `Memory`.
+    ///
+    /// ```
+    /// # use commonware_proved::{Certificate, Refusal};
+    /// assert_eq!(Certificate::decode(&[1, b'x', 2, 4, 6])?.signers(), [4, 6]);
+    /// assert_eq!(Certificate::decode(&[1, b'x', 2, 4, 6, 0]), Err(Refusal::LeftOver(1)));
+    /// # Ok::<(), Refusal>(())
+    /// ```
+    pub fn decode(input: &'a [u8]) -> Result<Certificate<'a>, Refusal> {
+        let view = call(input, (usize::MAX, usize::MAX), &mut [])?;
+        let (encoding, rest) = input.split_at(input.len() - view.left);
+        Certificate::at(whole((encoding, rest))?, view)
+    }
+
+    /// Returns the certificate that these bytes are, by what the library says of its size.
+    fn at(encoding: &'a [u8], view: raw::CertificateView) -> Result<Certificate<'a>, Refusal> {
+        let mut signers = zeros(view.signers as usize).ok_or(Refusal::Memory)?;
+        if view.status == status::ROOM {
+            let filled = call(encoding, (usize::MAX, usize::MAX), &mut signers)?;
+            debug_assert_eq!(filled.status, status::OK, "there is room for each signer");
         }
-        signers.truncate(view.signers as usize);
-        let value = &input[view.value_start..][..view.value_length];
-        let rest = &input[input.len() - view.left..];
-        Ok((Certificate { value, signers }, rest))
-    }
-
-    /// Returns the bytes that were signed.
-    ///
-    /// ```
-    /// # use commonware_proved::Certificate;
-    /// assert_eq!(Certificate::try_from(&[1, b'x', 0][..])?.value(), b"x");
-    /// # Ok::<(), commonware_proved::Refusal>(())
-    /// ```
-    #[must_use]
-    pub fn value(&self) -> &'a [u8] {
-        self.value
-    }
-
-    /// Returns the indices of those that signed, strictly increasing.
-    ///
-    /// ```
-    /// # use commonware_proved::Certificate;
-    /// assert_eq!(Certificate::try_from(&[0, 2, 4, 6][..])?.signers(), [4, 6]);
-    /// # Ok::<(), commonware_proved::Refusal>(())
-    /// ```
-    #[must_use]
-    pub fn signers(&self) -> &[u32] {
-        &self.signers
+        Ok(Certificate {
+            encoding,
+            value: view.value_start..view.value_start + view.value_length,
+            signers: Cow::Owned(signers),
+        })
     }
 
     /// Encodes the certificate of a value and of the indices of those that signed it, which are
@@ -119,16 +122,130 @@ impl<'a> Certificate<'a> {
         out.truncate(view.size);
         Ok(out)
     }
+
+    /// Returns the certificate of this encoding, which has the value and the signers.
+    pub(crate) fn of(
+        encoding: &'a [u8],
+        value: Range<usize>,
+        signers: &'a [u32],
+    ) -> Certificate<'a> {
+        Certificate {
+            encoding,
+            value,
+            signers: Cow::Borrowed(signers),
+        }
+    }
+
+    /// Returns where the value is in the encoding.
+    pub(crate) fn value_range(&self) -> Range<usize> {
+        self.value.clone()
+    }
+
+    /// Returns the encoding.
+    ///
+    /// ```
+    /// # use commonware_proved::Certificate;
+    /// let (certificate, _) = Certificate::read(&[1, b'x', 1, 4, 9, 9], 1, 1)?;
+    /// assert_eq!(certificate.as_bytes(), [1, b'x', 1, 4]);
+    /// # Ok::<(), commonware_proved::Refusal>(())
+    /// ```
+    #[must_use]
+    pub fn as_bytes(&self) -> &'a [u8] {
+        self.encoding
+    }
+
+    /// Returns the bytes that were signed.
+    ///
+    /// ```
+    /// # use commonware_proved::Certificate;
+    /// assert_eq!(Certificate::decode(&[1, b'x', 0])?.value(), b"x");
+    /// # Ok::<(), commonware_proved::Refusal>(())
+    /// ```
+    #[must_use]
+    pub fn value(&self) -> &'a [u8] {
+        &self.encoding[self.value.clone()]
+    }
+
+    /// Returns the indices of those that signed, strictly increasing.
+    ///
+    /// ```
+    /// # use commonware_proved::Certificate;
+    /// assert_eq!(Certificate::decode(&[0, 2, 4, 6])?.signers(), [4, 6]);
+    /// # Ok::<(), commonware_proved::Refusal>(())
+    /// ```
+    #[must_use]
+    pub fn signers(&self) -> &[u32] {
+        &self.signers
+    }
+
+    /// Returns the indices of those that signed, strictly increasing. They are copied where they
+    /// belong to a [`CertificateBuf`].
+    ///
+    /// ```
+    /// # use commonware_proved::Certificate;
+    /// assert_eq!(Certificate::decode(&[0, 2, 4, 6])?.into_signers(), vec![4, 6]);
+    /// # Ok::<(), commonware_proved::Refusal>(())
+    /// ```
+    #[must_use]
+    pub fn into_signers(self) -> Vec<u32> {
+        self.signers.into_owned()
+    }
+
+    /// Returns the certificate with copies of its encoding and of the signers.
+    ///
+    /// ```
+    /// # use commonware_proved::Certificate;
+    /// let owned = Certificate::decode(&[1, b'x', 2, 4, 6])?.to_buf();
+    /// assert_eq!(owned.as_view().value(), b"x");
+    /// # Ok::<(), commonware_proved::Refusal>(())
+    /// ```
+    #[must_use]
+    pub fn to_buf(&self) -> CertificateBuf {
+        let (encoding, signers) = (self.encoding.to_vec(), self.signers.to_vec());
+        CertificateBuf::of(encoding, self.value.clone(), signers)
+    }
 }
 
-/// The whole input is the certificate, of any lengths.
+/// Calls the library with an input, the greatest lengths of the value and of the signers, and a
+/// room for the latter.
+fn call(
+    input: &[u8],
+    (most_bytes, most_signers): (usize, usize),
+    room: &mut [u32],
+) -> Result<raw::CertificateView, Refusal> {
+    // SAFETY: each pointer and the length after it are those of one slice; both are borrowed for
+    // the call.
+    let view = unsafe {
+        raw::commonware_certificate_read(
+            input.as_ptr(),
+            input.len(),
+            most_bytes,
+            most_signers,
+            room.as_mut_ptr(),
+            room.len(),
+        )
+    };
+    match view.status {
+        status::OK | status::ROOM => Ok(view),
+        status => Err(Refusal::of(status, view.number)),
+    }
+}
+
+/// The whole input is the certificate, of any lengths, as [`Certificate::decode`] takes it.
 impl<'a> TryFrom<&'a [u8]> for Certificate<'a> {
     type Error = Refusal;
 
     fn try_from(input: &'a [u8]) -> Result<Certificate<'a>, Refusal> {
-        match Certificate::read(input, usize::MAX, usize::MAX)? {
-            (certificate, []) => Ok(certificate),
-            (_, rest) => Err(Refusal::LeftOver(rest.len())),
-        }
+        Certificate::decode(input)
+    }
+}
+
+/// The value in hexadecimal.
+impl fmt::Debug for Certificate<'_> {
+    fn fmt(&self, f: &mut fmt::Formatter<'_>) -> fmt::Result {
+        f.debug_struct("Certificate")
+            .field("value", &Hex(self.value()))
+            .field("signers", &self.signers())
+            .finish()
     }
 }

@@ -1,34 +1,35 @@
 //! One certificate: whether a quorum of the members signed it.
 
-use crate::{FaultModel, Refusal, raw, status};
-use std::error::Error;
-use std::fmt;
+use crate::hex::Hex;
+use crate::{Certificate, Committee, FaultModel, Refusal, raw, status};
+use core::error::Error;
+use core::fmt;
 
-/// A certificate whose signers are members of a committee and at least a quorum: its value, borrowed
-/// from its encoding, with the slot and the decision where the value has them.
+/// A certificate whose signers are members of a committee and at least a quorum: its value,
+/// borrowed from its encoding, with the slot and the decision where the value has them.
 ///
 /// ```
-/// use commonware_proved::{Certificate, FaultModel, check, slot_value};
+/// use commonware_proved::{Certificate, FaultModel, check_encoded, slot_value};
 ///
 /// let bytes = Certificate::encode(&slot_value(b"view 7", b"A")?, &[0, 1, 2])?;
-/// let checked = check(FaultModel::N3F1, 4, &bytes)?;
+/// let checked = check_encoded(FaultModel::N3F1, 4, &bytes)?;
 /// assert_eq!(checked.slot(), Some(&b"view 7"[..]));
-/// assert_eq!(checked.signers(), 3);
+/// assert_eq!(checked.signer_count(), 3);
 /// # Ok::<(), Box<dyn std::error::Error>>(())
 /// ```
-#[derive(Clone, Copy, Debug, PartialEq, Eq, Hash)]
+#[derive(Clone, Copy, PartialEq, Eq, Hash)]
 pub struct Checked<'a> {
     value: &'a [u8],
     parts: Option<(&'a [u8], &'a [u8])>,
-    signers: u32,
+    signer_count: u32,
 }
 
 impl<'a> Checked<'a> {
     /// Returns the bytes that were signed.
     ///
     /// ```
-    /// # use commonware_proved::{FaultModel, check};
-    /// assert_eq!(check(FaultModel::N3F1, 1, &[1, b'x', 1, 0])?.value(), b"x");
+    /// # use commonware_proved::{FaultModel, check_encoded};
+    /// assert_eq!(check_encoded(FaultModel::N3F1, 1, &[1, b'x', 1, 0])?.value(), b"x");
     /// # Ok::<(), commonware_proved::CheckError>(())
     /// ```
     #[must_use]
@@ -39,11 +40,11 @@ impl<'a> Checked<'a> {
     /// Returns the slot that the value is for, or `None` where it is for none.
     ///
     /// ```
-    /// # use commonware_proved::{FaultModel, check};
+    /// # use commonware_proved::{FaultModel, check_encoded};
     /// let input = [3, 1, b'7', b'A', 1, 0];
-    /// assert_eq!(check(FaultModel::N3F1, 1, &input)?.slot(), Some(&b"7"[..]));
+    /// assert_eq!(check_encoded(FaultModel::N3F1, 1, &input)?.slot(), Some(&b"7"[..]));
     /// // A length of 9 bytes, which aren't there.
-    /// assert_eq!(check(FaultModel::N3F1, 1, &[1, 9, 1, 0])?.slot(), None);
+    /// assert_eq!(check_encoded(FaultModel::N3F1, 1, &[1, 9, 1, 0])?.slot(), None);
     /// # Ok::<(), commonware_proved::CheckError>(())
     /// ```
     #[must_use]
@@ -54,9 +55,9 @@ impl<'a> Checked<'a> {
     /// Returns the decision that the value is for its slot, or `None` where it has none.
     ///
     /// ```
-    /// # use commonware_proved::{FaultModel, check};
+    /// # use commonware_proved::{FaultModel, check_encoded};
     /// let input = [3, 1, b'7', b'A', 1, 0];
-    /// assert_eq!(check(FaultModel::N3F1, 1, &input)?.decision(), Some(&b"A"[..]));
+    /// assert_eq!(check_encoded(FaultModel::N3F1, 1, &input)?.decision(), Some(&b"A"[..]));
     /// # Ok::<(), commonware_proved::CheckError>(())
     /// ```
     #[must_use]
@@ -67,26 +68,39 @@ impl<'a> Checked<'a> {
     /// Returns how many members signed.
     ///
     /// ```
-    /// # use commonware_proved::{FaultModel, check};
-    /// assert_eq!(check(FaultModel::N3F1, 4, &[0, 3, 0, 2, 3])?.signers(), 3);
+    /// # use commonware_proved::{FaultModel, check_encoded};
+    /// assert_eq!(check_encoded(FaultModel::N3F1, 4, &[0, 3, 0, 2, 3])?.signer_count(), 3);
     /// # Ok::<(), commonware_proved::CheckError>(())
     /// ```
     #[must_use]
-    pub fn signers(&self) -> u32 {
-        self.signers
+    pub fn signer_count(&self) -> u32 {
+        self.signer_count
+    }
+}
+
+/// The value, the slot and the decision in hexadecimal.
+impl fmt::Debug for Checked<'_> {
+    fn fmt(&self, f: &mut fmt::Formatter<'_>) -> fmt::Result {
+        f.debug_struct("Checked")
+            .field("value", &Hex(self.value))
+            .field("slot", &self.slot().map(Hex))
+            .field("decision", &self.decision().map(Hex))
+            .field("signer_count", &self.signer_count)
+            .finish()
     }
 }
 
 /// Why a certificate isn't one of a quorum. Where several reasons hold, it is the first of these.
 ///
 /// ```
-/// use commonware_proved::{Certificate, CheckError, FaultModel, check};
+/// use commonware_proved::{Certificate, CheckError, FaultModel, check_encoded};
 ///
 /// let bytes = Certificate::encode(b"A", &[0, 1])?;
-/// assert_eq!(check(FaultModel::N3F1, 4, &bytes), Err(CheckError::TooFew));
+/// assert_eq!(check_encoded(FaultModel::N3F1, 4, &bytes), Err(CheckError::TooFew));
 /// # Ok::<(), commonware_proved::EncodeError>(())
 /// ```
 #[derive(Clone, Copy, Debug, PartialEq, Eq, Hash)]
+#[non_exhaustive]
 pub enum CheckError {
     /// The committee has no members.
     NoMembers,
@@ -118,8 +132,39 @@ impl Error for CheckError {
     }
 }
 
-/// Returns the certificate that the input is, where all its signers are among `members` members and
-/// they are at least a quorum of the model. Nothing is allocated.
+/// Returns what a certificate says, where all its signers are members of the committee and they are
+/// at least a quorum of the model. Nothing is allocated.
+///
+/// # Warning
+///
+/// No signature is looked at. Whoever doesn't verify them knows nothing of who signed.
+///
+/// # Errors
+///
+/// Why it is no certificate of a quorum; not `Input`, since the certificate was read.
+///
+/// ```
+/// use commonware_proved::{CertificateBuf, CommitteeBuf, FaultModel};
+/// use commonware_proved::{CheckError, check, slot_value};
+///
+/// let committee = CommitteeBuf::from_keys(&[[1; 32], [2; 32], [3; 32], [4; 32]])?;
+/// let certificate = CertificateBuf::from_parts(&slot_value(b"view 7", b"A")?, &[0, 1, 2])?;
+/// let (committee, certificate) = (committee.as_view(), certificate.as_view());
+/// assert_eq!(check(FaultModel::N3F1, &committee, &certificate)?.decision(), Some(&b"A"[..]));
+/// let refused = check(FaultModel::N5F1, &committee, &certificate);
+/// assert_eq!(refused, Err(CheckError::TooFew));
+/// # Ok::<(), Box<dyn std::error::Error>>(())
+/// ```
+pub fn check<'a>(
+    model: FaultModel,
+    committee: &Committee<'_>,
+    certificate: &Certificate<'a>,
+) -> Result<Checked<'a>, CheckError> {
+    check_encoded(model, committee.count(), certificate.as_bytes())
+}
+
+/// Returns what the certificate that the input is says, as [`check`] does, for a committee of
+/// `members` members, whose keys may have any size.
 ///
 /// # Warning
 ///
@@ -130,15 +175,19 @@ impl Error for CheckError {
 /// Why it is no certificate of a quorum.
 ///
 /// ```
-/// use commonware_proved::{CheckError, FaultModel, check};
+/// use commonware_proved::{CheckError, FaultModel, check_encoded};
 ///
 /// // The value 9, signed by 0, 1 and 2.
 /// let input = [1, 9, 3, 0, 1, 2];
-/// assert_eq!(check(FaultModel::N3F1, 4, &input)?.value(), [9]);
-/// assert_eq!(check(FaultModel::N5F1, 4, &input), Err(CheckError::TooFew));
+/// assert_eq!(check_encoded(FaultModel::N3F1, 4, &input)?.value(), [9]);
+/// assert_eq!(check_encoded(FaultModel::N5F1, 4, &input), Err(CheckError::TooFew));
 /// # Ok::<(), CheckError>(())
 /// ```
-pub fn check(model: FaultModel, members: u32, input: &[u8]) -> Result<Checked<'_>, CheckError> {
+pub fn check_encoded(
+    model: FaultModel,
+    members: u32,
+    input: &[u8],
+) -> Result<Checked<'_>, CheckError> {
     // SAFETY: the pointer and the length are those of one slice, which is borrowed for the call.
     let view = unsafe {
         raw::commonware_certificate_check(model.k(), members, input.as_ptr(), input.len())
@@ -149,7 +198,7 @@ pub fn check(model: FaultModel, members: u32, input: &[u8]) -> Result<Checked<'_
         status::OK => Ok(Checked {
             value: &input[view.value_start..][..view.value_length],
             parts: (view.slot_start > 0).then_some((slot, decision)),
-            signers: view.signers,
+            signer_count: view.signers,
         }),
         status::NO_MEMBERS => Err(CheckError::NoMembers),
         status::OUTSIDE => Err(CheckError::Outside),

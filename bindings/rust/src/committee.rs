@@ -1,34 +1,58 @@
 //! The members of a committee, in their encoding.
 
+use crate::error::whole;
+use crate::hex::HexItems;
+use crate::items::Column;
+use crate::limits::limits;
 use crate::room::zeros;
-use crate::{EncodeError, FaultModel, Refusal, raw, status};
-use std::ops::RangeInclusive;
-use std::slice;
+use crate::{CommitteeBuf, EncodeError, FaultModel, Refusal, Set, SetView, raw, status};
+use alloc::vec::Vec;
+use core::ops::RangeBounds;
+use core::{fmt, slice};
 
 /// How many bytes a member has.
+///
+/// ```
+/// # use commonware_proved::{Committee, MEMBER_SIZE};
+/// let bytes = Committee::encode(&[[2; MEMBER_SIZE], [1; MEMBER_SIZE]])?;
+/// assert_eq!(bytes.len(), 1 + 2 * MEMBER_SIZE);
+/// # Ok::<(), commonware_proved::EncodeError>(())
+/// ```
 pub const MEMBER_SIZE: usize = 32;
 
 /// The key of a member. Members are ordered by their bytes.
+///
+/// ```
+/// # use commonware_proved::{CommitteeBuf, Member};
+/// let (first, second): (Member, Member) = ([1; 32], [2; 32]);
+/// let committee = CommitteeBuf::from_keys(&[second, first])?;
+/// assert_eq!(committee.as_view().members(), [first, second]);
+/// # Ok::<(), commonware_proved::EncodeError>(())
+/// ```
 pub type Member = [u8; MEMBER_SIZE];
 
 /// The members of a committee, strictly increasing, borrowed from its encoding. Nothing is copied.
+/// A [`CommitteeBuf`] owns the encoding. It is a [`Set`] of keys of 32 bytes, and each is made of
+/// the other by `from`.
 ///
 /// ```
-/// use commonware_proved::{Committee, Refusal};
+/// use commonware_proved::{Committee, FaultModel, Refusal};
 ///
-/// let bytes = Committee::encode(&[[2; 32], [1; 32], [2; 32]])?;
-/// let committee = Committee::try_from(&bytes[..])?;
-/// assert_eq!(committee.members(), [[1; 32], [2; 32]]);
-/// # Ok::<(), Box<dyn std::error::Error>>(())
+/// let bytes = [&[4][..], &[1; 32], &[3; 32], &[5; 32], &[7; 32]].concat();
+/// let committee = Committee::decode(&bytes)?;
+/// assert_eq!(committee.get(1), Some(&[3; 32]));
+/// assert_eq!(committee.position(&[7; 32]), Some(3));
+/// assert_eq!(committee.quorum(FaultModel::N3F1), Some(3));
+/// # Ok::<(), Refusal>(())
 /// ```
-#[derive(Clone, Copy, Debug, PartialEq, Eq, Hash)]
+#[derive(Clone, Copy, PartialEq, Eq, Hash)]
 pub struct Committee<'a> {
-    members: &'a [Member],
+    members: Set<'a, MEMBER_SIZE>,
 }
 
 impl<'a> Committee<'a> {
-    /// Decodes the committee at the start of the input, whose number of members is in the range, and
-    /// returns what follows it. Nothing is allocated.
+    /// Decodes the committee at the start of the input, whose number of members is in the range,
+    /// and returns what follows it. Nothing is allocated.
     ///
     /// # Errors
     ///
@@ -39,28 +63,99 @@ impl<'a> Committee<'a> {
     /// let bytes = [&[1][..], &[9; 32], b"more"].concat();
     /// let (committee, rest) = Committee::read(&bytes, 1..=256)?;
     /// assert_eq!((committee.len(), rest), (1, &b"more"[..]));
-    /// assert_eq!(Committee::read(&bytes, 2..=256), Err(Refusal::InvalidLength(1)));
+    /// assert_eq!(Committee::read(&bytes, 2..), Err(Refusal::InvalidLength(1)));
     /// # Ok::<(), Refusal>(())
     /// ```
     pub fn read(
         input: &'a [u8],
-        sizes: RangeInclusive<usize>,
+        lengths: impl RangeBounds<usize>,
     ) -> Result<(Committee<'a>, &'a [u8]), Refusal> {
-        // SAFETY: the pointer and the length are those of one slice, which is borrowed for the call.
-        let view = unsafe {
-            raw::commonware_committee_read(
-                input.as_ptr(),
-                input.len(),
-                *sizes.start(),
-                *sizes.end(),
-            )
-        };
+        let (least, most) = limits(&lengths);
+        // SAFETY: the pointer and the length are those of one slice, which is borrowed for the
+        // call.
+        let view =
+            unsafe { raw::commonware_committee_read(input.as_ptr(), input.len(), least, most) };
         if view.status != status::OK {
             return Err(Refusal::of(view.status, view.number));
         }
-        let (bytes, rest) = input.split_at(input.len() - view.left);
-        let (members, _) = bytes[view.start..].as_chunks();
+        let (encoding, rest) = input.split_at(input.len() - view.left);
+        let members = Column::new(MEMBER_SIZE, view.count, view.start);
+        let members = Set::of(SetView::of(encoding, members));
         Ok((Committee { members }, rest))
+    }
+
+    /// Decodes the committee that the whole input is, of any number of members. Nothing is
+    /// allocated.
+    ///
+    /// # Errors
+    ///
+    /// The first fault (decoding error) of the input, or `LeftOver`; not `Memory`.
+    ///
+    /// ```
+    /// # use commonware_proved::{Committee, Refusal};
+    /// assert!(Committee::decode(&[0])?.is_empty());
+    /// assert_eq!(Committee::decode(&[0, 9]), Err(Refusal::LeftOver(1)));
+    /// # Ok::<(), Refusal>(())
+    /// ```
+    pub fn decode(input: &'a [u8]) -> Result<Committee<'a>, Refusal> {
+        whole(Committee::read(input, ..)?)
+    }
+
+    /// Encodes the committee of these keys: sorted, each key once. The keys may come in any order
+    /// and repeat.
+    ///
+    /// # Errors
+    ///
+    /// `InvalidLength` where the distinct keys are more than 4294967295, and `Memory`.
+    ///
+    /// ```
+    /// # use commonware_proved::{Committee, EncodeError};
+    /// let bytes = Committee::encode(&[[2; 32], [1; 32], [2; 32]])?;
+    /// assert_eq!(bytes, [&[2][..], &[1; 32], &[2; 32]].concat());
+    /// # Ok::<(), EncodeError>(())
+    /// ```
+    pub fn encode(keys: &[Member]) -> Result<Vec<u8>, EncodeError> {
+        let mut out = zeros(5 + MEMBER_SIZE * keys.len()).ok_or(EncodeError::Memory)?;
+        let members = keys.as_flattened().as_ptr();
+        // SAFETY: each pointer and the length after it are those of one slice; `out` is a new one.
+        let view = unsafe {
+            raw::commonware_committee_write(members, keys.len(), out.as_mut_ptr(), out.len())
+        };
+        if view.status != status::OK {
+            return Err(EncodeError::of(view.status, view.number));
+        }
+        out.truncate(view.size);
+        Ok(out)
+    }
+
+    /// Returns where the members are.
+    pub(crate) fn column(&self) -> Column {
+        SetView::from(self.members).column()
+    }
+
+    /// Returns the encoding.
+    ///
+    /// ```
+    /// # use commonware_proved::Committee;
+    /// assert_eq!(Committee::read(&[0, 7, 8], ..)?.0.as_bytes(), [0]);
+    /// # Ok::<(), commonware_proved::Refusal>(())
+    /// ```
+    #[must_use]
+    pub fn as_bytes(&self) -> &'a [u8] {
+        self.members.as_bytes()
+    }
+
+    /// Returns the bytes of all members, one after another.
+    ///
+    /// ```
+    /// # use commonware_proved::Committee;
+    /// let bytes = Committee::encode(&[[2; 32], [1; 32]])?;
+    /// assert_eq!(Committee::decode(&bytes)?.key_bytes(), &bytes[1..]);
+    /// # Ok::<(), Box<dyn std::error::Error>>(())
+    /// ```
+    #[must_use]
+    pub fn key_bytes(&self) -> &'a [u8] {
+        self.members.key_bytes()
     }
 
     /// Returns the members in order.
@@ -68,31 +163,19 @@ impl<'a> Committee<'a> {
     /// ```
     /// # use commonware_proved::Committee;
     /// let bytes = Committee::encode(&[[2; 32], [1; 32]])?;
-    /// assert_eq!(Committee::try_from(&bytes[..])?.members()[0], [1; 32]);
+    /// assert_eq!(Committee::decode(&bytes)?.members(), [[1; 32], [2; 32]]);
     /// # Ok::<(), Box<dyn std::error::Error>>(())
     /// ```
     #[must_use]
     pub fn members(&self) -> &'a [Member] {
-        self.members
-    }
-
-    /// Returns the members in order.
-    ///
-    /// ```
-    /// # use commonware_proved::Committee;
-    /// let bytes = Committee::encode(&[[2; 32], [1; 32]])?;
-    /// assert_eq!(Committee::try_from(&bytes[..])?.iter().last(), Some(&[2; 32]));
-    /// # Ok::<(), Box<dyn std::error::Error>>(())
-    /// ```
-    pub fn iter(&self) -> slice::Iter<'a, Member> {
-        self.members.iter()
+        self.members.keys()
     }
 
     /// Returns how many members there are.
     ///
     /// ```
     /// # use commonware_proved::Committee;
-    /// assert_eq!(Committee::try_from(&[0][..])?.len(), 0);
+    /// assert_eq!(Committee::decode(&[0])?.len(), 0);
     /// # Ok::<(), commonware_proved::Refusal>(())
     /// ```
     #[must_use]
@@ -104,7 +187,7 @@ impl<'a> Committee<'a> {
     ///
     /// ```
     /// # use commonware_proved::Committee;
-    /// assert!(Committee::try_from(&[0][..])?.is_empty());
+    /// assert!(Committee::decode(&[0])?.is_empty());
     /// # Ok::<(), commonware_proved::Refusal>(())
     /// ```
     #[must_use]
@@ -112,22 +195,34 @@ impl<'a> Committee<'a> {
         self.members.is_empty()
     }
 
+    /// Returns the member at an index, or `None` past the last.
+    ///
+    /// ```
+    /// # use commonware_proved::Committee;
+    /// let bytes = Committee::encode(&[[2; 32], [1; 32]])?;
+    /// assert_eq!(Committee::decode(&bytes)?.get(0), Some(&[1; 32]));
+    /// # Ok::<(), Box<dyn std::error::Error>>(())
+    /// ```
+    #[must_use]
+    pub fn get(&self, index: usize) -> Option<&'a Member> {
+        self.members.get(index)
+    }
+
     /// Returns the index of a member, or `None` where there is no such, in O(log n) comparisons.
     ///
     /// ```
     /// # use commonware_proved::Committee;
     /// let bytes = Committee::encode(&[[2; 32], [1; 32]])?;
-    /// let committee = Committee::try_from(&bytes[..])?;
-    /// assert_eq!(committee.index_of(&[2; 32]), Some(1));
-    /// assert_eq!(committee.index_of(&[3; 32]), None);
+    /// let committee = Committee::decode(&bytes)?;
+    /// assert_eq!(committee.position(&[2; 32]), Some(1));
+    /// assert_eq!(committee.position(&[3; 32]), None);
     /// # Ok::<(), Box<dyn std::error::Error>>(())
     /// ```
     #[must_use]
-    pub fn index_of(&self, key: &Member) -> Option<usize> {
-        // SAFETY: the pointer and the length are those of one slice, and the key is one member.
-        let view = unsafe {
-            raw::commonware_committee_index(self.members.as_ptr(), self.members.len(), key)
-        };
+    pub fn position(&self, key: &Member) -> Option<usize> {
+        let members = self.key_bytes().as_ptr();
+        // SAFETY: the members are as many as the length says, and the key is one.
+        let view = unsafe { raw::commonware_committee_index(members, self.len(), key.as_ptr()) };
         (view.status == status::OK).then_some(view.index)
     }
 
@@ -135,20 +230,33 @@ impl<'a> Committee<'a> {
     ///
     /// ```
     /// # use commonware_proved::Committee;
-    /// assert!(!Committee::try_from(&[0][..])?.contains(&[3; 32]));
+    /// assert!(!Committee::decode(&[0])?.contains(&[3; 32]));
     /// # Ok::<(), commonware_proved::Refusal>(())
     /// ```
     #[must_use]
     pub fn contains(&self, key: &Member) -> bool {
-        self.index_of(key).is_some()
+        self.position(key).is_some()
     }
 
-    /// Returns how many of the members may be faulty in a model, or `None` where there are no members.
+    /// Returns the members in order.
+    ///
+    /// ```
+    /// # use commonware_proved::Committee;
+    /// let bytes = Committee::encode(&[[2; 32], [1; 32]])?;
+    /// assert_eq!(Committee::decode(&bytes)?.iter().last(), Some(&[2; 32]));
+    /// # Ok::<(), Box<dyn std::error::Error>>(())
+    /// ```
+    pub fn iter(&self) -> slice::Iter<'a, Member> {
+        self.members.iter()
+    }
+
+    /// Returns how many of the members may be faulty in a model, or `None` where there are no
+    /// members.
     ///
     /// ```
     /// # use commonware_proved::{Committee, FaultModel};
     /// let bytes = Committee::encode(&[[0; 32], [1; 32], [2; 32], [3; 32]])?;
-    /// let committee = Committee::try_from(&bytes[..])?;
+    /// let committee = Committee::decode(&bytes)?;
     /// assert_eq!(committee.max_faults(FaultModel::N3F1), Some(1));
     /// # Ok::<(), Box<dyn std::error::Error>>(())
     /// ```
@@ -157,11 +265,12 @@ impl<'a> Committee<'a> {
         model.max_faults(self.count())
     }
 
-    /// Returns how many of the members make a quorum in a model, or `None` where there are no members.
+    /// Returns how many of the members make a quorum in a model, or `None` where there are no
+    /// members.
     ///
     /// ```
     /// # use commonware_proved::{Committee, FaultModel};
-    /// assert_eq!(Committee::try_from(&[0][..])?.quorum(FaultModel::N3F1), None);
+    /// assert_eq!(Committee::decode(&[0])?.quorum(FaultModel::N3F1), None);
     /// # Ok::<(), commonware_proved::Refusal>(())
     /// ```
     #[must_use]
@@ -170,44 +279,52 @@ impl<'a> Committee<'a> {
     }
 
     /// Returns the number of members, which its varint keeps below 2^32.
-    fn count(&self) -> u32 {
-        self.members.len() as u32
+    pub(crate) fn count(&self) -> u32 {
+        self.column().count
     }
 
-    /// Encodes the committee of these keys: sorted, each key once. The keys may come in any order and
-    /// repeat.
-    ///
-    /// # Errors
-    ///
-    /// `InvalidLength` where the distinct keys are more than 4294967295, and `Memory`.
+    /// Returns the committee with a copy of its encoding.
     ///
     /// ```
     /// # use commonware_proved::Committee;
-    /// assert_eq!(Committee::encode(&[[2; 32], [1; 32]]), Committee::encode(&[[1; 32], [2; 32]]));
+    /// let bytes = Committee::encode(&[[2; 32], [1; 32]])?;
+    /// let owned = Committee::decode(&bytes)?.to_buf();
+    /// drop(bytes);
+    /// assert_eq!(owned.as_view().position(&[2; 32]), Some(1));
+    /// # Ok::<(), Box<dyn std::error::Error>>(())
     /// ```
-    pub fn encode(keys: &[Member]) -> Result<Vec<u8>, EncodeError> {
-        let mut out = zeros(5 + MEMBER_SIZE * keys.len()).ok_or(EncodeError::Memory)?;
-        // SAFETY: each pointer and the length after it are those of one slice; `out` is a new one.
-        let view = unsafe {
-            raw::commonware_committee_write(keys.as_ptr(), keys.len(), out.as_mut_ptr(), out.len())
-        };
-        if view.status != status::OK {
-            return Err(EncodeError::of(view.status, view.number));
-        }
-        out.truncate(view.size);
-        Ok(out)
+    #[must_use]
+    pub fn to_buf(&self) -> CommitteeBuf {
+        CommitteeBuf::of(SetView::from(self.members).to_buf())
     }
 }
 
-/// The whole input is the committee, of any number of members.
+/// The whole input is the committee, of any number of members, as [`Committee::decode`] takes it.
 impl<'a> TryFrom<&'a [u8]> for Committee<'a> {
     type Error = Refusal;
 
     fn try_from(input: &'a [u8]) -> Result<Committee<'a>, Refusal> {
-        match Committee::read(input, 0..=usize::MAX)? {
-            (committee, []) => Ok(committee),
-            (_, rest) => Err(Refusal::LeftOver(rest.len())),
-        }
+        Committee::decode(input)
+    }
+}
+
+impl<'a> From<Set<'a, MEMBER_SIZE>> for Committee<'a> {
+    fn from(members: Set<'a, MEMBER_SIZE>) -> Committee<'a> {
+        Committee { members }
+    }
+}
+
+impl<'a> From<Committee<'a>> for Set<'a, MEMBER_SIZE> {
+    fn from(committee: Committee<'a>) -> Set<'a, MEMBER_SIZE> {
+        committee.members
+    }
+}
+
+/// The members in hexadecimal.
+impl fmt::Debug for Committee<'_> {
+    fn fmt(&self, f: &mut fmt::Formatter<'_>) -> fmt::Result {
+        let members = HexItems(SetView::from(self.members).iter());
+        f.debug_tuple("Committee").field(&members).finish()
     }
 }
 

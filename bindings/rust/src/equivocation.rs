@@ -1,23 +1,27 @@
 //! The members that signed two different decisions for one slot.
 
 use crate::room::zeros;
-use crate::{EncodeError, FaultModel, Refusal, raw, status};
-use std::error::Error;
-use std::fmt;
+use crate::{Certificate, Committee, EncodeError, FaultModel, Refusal, raw, status};
+use alloc::vec::Vec;
+use core::error::Error;
+use core::fmt;
 
-/// Why two certificates prove no equivocation. Where several reasons hold, it is the first of these.
+/// Why two certificates prove no equivocation. Where several reasons hold, it is the first of
+/// these.
 ///
 /// ```
-/// use commonware_proved::{Certificate, EquivocationError, FaultModel, equivocation, slot_value};
+/// use commonware_proved::{Certificate, EquivocationError, FaultModel};
+/// use commonware_proved::{equivocation_encoded, slot_value};
 ///
 /// // Honest members sign a block at each height.
 /// let first = Certificate::encode(&slot_value(b"height 1", b"A")?, &[0, 1, 2])?;
 /// let second = Certificate::encode(&slot_value(b"height 2", b"B")?, &[0, 1, 2])?;
-/// let named = equivocation(FaultModel::N3F1, 4, &first, &second);
+/// let named = equivocation_encoded(FaultModel::N3F1, 4, &first, &second);
 /// assert_eq!(named, Err(EquivocationError::OtherSlot));
 /// # Ok::<(), commonware_proved::EncodeError>(())
 /// ```
 #[derive(Clone, Copy, Debug, PartialEq, Eq, Hash)]
+#[non_exhaustive]
 pub enum EquivocationError {
     /// The committee has no members.
     NoMembers,
@@ -65,10 +69,42 @@ impl Error for EquivocationError {
 }
 
 /// Returns the indices, in order, of the members that equivocated: those that signed both of two
-/// certificates for different decisions for one slot, in a committee of `members`. With f of them
-/// faulty at most, they are at least (k - 2)f + 1; where the k of the model is 3 or more, at least one
-/// of them is outside every set of f members. No honest member is among them, if honest members sign
-/// at most one decision a slot.
+/// certificates for different decisions for one slot. With f of the members faulty at most, they
+/// are at least (k - 2)f + 1; where the k of the model is 3 or more, at least one of them is
+/// outside every set of f members. No honest member is among them, if honest members sign at most
+/// one decision a slot.
+///
+/// # Warning
+///
+/// No signature is looked at. Whoever doesn't verify them first may accuse an innocent member.
+///
+/// # Errors
+///
+/// Why no one is named; neither `First` nor `Second`, since both certificates were read.
+///
+/// ```
+/// use commonware_proved::{CertificateBuf, CommitteeBuf, FaultModel, equivocation, slot_value};
+///
+/// let committee = CommitteeBuf::from_keys(&[[1; 32], [2; 32], [3; 32], [4; 32]])?;
+/// let first = CertificateBuf::from_parts(&slot_value(b"view 7", b"A")?, &[0, 1, 2])?;
+/// let second = CertificateBuf::from_parts(&slot_value(b"view 7", b"B")?, &[1, 2, 3])?;
+/// let (committee, model) = (committee.as_view(), FaultModel::N3F1);
+/// assert_eq!(equivocation(model, &committee, &first.as_view(), &second.as_view())?, [1, 2]);
+/// # Ok::<(), Box<dyn std::error::Error>>(())
+/// ```
+pub fn equivocation(
+    model: FaultModel,
+    committee: &Committee<'_>,
+    first: &Certificate<'_>,
+    second: &Certificate<'_>,
+) -> Result<Vec<u32>, EquivocationError> {
+    let most = first.signers().len().min(second.signers().len());
+    let inputs = [first.as_bytes(), second.as_bytes()];
+    named(model, committee.count(), inputs, most)
+}
+
+/// Returns the indices that [`equivocation`] does, for two inputs that are certificates, and a
+/// committee of `members` members, whose keys may have any size.
 ///
 /// # Warning
 ///
@@ -79,22 +115,32 @@ impl Error for EquivocationError {
 /// Why no one is named.
 ///
 /// ```
-/// use commonware_proved::{Certificate, FaultModel, equivocation, slot_value};
+/// use commonware_proved::{Certificate, FaultModel, equivocation_encoded, slot_value};
 ///
 /// let first = Certificate::encode(&slot_value(b"view 7", b"A")?, &[0, 1, 2])?;
 /// let second = Certificate::encode(&slot_value(b"view 7", b"B")?, &[1, 2, 3])?;
-/// assert_eq!(equivocation(FaultModel::N3F1, 4, &first, &second)?, [1, 2]);
+/// assert_eq!(equivocation_encoded(FaultModel::N3F1, 4, &first, &second)?, [1, 2]);
 /// # Ok::<(), Box<dyn std::error::Error>>(())
 /// ```
-pub fn equivocation(
+pub fn equivocation_encoded(
     model: FaultModel,
     members: u32,
     first: &[u8],
     second: &[u8],
 ) -> Result<Vec<u32>, EquivocationError> {
     // Each signer takes at least one byte, in both.
-    let room = first.len().min(second.len()).min(members as usize);
-    let mut named = zeros(room).ok_or(EquivocationError::Memory)?;
+    let most = first.len().min(second.len()).min(members as usize);
+    named(model, members, [first, second], most)
+}
+
+/// Returns the members that signed both inputs, of whom there are at most this number.
+fn named(
+    model: FaultModel,
+    members: u32,
+    [first, second]: [&[u8]; 2],
+    most: usize,
+) -> Result<Vec<u32>, EquivocationError> {
+    let mut named = zeros(most).ok_or(EquivocationError::Memory)?;
     // SAFETY: each pointer and the length after it are those of one slice; `named` is a new one.
     let view = unsafe {
         raw::commonware_equivocation(
@@ -125,8 +171,8 @@ pub fn equivocation(
     })
 }
 
-/// Returns the value that a decision for a slot is, which members sign: the slot's length, the slot,
-/// and the decision. No other slot and decision have these bytes.
+/// Returns the value that a decision for a slot is, which members sign: the slot's length, the
+/// slot, and the decision. No other slot and decision have these bytes.
 ///
 /// # Errors
 ///

@@ -1,8 +1,8 @@
 //! Why an input is refused, and why a value can't be encoded.
 
 use crate::status;
-use std::error::Error;
-use std::fmt;
+use core::error::Error;
+use core::fmt;
 
 /// Why an input was refused: its first fault (decoding error), or an allocation failure.
 ///
@@ -10,10 +10,11 @@ use std::fmt;
 /// use commonware_proved::{Committee, Refusal};
 ///
 /// // It states two members, and has the bytes of none.
-/// assert_eq!(Committee::try_from(&[2][..]), Err(Refusal::EndOfInput));
+/// assert_eq!(Committee::decode(&[2]), Err(Refusal::EndOfInput));
 /// assert_eq!(Refusal::EndOfInput.to_string(), "unexpected end of input");
 /// ```
 #[derive(Clone, Copy, Debug, PartialEq, Eq, Hash)]
+#[non_exhaustive]
 pub enum Refusal {
     /// The input ends before the value does.
     EndOfInput,
@@ -44,6 +45,14 @@ impl Refusal {
     }
 }
 
+/// Returns the value that was read of a whole input, where nothing follows it.
+pub(crate) fn whole<T>((value, rest): (T, &[u8])) -> Result<T, Refusal> {
+    match rest.len() {
+        0 => Ok(value),
+        count => Err(Refusal::LeftOver(count)),
+    }
+}
+
 impl fmt::Display for Refusal {
     fn fmt(&self, f: &mut fmt::Formatter<'_>) -> fmt::Result {
         match self {
@@ -65,9 +74,11 @@ impl Error for Refusal {}
 /// use commonware_proved::{Certificate, EncodeError};
 ///
 /// assert_eq!(Certificate::encode(b"value", &[2, 5, 5]), Err(EncodeError::NotStrict(2)));
-/// assert_eq!(EncodeError::NotStrict(2).to_string(), "signer 2 isn't greater than the one before it");
+/// let text = EncodeError::NotStrict(2).to_string();
+/// assert_eq!(text, "signer 2 isn't greater than the one before it");
 /// ```
 #[derive(Clone, Copy, Debug, PartialEq, Eq, Hash)]
+#[non_exhaustive]
 pub enum EncodeError {
     /// This length is past 4294967295.
     InvalidLength(usize),
@@ -77,8 +88,34 @@ pub enum EncodeError {
     NoSize,
     /// This number of bytes follows the last whole key, or the last whole pair of a map.
     NotWhole(usize),
-    /// The pair at this index has the key of an earlier one.
-    RepeatedKey(usize),
+    /// A key has another size than was asked for.
+    KeySize {
+        /// The index of the key, or of its pair.
+        index: usize,
+        /// How many bytes it has.
+        length: usize,
+    },
+    /// A value has another size than was asked for.
+    ValueSize {
+        /// The index of its pair.
+        index: usize,
+        /// How many bytes it has.
+        length: usize,
+    },
+    /// Two pairs have the same key.
+    RepeatedKey {
+        /// The index of the earlier pair.
+        first: usize,
+        /// The least index of a pair whose key an earlier one has.
+        second: usize,
+    },
+    /// Two pairs of a bimap have the same value.
+    RepeatedValue {
+        /// The index of the earlier pair.
+        first: usize,
+        /// The index of the later pair.
+        second: usize,
+    },
     /// An allocation failed. This says nothing of what was to be written.
     Memory,
 }
@@ -91,9 +128,16 @@ impl EncodeError {
             status::NOT_STRICT => EncodeError::NotStrict(number),
             status::NO_SIZE => EncodeError::NoSize,
             status::NOT_WHOLE => EncodeError::NotWhole(number),
-            status::REPEATED_KEY => EncodeError::RepeatedKey(number),
             status::MEMORY => EncodeError::Memory,
             _ => unreachable!("with enough space no writer returns status {status}"),
+        }
+    }
+
+    /// Returns why what was just written can't be read: an allocation failed.
+    pub(crate) fn of_reading(refusal: Refusal) -> EncodeError {
+        match refusal {
+            Refusal::Memory => EncodeError::Memory,
+            _ => unreachable!("what was written can be read: {refusal}"),
         }
     }
 }
@@ -107,8 +151,17 @@ impl fmt::Display for EncodeError {
             }
             EncodeError::NoSize => f.write_str("keys of no bytes"),
             EncodeError::NotWhole(count) => write!(f, "{count} bytes after the last whole item"),
-            EncodeError::RepeatedKey(place) => {
-                write!(f, "pair {place} has the key of an earlier one")
+            EncodeError::KeySize { index, length } => {
+                write!(f, "key {index} has another size: {length} bytes")
+            }
+            EncodeError::ValueSize { index, length } => {
+                write!(f, "value {index} has another size: {length} bytes")
+            }
+            EncodeError::RepeatedKey { first, second } => {
+                write!(f, "pairs {first} and {second} have the same key")
+            }
+            EncodeError::RepeatedValue { first, second } => {
+                write!(f, "pairs {first} and {second} have the same value")
             }
             EncodeError::Memory => f.write_str("out of memory"),
         }

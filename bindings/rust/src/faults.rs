@@ -1,10 +1,12 @@
 //! How many of n participants may be faulty, and how many make a quorum.
 
 use crate::raw;
+use core::fmt;
 
 /// A fault model of a resilience `n >= kf + 1`: of n participants f may be faulty, where f is the
 /// greatest number that fits. It is the greatest for which any two quorums, of n - f each, share
-/// (k - 2)f + 1 participants.
+/// (k - 2)f + 1 participants. Models are in the order of their k: a greater one lets fewer be
+/// faulty.
 ///
 /// ```
 /// use commonware_proved::FaultModel;
@@ -12,8 +14,9 @@ use crate::raw;
 /// assert_eq!(FaultModel::N3F1.max_faults(100), Some(33));
 /// assert_eq!(FaultModel::N5F1.quorum(100), Some(81));
 /// assert_eq!(FaultModel::new(7).and_then(|model| model.max_faults(20)), Some(2));
+/// assert!(FaultModel::N3F1 < FaultModel::N5F1);
 /// ```
-#[derive(Clone, Copy, Debug, PartialEq, Eq, Hash)]
+#[derive(Clone, Copy, Debug, PartialEq, Eq, PartialOrd, Ord, Hash)]
 pub struct FaultModel {
     k: u32,
 }
@@ -91,5 +94,23 @@ impl FaultModel {
     #[must_use]
     pub fn smaller_quorum(self, n: u32) -> Option<u32> {
         (n > 0).then(|| raw::commonware_smaller_quorum(self.k, n))
+    }
+}
+
+/// The two models that have names by those, and others by their resilience.
+///
+/// ```
+/// use commonware_proved::FaultModel;
+///
+/// assert_eq!(FaultModel::N5F1.to_string(), "N5f1");
+/// assert_eq!(FaultModel::new(7).unwrap().to_string(), "n >= 7f + 1");
+/// ```
+impl fmt::Display for FaultModel {
+    fn fmt(&self, f: &mut fmt::Formatter<'_>) -> fmt::Result {
+        match *self {
+            FaultModel::N3F1 => f.write_str("N3f1"),
+            FaultModel::N5F1 => f.write_str("N5f1"),
+            FaultModel { k } => write!(f, "n >= {k}f + 1"),
+        }
     }
 }

@@ -2,29 +2,78 @@
 //! faulty, the encodings of committees and of certificates, and of sets, maps and bimaps of keys of
 //! any size, and which members signed both of two different values.
 //!
-//! What is decoded, encoded, looked up and judged is so by calls of the static library
-//! `commonware_c`, which is written in Rattle and whose contracts are proved. Little is decided
-//! here: that a key of another size than the keys of a set isn't there, and where one of no bytes
-//! is; that bytes are left over; and where a value of a bimap is, by a search of the indices that
-//! the library has put in order. No call panics or aborts: an allocation failure is an error,
-//! which says nothing of the input. Only copies take their memory as `Vec` does: those of keys and
-//! pairs ([`Set::to_vec`], [`SetView::to_owned_keys`], [`MapView::to_owned_pairs`],
-//! [`BiMapView::to_owned_pairs`]), and the clones of a [`Certificate`] and of a [`BiMapView`].
+//! # A whole use
+//!
+//! A node holds its committee, receives certificates, asks whether a quorum signed them, and which
+//! members signed two decisions for one slot.
 //!
 //! ```
-//! use commonware_proved::{Certificate, Committee, FaultModel, check, equivocation, slot_value};
+//! use commonware_proved::{Certificate, CommitteeBuf, FaultModel, check, equivocation, slot_value};
 //!
-//! let bytes = Committee::encode(&[[7; 32], [1; 32], [3; 32], [5; 32]])?;
-//! let committee = Committee::try_from(&bytes[..])?;
-//! assert_eq!(committee.index_of(&[7; 32]), Some(3));
-//! assert_eq!(committee.quorum(FaultModel::N3F1), Some(3));
+//! let owned = CommitteeBuf::from_keys(&[[7; 32], [1; 32], [3; 32], [5; 32]])?;
+//! let (committee, model) = (owned.as_view(), FaultModel::N3F1);
+//! assert_eq!(committee.position(&[7; 32]), Some(3));
+//! assert_eq!(committee.quorum(model), Some(3));
 //!
+//! // Two certificates as they are received. Their signatures are verified elsewhere.
 //! let first = Certificate::encode(&slot_value(b"view 7", b"A")?, &[0, 1, 2])?;
 //! let second = Certificate::encode(&slot_value(b"view 7", b"B")?, &[1, 2, 3])?;
-//! assert_eq!(check(FaultModel::N3F1, 4, &first)?.decision(), Some(&b"A"[..]));
-//! assert_eq!(equivocation(FaultModel::N3F1, 4, &first, &second)?, [1, 2]);
+//!
+//! let (first, second) = (Certificate::decode(&first)?, Certificate::decode(&second)?);
+//! assert_eq!(check(model, &committee, &first)?.decision(), Some(&b"A"[..]));
+//! assert_eq!(equivocation(model, &committee, &first, &second)?, [1, 2]);
 //! # Ok::<(), Box<dyn std::error::Error>>(())
 //! ```
+//!
+//! # Names
+//!
+//! `decode` takes the whole input, `read` returns what follows, and `encode` writes. Of a set, a
+//! map and a bimap alike, `get` returns the key at an index and `position` the index of a key;
+//! `value` the value at an index and `get_value` that of a key; `position_of_value` and `get_key`
+//! of a bimap go the other way. `as_bytes` is the whole encoding, whatever the type. The views are
+//! borrowed from it; the types whose names end in `Buf` own it, and have the views by `as_view`.
+//!
+//! # What is proved, and what isn't
+//!
+//! What is decoded, encoded, looked up and judged is so by calls of the static library
+//! `commonware_c`, which is written in Rattle and whose contracts are proved: it panics, wraps and
+//! overruns nowhere, and an input is accepted exactly where it is the one encoding of a value.
+//! `docs/NATIVE.md` of its repository says it function by function.
+//!
+//! This crate's own lines aren't proved. They pass slices, turn statuses into errors, and decide
+//! little: which numbers a range has; that a key of another size than the keys of a set isn't
+//! there, and where one of no bytes is; that bytes are left over; where a value of a bimap is, by a
+//! search of the indices that the library has put in order; and to which of the given pairs a
+//! repeat belongs.
+//!
+//! No signature is looked at by any call.
+//!
+//! # Linking
+//!
+//! The build script links `libcommonware.a`, which is for x86-64 Linux: that of the folder whose
+//! absolute path the environment variable `COMMONWARE_C_LIB` has, else that of
+//! `prebuilt/x86_64-linux` beside the crate's folder. The text `PROVED` beside it says which version
+//! it is and of which sources. Another major version than the crate's is an error, and so are, in a
+//! clone of the repository, other sources than those that are there.
+//!
+//! # Memory
+//!
+//! No call panics or aborts: an allocation failure is an error, which says nothing of the input.
+//! Only copies take their memory as `Vec` does: those of keys and pairs
+//! ([`SetView::to_owned_keys`], [`MapView::to_owned_pairs`], [`BiMapView::to_owned_pairs`]),
+//! `to_buf`, clones, and [`Certificate::into_signers`] of the view of a [`CertificateBuf`].
+//!
+//! The crate needs `alloc` and not `std`. The library has a heap of its own over that of the C
+//! library, unless a program defines its three functions as `commonware.h` says.
+
+#![no_std]
+#![deny(
+    clippy::alloc_instead_of_core,
+    clippy::std_instead_of_alloc,
+    clippy::std_instead_of_core
+)]
+
+extern crate alloc;
 
 mod bimap;
 mod certificate;
@@ -34,21 +83,27 @@ mod conflict;
 mod equivocation;
 mod error;
 mod faults;
+mod hex;
 mod items;
+mod limits;
 mod map;
+mod owned;
 mod raw;
 mod room;
 mod set;
 mod status;
+mod version;
 
 pub use bimap::{BiMapError, BiMapView};
 pub use certificate::Certificate;
-pub use check::{CheckError, Checked, check};
+pub use check::{CheckError, Checked, check, check_encoded};
 pub use committee::{Committee, MEMBER_SIZE, Member};
-pub use conflict::{ConflictError, conflict};
-pub use equivocation::{EquivocationError, equivocation, slot_value};
+pub use conflict::{ConflictError, conflict, conflict_encoded};
+pub use equivocation::{EquivocationError, equivocation, equivocation_encoded, slot_value};
 pub use error::{EncodeError, Refusal};
 pub use faults::FaultModel;
-pub use items::Items;
+pub use items::{Items, Pairs};
 pub use map::MapView;
+pub use owned::{BiMapBuf, CertificateBuf, CommitteeBuf, MapBuf, SetBuf};
 pub use set::{Set, SetView};
+pub use version::{Version, version};

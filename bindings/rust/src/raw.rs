@@ -1,8 +1,6 @@
 //! The functions of the static library, as `bindings/c/commonware.h` declares them. `.ci/native`
 //! compares the names and the numbers of arguments with the header's and with the library's own.
 
-use crate::Member;
-
 #[repr(C)]
 #[derive(Clone, Copy)]
 pub struct KeysView {
@@ -96,9 +94,11 @@ unsafe extern "C" {
     pub safe fn commonware_max_faults(k: u32, n: u32) -> u32;
     pub safe fn commonware_quorum(k: u32, n: u32) -> u32;
     pub safe fn commonware_smaller_quorum(k: u32, n: u32) -> u32;
+    pub safe fn commonware_version() -> u32;
 
     // A pointer and the length after it are those of one slice, and `out` and `room` overlap no
-    // other.
+    // other. The members of a committee and a key among them have 32 bytes each; `members_length`
+    // is the number of members.
     pub fn commonware_committee_read(
         input: *const u8,
         input_length: usize,
@@ -106,12 +106,12 @@ unsafe extern "C" {
         most: usize,
     ) -> KeysView;
     pub fn commonware_committee_index(
-        members: *const Member,
+        members: *const u8,
         members_length: usize,
-        key: *const Member,
+        key: *const u8,
     ) -> PlaceView;
     pub fn commonware_committee_write(
-        members: *const Member,
+        members: *const u8,
         members_length: usize,
         out: *mut u8,
         out_length: usize,

@@ -1,4 +1,7 @@
-//! Room for what the library writes.
+//! Room for what the library reads and writes.
+
+use crate::EncodeError;
+use alloc::vec::Vec;
 
 /// Returns `length` zeros, or `None` where the allocation fails.
 pub fn zeros<T: Clone + Default>(length: usize) -> Option<Vec<T>> {
@@ -6,4 +9,12 @@ pub fn zeros<T: Clone + Default>(length: usize) -> Option<Vec<T>> {
     room.try_reserve_exact(length).ok()?;
     room.resize(length, T::default());
     Some(room)
+}
+
+/// Appends bytes to others.
+pub fn append(room: &mut Vec<u8>, bytes: &[u8]) -> Result<(), EncodeError> {
+    room.try_reserve(bytes.len())
+        .map_err(|_| EncodeError::Memory)?;
+    room.extend_from_slice(bytes);
+    Ok(())
 }

@@ -1,5 +1,5 @@
-//! Bimaps of keys and values of any size beside a naive implementation: 1,000,000 random cases, or as
-//! many as COMMONWARE_CASES says, and bimaps of many pairs.
+//! Bimaps of keys and values of any size beside a naive implementation: 1,000,000 random cases, or
+//! as many as COMMONWARE_CASES says, and bimaps of many pairs.
 
 #[allow(dead_code, reason = "the other tests use the rest")]
 mod common;
@@ -11,7 +11,7 @@ use common::cases;
 use common::naive::{read_varint, varint};
 use common::random::{Random, spoil};
 use common::seen::{Seen, name};
-use commonware_proved::{BiMapError, BiMapView, Member, Refusal};
+use commonware_proved::{BiMapError, BiMapView, Refusal};
 use std::collections::HashMap;
 
 /// Statuses of the library.
@@ -88,8 +88,8 @@ fn status_of(refusal: &Refusal) -> (u32, usize) {
     }
 }
 
-/// What the library returns: the status and the number; the count and the offsets; the repeat; and the
-/// room after the call.
+/// What the library returns: the status and the number; the count and the offsets; the repeat; and
+/// the room after the call.
 type Found = ((u32, usize), [usize; 4], (usize, usize), Vec<u32>);
 
 /// Calls the library with a room of this number of places.
@@ -141,8 +141,8 @@ fn expected(
     ((0, 0), [count, keys, values, map.rest.len()], (0, 0), room)
 }
 
-/// Reads a bimap by the library with several rooms, by the crate and by the naive reader; returns what
-/// came of it.
+/// Reads a bimap by the library with several rooms, by the crate and by the naive reader; returns
+/// what came of it.
 fn try_bimap(
     sizes: (usize, usize),
     input: &[u8],
@@ -175,9 +175,11 @@ fn try_bimap(
     let pairs = map.keys.iter().copied().zip(map.values.iter().copied());
     assert!(ours.iter().eq(pairs.clone()), "{}", case());
     for (index, (key, value)) in pairs.enumerate() {
-        assert_eq!(ours.get(key), Some(value), "{}", case());
-        assert_eq!(ours.key_of(value), Some(key), "{}", case());
-        assert_eq!(ours.index_of_value(value), Some(index), "{}", case());
+        assert_eq!(ours.get_value(key), Some(value), "{}", case());
+        assert_eq!(ours.get(index), Some(key), "{}", case());
+        assert_eq!(ours.position(key), Some(index), "{}", case());
+        assert_eq!(ours.get_key(value), Some(key), "{}", case());
+        assert_eq!(ours.position_of_value(value), Some(index), "{}", case());
         assert_eq!(ours.value(index), Some(value), "{}", case());
     }
     assert_eq!(
@@ -188,7 +190,7 @@ fn try_bimap(
     );
     for other in [&[][..], &[0], &[1, 1], &[7; 96]] {
         let found = map.values.iter().position(|value| *value == other);
-        assert_eq!(ours.index_of_value(other), found, "{}", case());
+        assert_eq!(ours.position_of_value(other), found, "{}", case());
     }
     let copies = ours.to_owned_pairs();
     let copied = copies.iter().map(|(key, value)| (&key[..], &value[..]));
@@ -250,8 +252,8 @@ fn bimaps_are_read_as_by_the_naive_reader() {
     seen.assert_each(6, cases() / 200);
 }
 
-/// Returns the encoding of as many pairs behind 29 bytes: keys that rise and values that don't, which
-/// all differ in their last bytes alone; and where the values begin.
+/// Returns the encoding of as many pairs behind 29 bytes: keys that rise and values that don't,
+/// which all differ in their last bytes alone; and where the values begin.
 fn many(sizes: (usize, usize), count: usize) -> (Vec<u8>, usize) {
     let mut bytes = vec![0xee; 29];
     let put = |bytes: &mut Vec<u8>, size: usize, number: usize| {
@@ -352,8 +354,8 @@ fn sizes_near_the_limits_have_a_result() {
 
 #[test]
 fn the_repeat_with_the_least_second_index_is_told() {
-    // Of groups of equal values the one is told whose second member comes first, also where the first
-    // member of another comes before, and where the value of another is less.
+    // Of groups of equal values the one is told whose second member comes first, also where the
+    // first member of another comes before, and where the value of another is less.
     for (values, repeat) in [
         (&[5, 9, 9, 5][..], (1, 2)),
         (&[9, 5, 5, 9], (1, 2)),
@@ -368,6 +370,6 @@ fn the_repeat_with_the_least_second_index_is_told() {
         let bytes = [&[count][..], &keys, &[count], values].concat();
         let (first, second) = repeat;
         let repeated = BiMapError::Repeated { first, second };
-        assert_eq!(BiMapView::whole(1, 1, &bytes), Err(repeated), "{values:?}");
+        assert_eq!(BiMapView::decode(1, 1, &bytes), Err(repeated), "{values:?}");
     }
 }

@@ -3,13 +3,14 @@
 #[allow(dead_code, reason = "the other tests use the rest")]
 mod common;
 
+use common::committee_of;
 use common::naive::{
     accused, certificate_bytes, committee_bytes, encode_parts, read_members, read_parts,
 };
 use common::random::{Random, some_keys, some_parts, spoil};
 use common::seen::{Seen, name};
 use commonware_proved::{
-    Certificate, Committee, ConflictError, FaultModel, Member, Refusal, conflict,
+    Certificate, Committee, ConflictError, FaultModel, Member, Refusal, conflict, conflict_encoded,
 };
 use std::collections::BTreeSet;
 
@@ -45,6 +46,8 @@ fn committees_are_read_as_by_the_naive_reader() {
         match (&ours, &naive) {
             (Ok((committee, rest)), Ok((members, left))) => {
                 assert_eq!(committee.members(), members);
+                assert_eq!(committee.as_bytes(), committee_bytes(members));
+                assert_eq!(committee.key_bytes(), members.as_flattened());
                 assert_eq!(rest, left);
                 seen.note("ok");
             }
@@ -85,7 +88,7 @@ fn large_committees_go_both_ways() {
         assert_eq!(Committee::encode(&keys).as_ref(), Ok(&bytes));
         let committee = Committee::try_from(&bytes[..]).unwrap();
         for (i, key) in committee.iter().enumerate() {
-            assert_eq!(committee.index_of(key), Some(i));
+            assert_eq!(committee.position(key), Some(i));
         }
     }
 }
@@ -101,7 +104,10 @@ fn keys_are_found_as_by_a_walk() {
         let committee = Committee::try_from(&bytes[..]).unwrap();
         for key in some_keys(&mut random) {
             let walked = committee.iter().position(|member| *member == key);
-            assert_eq!(committee.index_of(&key), walked, "{keys:?} {key:?}");
+            assert_eq!(committee.position(&key), walked, "{keys:?} {key:?}");
+            assert_eq!(committee.contains(&key), walked.is_some());
+            let found = walked.and_then(|index| committee.get(index));
+            assert_eq!(found, walked.map(|_| &key));
             seen.note(if walked.is_some() { "found" } else { "absent" });
         }
     }
@@ -128,6 +134,8 @@ fn certificates_are_read_as_by_the_naive_reader() {
             (Ok((certificate, rest)), Ok((value, signers, left))) => {
                 assert_eq!(certificate.value(), value);
                 assert_eq!(certificate.signers(), signers);
+                assert_eq!(certificate.as_bytes(), certificate_bytes(value, &signers));
+                assert_eq!(certificate.into_signers(), signers);
                 assert_eq!(rest, left);
                 seen.note("ok");
             }
@@ -186,15 +194,30 @@ fn many_signers_conflict() {
         let inputs = [0, 1].map(|i| Certificate::encode(&[i as u8], &signers[i]).unwrap());
         let certificate = Certificate::try_from(&inputs[1][..]).unwrap();
         assert_eq!(certificate.signers(), signers[1]);
-        let both = conflict(FaultModel::N5F1, count + 1, &inputs[0], &inputs[1]).unwrap();
+        let both = conflict_encoded(FaultModel::N5F1, count + 1, &inputs[0], &inputs[1]).unwrap();
         assert_eq!(both, signers[1][..count as usize - 1]);
     }
+}
+
+/// Returns the conflict of two certificates once they are read, where they are, with others after
+/// them.
+fn conflict_of_read(
+    model: FaultModel,
+    committee: &Committee<'_>,
+    pair: &[Vec<u8>; 2],
+) -> Option<Result<Vec<u32>, ConflictError>> {
+    let longer = pair.each_ref().map(|bytes| [bytes, &[7, 7][..]].concat());
+    let [first, second] = [0, 1].map(|i| Certificate::read(&longer[i], usize::MAX, usize::MAX));
+    let ((first, more), (second, others)) = (first.ok()?, second.ok()?);
+    let is_one = more == [7, 7] && others == [7, 7];
+    is_one.then(|| conflict(model, committee, &first, &second))
 }
 
 #[test]
 fn conflicts_are_those_of_the_naive_search() {
     let mut random = Random(0xABCDEF);
     let mut seen = Seen::default();
+    let committees: Vec<_> = (0..24).map(committee_of).collect();
     for _ in 0..CASES {
         let members = random.below(24);
         let mut pair = [0, 1].map(|_| {
@@ -207,14 +230,20 @@ fn conflicts_are_those_of_the_naive_search() {
         }
         for k in [2, 3, 4, 5, 7] {
             let model = FaultModel::new(k).unwrap();
-            let ours = conflict(model, members as u32, &pair[0], &pair[1]);
+            let ours = conflict_encoded(model, members as u32, &pair[0], &pair[1]);
             assert_eq!(
                 ours,
                 accused(k, members as u32, &pair[0], &pair[1]),
                 "{members} {pair:02x?}"
             );
+            let committee = committees[members].as_view();
+            match conflict_of_read(model, &committee, &pair) {
+                Some(typed) => assert_eq!(typed, ours, "{members} {pair:02x?}"),
+                None => seen.note("unread"),
+            }
             if let Ok(accused) = &ours {
                 let f = model.max_faults(members as u32).unwrap();
+                assert_eq!(committee.max_faults(model), Some(f));
                 assert!(accused.len() > ((k - 2) * f) as usize);
             }
             seen.note(match ours {
@@ -225,11 +254,11 @@ fn conflicts_are_those_of_the_naive_search() {
                 Err(ConflictError::SameValue) => "same",
                 Err(ConflictError::Outside) => "outside",
                 Err(ConflictError::TooFew) => "few",
-                Err(ConflictError::Memory) => "memory",
+                Err(other) => panic!("{other}"),
             });
         }
     }
-    seen.assert_each(7, 200);
+    seen.assert_each(8, 200);
 }
 
 #[test]
@@ -286,9 +315,9 @@ fn eight_threads_call_at_once() {
             scope.spawn(|| {
                 for _ in 0..2_000 {
                     let committee = Committee::try_from(&bytes[..]).unwrap();
-                    assert_eq!(committee.index_of(&[77; 32]), Some(77));
+                    assert_eq!(committee.position(&[77; 32]), Some(77));
                     assert_eq!(Committee::encode(&keys).as_ref(), Ok(&bytes));
-                    let both = conflict(FaultModel::N3F1, 100, &inputs[0], &inputs[1]);
+                    let both = conflict_encoded(FaultModel::N3F1, 100, &inputs[0], &inputs[1]);
                     assert_eq!(both.as_ref(), Ok(&signers));
                 }
             });
@@ -302,7 +331,7 @@ fn an_empty_input_ends_too_soon() {
     assert_eq!(Certificate::try_from(&[][..]), Err(Refusal::EndOfInput));
     assert_eq!(Committee::encode(&[]), Ok(vec![0]));
     assert_eq!(Certificate::encode(&[], &[]), Ok(vec![0, 0]));
-    let refused = conflict(FaultModel::N3F1, 1, &[], &[]);
+    let refused = conflict_encoded(FaultModel::N3F1, 1, &[], &[]);
     assert_eq!(refused, Err(ConflictError::First(Refusal::EndOfInput)));
 }
 
@@ -323,6 +352,6 @@ fn bytes_left_over_are_counted() {
         Certificate::try_from(&[0, 0, 9][..]),
         Err(Refusal::LeftOver(1))
     );
-    let second = conflict(FaultModel::N3F1, 1, &[0, 1, 0], &[1, 7, 1, 0, 9]);
+    let second = conflict_encoded(FaultModel::N3F1, 1, &[0, 1, 0], &[1, 7, 1, 0, 9]);
     assert_eq!(second, Err(ConflictError::Second(Refusal::LeftOver(1))));
 }

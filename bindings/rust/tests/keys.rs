@@ -205,7 +205,11 @@ fn try_set(size: usize, input: &[u8], least: usize, most: usize) -> &'static str
             let start = input.len() - left.len() - size * keys.len();
             assert_eq!(view, (OK, keys.len(), 0, start, left.len()), "{}", case());
             assert!(set.iter().eq(keys.iter().copied()), "{}", case());
-            assert_eq!((set.len(), set.size(), rest), (keys.len(), size, left));
+            assert_eq!((set.len(), rest), (keys.len(), left));
+            assert_eq!(set.key_size(), size, "{}", case());
+            let whole = input.len() - left.len();
+            assert_eq!(set.as_bytes(), &input[..whole], "{}", case());
+            assert_eq!(set.key_bytes(), &input[start..whole], "{}", case());
             "ok"
         }
         (Err(ours), Err(naive)) => {
@@ -237,10 +241,11 @@ fn try_map(sizes: (usize, usize), input: &[u8], least: usize, most: usize) -> &'
             assert_eq!(view, (OK, keys.len(), 0, places), "{}", case());
             let pairs = keys.iter().copied().zip(values.iter().copied());
             assert!(map.iter().eq(pairs), "{}", case());
-            assert_eq!(
-                (map.len(), map.value_size(), rest),
-                (keys.len(), sizes.1, left)
-            );
+            assert_eq!((map.len(), rest), (keys.len(), left));
+            assert_eq!((map.key_size(), map.value_size()), sizes, "{}", case());
+            let (whole, set) = (input.len() - left.len(), at_keys + sizes.0 * keys.len());
+            assert_eq!(map.as_bytes(), &input[..whole], "{}", case());
+            assert_eq!(map.keys().as_bytes(), &input[..set], "{}", case());
             "ok"
         }
         (Err(ours), Err(naive)) => {
@@ -335,13 +340,13 @@ fn keys_are_found_as_by_a_walk() {
         keys.sort();
         keys.dedup();
         let (buffer, start) = behind_some(&mut random, &list_bytes(keys.len(), &keys));
-        let set = SetView::whole(size, &buffer[start..]).expect("it is a set");
+        let set = SetView::decode(size, &buffer[start..]).expect("it is a set");
         for _ in 0..4 {
             let key = some_sought(&mut random, size, &keys);
             let walked = keys.iter().position(|it| *it == key);
-            assert_eq!(set.index_of(&key), walked, "{keys:02x?} {key:02x?}");
+            assert_eq!(set.position(&key), walked, "{keys:02x?} {key:02x?}");
             assert_eq!(set.contains(&key), walked.is_some());
-            let place = set_index(set.as_bytes(), &key);
+            let place = set_index(set.key_bytes(), &key);
             if key.len() != size {
                 seen.note("another size");
             } else if size == 0 {
@@ -471,9 +476,9 @@ fn each_byte_decides_which_key_is_less() {
                     let encoded = |a: &Vec<u8>, b: &Vec<u8>| [&[2][..], a, b].concat();
                     let right = encoded(&less, &greater);
                     assert_eq!(try_set(size, &right, 0, 9), "ok", "{size} {at}");
-                    let set = SetView::whole(size, &right).expect("it is a set");
-                    assert_eq!(set.index_of(&less), Some(0), "{size} {at}");
-                    assert_eq!(set.index_of(&greater), Some(1), "{size} {at}");
+                    let set = SetView::decode(size, &right).expect("it is a set");
+                    assert_eq!(set.position(&less), Some(0), "{size} {at}");
+                    assert_eq!(set.position(&greater), Some(1), "{size} {at}");
                     let one = encoded(&less, &less);
                     assert_eq!(try_set(size, &one, 0, 9), "strict", "{size} {at}");
                     let wrong = encoded(&greater, &less);
@@ -529,13 +534,19 @@ fn goes_both_ways(size: usize, count: usize, is_last: bool) {
         "{case:?}"
     );
     for (index, key) in keys.iter().enumerate() {
-        assert_eq!(set.index_of(key), Some(index), "{case:?}");
-        assert_eq!(map.get(key), Some(&values[index][..]), "{case:?}");
+        assert_eq!(set.position(key), Some(index), "{case:?}");
+        assert_eq!(map.get_value(key), Some(&values[index][..]), "{case:?}");
+        assert_eq!(map.value(index), Some(&values[index][..]), "{case:?}");
+        assert_eq!(map.get(index), Some(&key[..]), "{case:?}");
+        assert_eq!(map.position(key), Some(index), "{case:?}");
         assert_eq!(set.get(index), Some(&key[..]), "{case:?}");
     }
     let next = &counted_keys(size, count + 1, is_last)[count];
-    assert_eq!(set.index_of(next), None, "{case:?}");
+    assert_eq!(set.position(next), None, "{case:?}");
+    assert_eq!((map.position(next), map.get_value(next)), (None, None));
+    assert_eq!(map.contains(next), set.contains(next), "{case:?}");
     assert_eq!(set.get(count), None, "{case:?}");
+    assert_eq!((map.get(count), map.value(count)), (None, None));
     let shorter = &input[5..input.len() - 6];
     if count > 0 && value_size > 0 {
         let refused = MapView::read(size, value_size, shorter, 0..=count);
@@ -582,26 +593,26 @@ fn is_typed<const N: usize>(random: &mut Random) {
             );
             assert!(set.iter().map(|key| &key[..]).eq(view), "{bytes:02x?}");
             assert_eq!(set.is_empty(), view.is_empty());
-            assert_eq!(set.to_vec(), set.keys());
+            assert_eq!(set.key_bytes(), view.key_bytes());
             for (index, key) in set.into_iter().enumerate() {
                 assert_eq!(
-                    (set.get(index), set.index_of(key)),
+                    (set.get(index), set.position(key)),
                     (Some(key), Some(index))
                 );
                 assert_eq!(
-                    (view.get(index), view.index_of(key)),
+                    (view.get(index), view.position(key)),
                     (Some(&key[..]), Some(index))
                 );
             }
             let other = [0x5b; N];
-            assert_eq!(set.index_of(&other), view.index_of(&other));
+            assert_eq!(set.position(&other), view.position(&other));
             assert_eq!(set.contains(&other), view.contains(&other));
             assert_eq!(set.get(set.len()), None);
         }
         _ => assert_eq!(typed.err(), view.err(), "{bytes:02x?}"),
     }
     let whole = Set::<N>::try_from(&bytes[..]).map(|set| set.len());
-    assert_eq!(whole, SetView::whole(N, &bytes).map(|view| view.len()));
+    assert_eq!(whole, SetView::decode(N, &bytes).map(|view| view.len()));
 }
 
 #[test]
@@ -635,10 +646,10 @@ fn a_committee_is_a_set_of_keys_of_its_size() {
         assert_eq!(read, set, "{bytes:02x?}");
         for key in committee.unwrap_or_default() {
             let member: &Member = key;
-            let found = Committee::try_from(&bytes[..]).map(|it| it.index_of(member));
+            let found = Committee::try_from(&bytes[..]).map(|it| it.position(member));
             assert_eq!(
                 found,
-                Set::<32>::try_from(&bytes[..]).map(|it| it.index_of(member))
+                Set::<32>::try_from(&bytes[..]).map(|it| it.position(member))
             );
         }
     }
@@ -653,42 +664,44 @@ fn iterators_walk_from_both_ends() {
         let count = random.below(9).min(if size == 0 { 1 } else { 8 });
         let mut keys = counted_keys(size.max(1), count, true);
         keys.iter_mut().for_each(|key| key.truncate(size));
-        let bytes = [list_bytes(count, &keys), vec![count as u8]].concat();
-        let map = MapView::whole(size, 0, &bytes).expect("it is a map");
-        let mut walked = keys.iter().map(|key| &key[..]);
+        let value_size = random.below(3);
+        let values: Vec<Vec<u8>> = (1..=count).map(|i| vec![i as u8; value_size]).collect();
+        let bytes = [list_bytes(count, &keys), list_bytes(count, &values)].concat();
+        let map = MapView::decode(size, value_size, &bytes).expect("it is a map");
+        let listed = (keys.iter()).zip(&values);
+        let mut walked = listed.map(|(key, value)| (&key[..], &value[..]));
         let (mut items, mut pairs) = (map.keys().into_iter(), map.into_iter());
-        let mut values = map.values();
+        let mut each_value = map.values();
         for _ in 0..12 {
             let n = random.below(3);
             let (wanted, item, pair, value) = match random.below(4) {
-                0 => (walked.next(), items.next(), pairs.next(), values.next()),
+                0 => (walked.next(), items.next(), pairs.next(), each_value.next()),
                 1 => (
                     walked.next_back(),
                     items.next_back(),
                     pairs.next_back(),
-                    values.next_back(),
+                    each_value.next_back(),
                 ),
-                2 => (walked.nth(n), items.nth(n), pairs.nth(n), values.nth(n)),
+                2 => (walked.nth(n), items.nth(n), pairs.nth(n), each_value.nth(n)),
                 _ => (
                     walked.nth_back(n),
                     items.nth_back(n),
                     pairs.nth_back(n),
-                    values.nth_back(n),
+                    each_value.nth_back(n),
                 ),
             };
-            assert_eq!(item, wanted);
-            assert_eq!(pair, wanted.map(|key| (key, &[][..])));
-            assert_eq!(value, wanted.map(|_| &[][..]));
+            assert_eq!(item, wanted.map(|(key, _)| key));
+            assert_eq!(pair, wanted);
+            assert_eq!(value, wanted.map(|(_, value)| value));
             assert_eq!(items.len(), walked.len());
-            assert_eq!((pairs.len(), values.len()), (walked.len(), walked.len()));
+            assert_eq!(
+                (pairs.len(), each_value.len()),
+                (walked.len(), walked.len())
+            );
         }
         assert_eq!(map.keys().to_owned_keys(), keys);
-        let copies: Vec<Vec<u8>> = map
-            .to_owned_pairs()
-            .into_iter()
-            .map(|pair| pair.0)
-            .collect();
-        assert_eq!(copies, keys);
+        let copies: (Vec<Vec<u8>>, Vec<Vec<u8>>) = map.to_owned_pairs().into_iter().unzip();
+        assert_eq!(copies, (keys, values));
     }
 }
 
@@ -700,8 +713,8 @@ fn eight_threads_read_and_look_up_at_once() {
         for _ in 0..8 {
             scope.spawn(|| {
                 for index in (0..100).cycle().take(2_000) {
-                    let map = MapView::whole(48, 1, &bytes).expect("it is a map");
-                    assert_eq!(map.keys().index_of(&keys[index]), Some(index));
+                    let map = MapView::decode(48, 1, &bytes).expect("it is a map");
+                    assert_eq!(map.keys().position(&keys[index]), Some(index));
                     let (set, rest) = SetView::read(48, &bytes, 100..=100).expect("it is a set");
                     assert_eq!((set, rest.len()), (map.keys(), 101));
                 }
@@ -712,21 +725,22 @@ fn eight_threads_read_and_look_up_at_once() {
 
 #[test]
 fn keys_of_no_bytes_are_one_at_most() {
-    let [none, one] = [&[0][..], &[1]].map(|bytes| SetView::whole(0, bytes).expect("a set"));
-    assert_eq!((none.index_of(&[]), one.index_of(&[])), (None, Some(0)));
+    let [none, one] = [&[0][..], &[1]].map(|bytes| SetView::decode(0, bytes).expect("a set"));
+    assert_eq!((none.position(&[]), one.position(&[])), (None, Some(0)));
     assert_eq!(
         (none.get(0), one.get(0), one.get(1)),
         (None, Some(&[][..]), None)
     );
-    assert_eq!((one.index_of(&[0]), one.iter().len()), (None, 1));
-    assert_eq!(SetView::whole(0, &[2]), Err(Refusal::NotStrict));
+    assert_eq!((one.position(&[0]), one.iter().len()), (None, 1));
+    assert_eq!(SetView::decode(0, &[2]), Err(Refusal::NotStrict));
     let most = [255, 255, 255, 255, 15];
-    assert_eq!(SetView::whole(0, &most), Err(Refusal::NotStrict));
-    assert_eq!(MapView::whole(0, 0, &most), Err(Refusal::NotStrict));
-    let map = MapView::whole(0, 2, &[1, 1, 7, 8]).expect("a map");
-    assert_eq!((map.get(&[]), map.get(&[1])), (Some(&[7, 8][..]), None));
+    assert_eq!(SetView::decode(0, &most), Err(Refusal::NotStrict));
+    assert_eq!(MapView::decode(0, 0, &most), Err(Refusal::NotStrict));
+    let map = MapView::decode(0, 2, &[1, 1, 7, 8]).expect("a map");
+    let values = (map.get_value(&[]), map.get_value(&[1]));
+    assert_eq!(values, (Some(&[7, 8][..]), None));
     let typed = [&[0][..], &[1]].map(|bytes| Set::<0>::try_from(bytes).expect("a set"));
-    assert_eq!(typed.map(|set| set.index_of(&[])), [None, Some(0)]);
+    assert_eq!(typed.map(|set| set.position(&[])), [None, Some(0)]);
 }
 
 #[test]

@@ -3,8 +3,9 @@
 //! The three functions of the heap are defined here, in place of those of the archive.
 
 use commonware_proved::{
-    BiMapError, BiMapView, Certificate, CheckError, Committee, ConflictError, EncodeError,
-    EquivocationError, FaultModel, MapView, Refusal, Set, SetView, check, conflict, equivocation,
+    BiMapBuf, BiMapError, BiMapView, Certificate, CertificateBuf, CheckError, Committee,
+    CommitteeBuf, ConflictError, EncodeError, EquivocationError, FaultModel, MapBuf, MapView,
+    Refusal, Set, SetBuf, SetView, check_encoded, conflict_encoded, equivocation_encoded,
     slot_value,
 };
 use std::cell::Cell;
@@ -46,7 +47,7 @@ fn is_allowed() -> bool {
 }
 
 #[unsafe(no_mangle)]
-extern "C" fn rattle_alloc(size: usize, align: usize) -> Tried {
+extern "C" fn commonware_alloc(size: usize, align: usize) -> Tried {
     if !is_allowed() {
         return tried(std::ptr::null_mut());
     }
@@ -59,7 +60,7 @@ extern "C" fn rattle_alloc(size: usize, align: usize) -> Tried {
 ///
 /// `block` came from one of these functions, and wasn't freed.
 #[unsafe(no_mangle)]
-unsafe extern "C" fn rattle_realloc(
+unsafe extern "C" fn commonware_realloc(
     block: *mut u8,
     _kept: usize,
     size: usize,
@@ -74,16 +75,16 @@ unsafe extern "C" fn rattle_realloc(
 
 /// # Safety
 ///
-/// As for `rattle_realloc`.
+/// As for `commonware_realloc`.
 #[unsafe(no_mangle)]
-unsafe extern "C" fn rattle_dealloc(block: *mut u8) {
+unsafe extern "C" fn commonware_dealloc(block: *mut u8) {
     LIVE.set(LIVE.get() - 1);
     // SAFETY: as the caller promises.
     unsafe { free(block) }
 }
 
-/// Makes the call with each request refused in turn, until one run has none refused; returns how many
-/// requests there are.
+/// Makes the call with each request refused in turn, until one run has none refused; returns how
+/// many requests there are.
 fn refuse_each<T, E: PartialEq + std::fmt::Debug>(
     refused: &E,
     call: impl Fn() -> Result<T, E>,
@@ -112,7 +113,7 @@ fn reading_a_committee_allocates_nothing() {
     assert_eq!(requests, 0);
     let committee = Committee::try_from(&bytes[..]).unwrap();
     assert_eq!(
-        refuse_each(&(), || committee.index_of(&[2; 32]).ok_or(())),
+        refuse_each(&(), || committee.position(&[2; 32]).ok_or(())),
         0
     );
 }
@@ -122,16 +123,16 @@ fn reading_sets_and_maps_allocates_nothing() {
     let keys: Vec<u8> = (0..200u8).flat_map(|i| [i; 48]).collect();
     let set = [&[200, 1][..], &keys].concat();
     let map = [&set[..], &[200, 1], &[7; 200]].concat();
-    let call = || SetView::whole(48, &set);
+    let call = || SetView::decode(48, &set);
     assert_eq!(refuse_each(&Refusal::Memory, call), 0);
     assert_eq!(
-        refuse_each(&(), || call().unwrap().index_of(&[77; 48]).ok_or(())),
+        refuse_each(&(), || call().unwrap().position(&[77; 48]).ok_or(())),
         0
     );
-    let call = || MapView::whole(48, 1, &map);
+    let call = || MapView::decode(48, 1, &map);
     assert_eq!(refuse_each(&Refusal::Memory, call), 0);
     assert_eq!(
-        refuse_each(&(), || call().unwrap().get(&[77; 48]).ok_or(())),
+        refuse_each(&(), || call().unwrap().get_value(&[77; 48]).ok_or(())),
         0
     );
     assert_eq!(
@@ -146,10 +147,10 @@ fn reading_bimaps_allocates_nothing_in_the_library() {
     let (half, values) = ([&[100][..], &lists].concat(), (0..100u8).rev());
     let mut bytes: Vec<u8> = half.iter().copied().chain([100]).chain(values).collect();
     let memory = BiMapError::Refused(Refusal::Memory);
-    let requests = refuse_each(&memory, || BiMapView::whole(48, 1, &bytes).map(drop));
+    let requests = refuse_each(&memory, || BiMapView::decode(48, 1, &bytes).map(drop));
     assert_eq!(requests, 0);
     *bytes.last_mut().unwrap() = 99;
-    let repeated = || BiMapView::whole(48, 1, &bytes).map(drop).err().ok_or(());
+    let repeated = || BiMapView::decode(48, 1, &bytes).map(drop).err().ok_or(());
     assert_eq!(refuse_each(&(), repeated), 0);
 }
 
@@ -186,11 +187,27 @@ fn writing_a_map_of_unique_keys_returns_each_allocation_failure() {
     assert!(refuse_each(&EncodeError::Memory, || encode(&pairs)) > 0);
     pairs.extend([7; 28]);
     let find = || match encode(&pairs) {
-        Err(EncodeError::RepeatedKey(200)) => Ok(()),
+        Err(EncodeError::RepeatedKey {
+            first: 192,
+            second: 200,
+        }) => Ok(()),
         Err(error) => Err(error),
         Ok(_) => panic!("the last pair has the key of an earlier one"),
     };
     assert!(refuse_each(&EncodeError::Memory, find) > 0);
+}
+
+#[test]
+fn owning_what_is_made_returns_each_allocation_failure() {
+    let keys: Vec<_> = (0..200u8).rev().map(|i| [i; 32]).collect();
+    let pairs = || keys.iter().map(|key| (key, [key[0]]));
+    let memory = EncodeError::Memory;
+    assert!(refuse_each(&memory, || CommitteeBuf::from_keys(&keys)) > 0);
+    assert!(refuse_each(&memory, || SetBuf::from_keys(32, &keys)) > 0);
+    assert!(refuse_each(&memory, || MapBuf::from_pairs(32, 1, pairs())) > 0);
+    assert!(refuse_each(&memory, || BiMapBuf::from_pairs(32, 1, pairs())) > 0);
+    let parts = || CertificateBuf::from_parts(b"x", &[1, 2]);
+    assert_eq!(refuse_each(&memory, parts), 0);
 }
 
 #[test]
@@ -212,7 +229,7 @@ fn reading_a_certificate_allocates_nothing() {
 fn a_conflict_allocates_nothing() {
     let signers: Vec<u32> = (0..5_000).collect();
     let inputs = [7, 8].map(|byte| Certificate::encode(&[byte; 100_000], &signers).unwrap());
-    let call = || conflict(FaultModel::N3F1, 5_000, &inputs[0], &inputs[1]);
+    let call = || conflict_encoded(FaultModel::N3F1, 5_000, &inputs[0], &inputs[1]);
     assert_eq!(refuse_each(&ConflictError::Memory, call), 0);
 }
 
@@ -223,8 +240,8 @@ fn slots_are_written_and_judged_without_an_allocation() {
     assert_eq!(refuse_each(&EncodeError::Memory, || call(b"A")), 0);
     let inputs = [b"A", b"B"].map(|decision| call(decision).unwrap());
     let inputs = inputs.map(|value| Certificate::encode(&value, &signers).unwrap());
-    let call = || equivocation(FaultModel::N3F1, 5_000, &inputs[0], &inputs[1]);
+    let call = || equivocation_encoded(FaultModel::N3F1, 5_000, &inputs[0], &inputs[1]);
     assert_eq!(refuse_each(&EquivocationError::Memory, call), 0);
-    let call = || check(FaultModel::N3F1, 5_000, &inputs[0]);
+    let call = || check_encoded(FaultModel::N3F1, 5_000, &inputs[0]);
     assert_eq!(refuse_each(&CheckError::NoMembers, call), 0);
 }

@@ -1,5 +1,5 @@
-//! What decides stands at each position: the byte in which two items differ, the neighbours that are
-//! out of order, the gap where a key isn't; and limits at their edges.
+//! What decides stands at each position: the byte in which two items differ, the neighbours that
+//! are out of order, the gap where a key isn't; and limits at their edges.
 
 #[allow(dead_code, reason = "the other tests use the rest")]
 mod common;
@@ -9,7 +9,7 @@ mod raw;
 
 use common::naive::varint;
 use commonware_proved::{
-    BiMapError, BiMapView, Certificate, Committee, EncodeError, MapView, Member, Refusal, Set,
+    BiMapError, BiMapView, Certificate, Committee, EncodeError, MEMBER_SIZE, MapView, Refusal, Set,
     SetView,
 };
 
@@ -133,11 +133,10 @@ fn set_index(keys: &[u8], key: &[u8]) -> (u32, usize) {
     // SAFETY: each pointer and the length after it are those of one slice.
     let view =
         unsafe { raw::commonware_set_index(keys.as_ptr(), keys.len(), key.as_ptr(), key.len()) };
-    if let Ok(member) = <&Member>::try_from(key) {
-        let members: &[Member] = keys.as_chunks().0;
-        // SAFETY: the pointer and the length are those of one slice, and the key is one member.
-        let same =
-            unsafe { raw::commonware_committee_index(members.as_ptr(), members.len(), member) };
+    if key.len() == MEMBER_SIZE && keys.len().is_multiple_of(MEMBER_SIZE) {
+        let members = keys.len() / MEMBER_SIZE;
+        // SAFETY: the members are as many as the length says, and the key is one.
+        let same = unsafe { raw::commonware_committee_index(keys.as_ptr(), members, key.as_ptr()) };
         assert_eq!((same.status, same.index), (view.status, view.index));
     }
     (view.status, view.index)
@@ -211,9 +210,9 @@ fn each_byte_of_a_value_makes_it_another() {
         let repeated = (REPEATED_VALUE, (0, 1), [0, 1]);
         assert_eq!(read_values(size, [less, less]), repeated);
         let input = [&[2, 5, 7, 2], greater, less].concat();
-        let bimap = BiMapView::whole(1, size, &input).expect("a bimap");
-        assert_eq!(bimap.key_of(greater), Some(&[5][..]));
-        assert_eq!(bimap.key_of(less), Some(&[7][..]));
+        let bimap = BiMapView::decode(1, size, &input).expect("a bimap");
+        assert_eq!(bimap.get_key(greater), Some(&[5][..]));
+        assert_eq!(bimap.get_key(less), Some(&[7][..]));
     });
 }
 
@@ -238,7 +237,10 @@ fn each_byte_of_a_key_makes_it_another() {
         let pairs = [less, &[3], less, &[4]].concat();
         let map = [&one[..], &[1, 3]].concat();
         assert_eq!(MapView::encode(size, 1, &pairs), Ok(map));
-        let repeated = Err(EncodeError::RepeatedKey(1));
+        let repeated = Err(EncodeError::RepeatedKey {
+            first: 0,
+            second: 1,
+        });
         assert_eq!(MapView::encode_unique(size, 1, &pairs), repeated);
     });
 }
@@ -251,11 +253,11 @@ fn large_items_are_told_apart(size: usize) {
     let set = [&[2], less, greater].concat();
     let written = SetView::encode(size, &[greater, less, greater].concat());
     assert!(written.as_ref() == Ok(&set), "{size}");
-    let keys = SetView::whole(size, &set).expect("a set");
-    let places = [less, greater].map(|key| keys.index_of(key));
+    let keys = SetView::decode(size, &set).expect("a set");
+    let places = [less, greater].map(|key| keys.position(key));
     assert_eq!(places, [Some(0), Some(1)], "{size}");
     let wrong = [&[2], greater, less].concat();
-    let refused = SetView::whole(size, &wrong).err();
+    let refused = SetView::decode(size, &wrong).err();
     assert_eq!(refused, Some(Refusal::NotStrict), "{size}");
 
     let pairs = [greater, less, less, greater].concat();
@@ -264,13 +266,20 @@ fn large_items_are_told_apart(size: usize) {
     for written in encoders.map(|encode| encode(size, size, &pairs)) {
         assert!(written.as_ref() == Ok(&map), "{size}");
     }
-    let bimap = BiMapView::whole(size, size, &map).expect("a bimap");
+    let bimap = BiMapView::decode(size, size, &map).expect("a bimap");
     for (key, value) in [(less, greater), (greater, less)] {
-        assert!(bimap.get(key) == Some(value), "{size}");
-        assert!(bimap.key_of(value) == Some(key), "{size}");
+        assert!(bimap.get_value(key) == Some(value), "{size}");
+        assert!(bimap.get_key(value) == Some(key), "{size}");
     }
     let twice = MapView::encode_unique(size, 0, &[less, less].concat());
-    assert_eq!(twice.err(), Some(EncodeError::RepeatedKey(1)), "{size}");
+    assert_eq!(
+        twice.err(),
+        Some(EncodeError::RepeatedKey {
+            first: 0,
+            second: 1
+        }),
+        "{size}"
+    );
 }
 
 #[test]

@@ -1,11 +1,11 @@
-//! Every call with ample memory at small sizes, each of them, and at sizes past every buffer: none is
-//! refused for memory. The other tests draw at random, and few of their inputs are as long.
+//! Every call with ample memory at small sizes, each of them, and at sizes past every buffer: none
+//! is refused for memory. The other tests draw at random, and few of their inputs are as long.
 
 #[path = "common/naive.rs"]
 mod naive;
 
 use commonware_proved::{
-    Certificate, Committee, ConflictError, FaultModel, Member, Refusal, conflict,
+    Certificate, Committee, ConflictError, FaultModel, Member, Refusal, conflict_encoded,
 };
 use naive::{accused, certificate_bytes, committee_bytes, encode_parts, read_members};
 
@@ -52,13 +52,13 @@ fn committees_of_each_number_of_keys_go_both_ways() {
             read_members(&bytes, 0, usize::MAX),
             Ok((keys.clone(), &[][..]))
         );
-        let places = keys.iter().map(|key| committee.index_of(key));
+        let places = keys.iter().map(|key| committee.position(key));
         assert!(places.eq((0..keys.len()).map(Some)), "{count}");
     }
 }
 
-/// The certificate is written, and read with bytes after it. It is refused as a whole input then, and where
-/// its last byte is missing.
+/// The certificate is written, and read with bytes after it. It is refused as a whole input then,
+/// and where its last byte is missing.
 fn goes_both_ways(value: &[u8], signers: &[u32]) {
     let case = (value.len(), signers.len());
     let written = Certificate::encode(value, signers);
@@ -94,22 +94,22 @@ fn certificates_of_each_size_go_both_ways() {
     }
 }
 
-/// Returns the encodings of two certificates that the first and the last `quorum` of the members signed,
-/// for values of this length that differ at their end.
+/// Returns the encodings of two certificates that the first and the last `quorum` of the members
+/// signed, for values of this length that differ at their end.
 fn two_quorums(length: usize, members: u32, quorum: u32) -> [Vec<u8>; 2] {
     let signers = [0..quorum, members - quorum..members].map(Vec::from_iter);
     [(length, 1, &signers[0]), (length.max(1), 2, &signers[1])]
         .map(|(length, last, signers)| certificate_bytes(&value_of(length, last), signers))
 }
 
-/// In a committee of these members two quorums name those that signed both: by n - f from either end, the
-/// n - 2f between. Certificates that name no one are refused for their reason.
+/// In a committee of these members two quorums name those that signed both: by n - f from either
+/// end, the n - 2f between. Certificates that name no one are refused for their reason.
 fn names_those_of_both(k: u32, members: u32, length: usize) {
     let case = (k, members, length);
     let model = FaultModel::new(k).unwrap();
     let f = (members - 1) / k;
     let [first, second] = two_quorums(length, members, members - f);
-    let both = conflict(model, members, &first, &second);
+    let both = conflict_encoded(model, members, &first, &second);
     assert_eq!(both, Ok((f..members - f).collect()), "{case:?}");
     assert_eq!(model.max_faults(members), Some(f), "{case:?}");
 
@@ -128,7 +128,7 @@ fn names_those_of_both(k: u32, members: u32, length: usize) {
     ];
     for (first, second, error) in refused {
         assert_eq!(
-            conflict(model, members, first, second),
+            conflict_encoded(model, members, first, second),
             Err(error),
             "{case:?}"
         );
@@ -136,7 +136,11 @@ fn names_those_of_both(k: u32, members: u32, length: usize) {
     }
     let shorter = &second[..second.len() - 1];
     let ends = Err(ConflictError::Second(Refusal::EndOfInput));
-    assert_eq!(conflict(model, members, &first, shorter), ends, "{case:?}");
+    assert_eq!(
+        conflict_encoded(model, members, &first, shorter),
+        ends,
+        "{case:?}"
+    );
 }
 
 #[test]
@@ -170,9 +174,9 @@ fn each_proper_prefix_ends_too_soon() {
         let prefix = &second[..end];
         let ends = Refusal::EndOfInput;
         assert_eq!(Certificate::try_from(prefix), Err(ends), "{end}");
-        let refused = conflict(FaultModel::N3F1, EACH, first, prefix);
+        let refused = conflict_encoded(FaultModel::N3F1, EACH, first, prefix);
         assert_eq!(refused, Err(ConflictError::Second(ends)), "{end}");
-        let refused = conflict(FaultModel::N3F1, EACH, prefix, first);
+        let refused = conflict_encoded(FaultModel::N3F1, EACH, prefix, first);
         assert_eq!(refused, Err(ConflictError::First(ends)), "{end}");
     }
     let committee = Committee::encode(&keys_of(EACH)).unwrap();

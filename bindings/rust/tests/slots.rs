@@ -3,11 +3,12 @@
 #[allow(dead_code, reason = "the other tests use the rest")]
 mod common;
 
+use common::committee_of;
 use common::naive::{certificate_bytes, read_parts};
 use common::random::{Random, some_parts, spoil};
 use commonware_proved::{
-    Certificate, CheckError, EquivocationError, FaultModel, Refusal, check, equivocation,
-    slot_value,
+    Certificate, CheckError, EquivocationError, FaultModel, Refusal, check, check_encoded,
+    equivocation, equivocation_encoded, slot_value,
 };
 use std::collections::BTreeMap;
 
@@ -105,16 +106,24 @@ fn some_certificate(random: &mut Random, members: usize) -> Vec<u8> {
 fn certificates_are_judged_as_by_the_naive_check() {
     let mut random = Random(0x51075);
     let mut seen = BTreeMap::<String, usize>::new();
+    let committees: Vec<_> = (0..12).map(committee_of).collect();
     for _ in 0..CASES {
         let members = random.below(12) as u32;
         let bytes = some_certificate(&mut random, members as usize);
         for k in [2, 3, 5, 9] {
             let model = FaultModel::new(k).unwrap();
-            let ours = check(model, members, &bytes);
+            let ours = check_encoded(model, members, &bytes);
             let plain = certified(k, members, &bytes);
+            if let Ok(certificate) = Certificate::decode(&bytes) {
+                let committee = committees[members as usize].as_view();
+                assert_eq!(check(model, &committee, &certificate), ours);
+            }
             let outcome = match (ours, plain) {
                 (Ok(ours), Ok((value, signers))) => {
-                    assert_eq!((ours.value(), ours.signers() as usize), (value, signers));
+                    assert_eq!(
+                        (ours.value(), ours.signer_count() as usize),
+                        (value, signers)
+                    );
                     let parts = slot_of(value);
                     assert_eq!(ours.slot(), parts.map(|it| it.0), "{bytes:02x?}");
                     assert_eq!(ours.decision(), parts.map(|it| it.1), "{bytes:02x?}");
@@ -140,17 +149,23 @@ fn certificates_are_judged_as_by_the_naive_check() {
 fn equivocations_are_those_of_the_naive_search() {
     let mut random = Random(0xE901);
     let mut seen = BTreeMap::<String, usize>::new();
+    let committees: Vec<_> = (0..12).map(committee_of).collect();
     for _ in 0..CASES {
         let members = random.below(12) as u32;
         let [first, second] = [0, 1].map(|_| some_certificate(&mut random, members as usize));
         for k in [2, 3, 5] {
             let model = FaultModel::new(k).unwrap();
-            let ours = equivocation(model, members, &first, &second);
+            let ours = equivocation_encoded(model, members, &first, &second);
             assert_eq!(
                 ours,
                 equivocated(k, members, &first, &second),
                 "{k} {members} {first:02x?} {second:02x?}"
             );
+            let parts = (Certificate::decode(&first), Certificate::decode(&second));
+            if let (Ok(first), Ok(second)) = parts {
+                let committee = committees[members as usize].as_view();
+                assert_eq!(equivocation(model, &committee, &first, &second), ours);
+            }
             let outcome = ours.map_or_else(|error| format!("{error:?}"), |_| "named".to_string());
             *seen
                 .entry(outcome.split('(').next().unwrap().to_string())
@@ -171,11 +186,11 @@ fn two_heights_name_no_one() {
         let (at_one, at_two) = (at_one.unwrap(), at_two.unwrap());
         let contrary = slot_value(&vec![1; length + 1], b"B").unwrap();
         let contrary = Certificate::encode(&contrary, &signers).unwrap();
-        let named = equivocation(FaultModel::N3F1, 300, &at_one, &at_two);
+        let named = equivocation_encoded(FaultModel::N3F1, 300, &at_one, &at_two);
         assert_eq!(named, Err(EquivocationError::OtherSlot), "{length}");
-        let named = equivocation(FaultModel::N3F1, 300, &at_one, &contrary);
+        let named = equivocation_encoded(FaultModel::N3F1, 300, &at_one, &contrary);
         assert_eq!(named.as_deref(), Ok(&signers[..]), "{length}");
-        let checked = check(FaultModel::N3F1, 300, &at_two).unwrap();
+        let checked = check_encoded(FaultModel::N3F1, 300, &at_two).unwrap();
         assert_eq!(checked.slot(), Some(&vec![2; length + 1][..]), "{length}");
         assert_eq!(checked.decision(), Some(&b"A"[..]), "{length}");
     }

@@ -12,7 +12,7 @@ use common::naive::varint;
 use common::random::Random;
 use common::seen::Seen;
 use commonware_proved::{EncodeError, MapView, Member, SetView};
-use std::collections::BTreeSet;
+use std::collections::BTreeMap;
 
 /// Statuses of the library.
 const OK: u32 = 0;
@@ -319,28 +319,29 @@ fn sizes_of_pairs_whose_sum_wraps_have_a_result() {
     assert_eq!(try_map_write(&FIRSTS, (0, usize::MAX), &[], 9), "no size");
 }
 
-/// Returns the index of the first pair whose key an earlier pair has, where the pairs are whole.
-fn naive_repeat(sizes: (usize, usize), pairs: &[u8]) -> Option<usize> {
+/// Returns the index of the first pair whose key an earlier pair has, after that of the earlier
+/// one, where the pairs are whole.
+fn naive_repeat(sizes: (usize, usize), pairs: &[u8]) -> Option<(usize, usize)> {
     let size = sizes.0.checked_add(sizes.1)?;
     if sizes.0 == 0 || !pairs.len().is_multiple_of(size) {
         return None;
     }
-    let mut keys = BTreeSet::new();
-    let mut each = pairs.chunks_exact(size);
-    each.position(|pair| !keys.insert(&pair[..sizes.0]))
+    let mut keys = BTreeMap::new();
+    let mut each = pairs.chunks_exact(size).enumerate();
+    each.find_map(|(second, pair)| Some((keys.insert(&pair[..sizes.0], second)?, second)))
 }
 
 /// Compares one call with the naive one, and returns what came of it.
 fn try_unique(sizes: (usize, usize), pairs: &[u8], room: usize) -> &'static str {
-    let Some(index) = naive_repeat(sizes, pairs) else {
+    let Some((first, second)) = naive_repeat(sizes, pairs) else {
         return try_map_write(&UNIQUE, sizes, pairs, room);
     };
     let mut out = vec![UNTOUCHED; room];
     let told = UNIQUE.write(sizes, pairs, &mut out);
-    assert_eq!(told, (REPEATED_KEY, 0, index, 0));
+    assert_eq!(told, (REPEATED_KEY, 0, second, 0));
     assert!(out.iter().all(|byte| *byte == UNTOUCHED));
     let encoded = MapView::encode_unique(sizes.0, sizes.1, pairs);
-    assert_eq!(encoded, Err(EncodeError::RepeatedKey(index)));
+    assert_eq!(encoded, Err(EncodeError::RepeatedKey { first, second }));
     "repeat"
 }
 

@@ -79,7 +79,7 @@ fn compare_keys(seed: &mut u64, n: usize, size: usize, shared: usize) {
     let keys = keys_of(seed, n, size, shared);
     let bytes = plain_write(size, &keys);
     assert_eq!(SetView::encode(size, &keys).as_deref(), Ok(&bytes[..]));
-    let set = SetView::whole(size, &bytes).unwrap();
+    let set = SetView::decode(size, &bytes).unwrap();
     let name = |call: &str| format!("{call} {n} of {size}, {shared} shared");
     let rounds = 1 + (8_000 / n) as u32;
     compare(
@@ -98,12 +98,12 @@ fn compare_keys(seed: &mut u64, n: usize, size: usize, shared: usize) {
         1 + rounds / 20,
         || {
             for key in &sought {
-                black_box(set.index_of(black_box(key)));
+                black_box(set.position(black_box(key)));
             }
         },
         || {
             for key in &sought {
-                black_box(plain_index(set.as_bytes(), black_box(key)));
+                black_box(plain_index(set.key_bytes(), black_box(key)));
             }
         },
     );

@@ -1,8 +1,9 @@
-//! Nanoseconds a call, through the static library and by plain Rust that does the same checks. Hold it
-//! to one core (taskset). With the word `keys` after it, those of sets of keys of several sizes.
+//! Nanoseconds a call, through the static library and by plain Rust that does the same checks. Hold
+//! it to one core (taskset). With the word `keys` after it, those of sets of keys of several sizes.
 
 use commonware_proved::{
-    Certificate, Committee, FaultModel, Member, check, conflict, equivocation, slot_value,
+    Certificate, Committee, FaultModel, Member, check_encoded, conflict_encoded,
+    equivocation_encoded, slot_value,
 };
 use std::cmp::Ordering;
 use std::env;
@@ -139,7 +140,7 @@ fn main() {
             1 + rounds / 20,
             || {
                 for key in &keys {
-                    black_box(committee.index_of(black_box(key)));
+                    black_box(committee.position(black_box(key)));
                 }
             },
             || {
@@ -176,7 +177,7 @@ fn conflicts(n: u32, rounds: u32) {
         &format!("check of {n}"),
         rounds,
         || {
-            black_box(check(FaultModel::N3F1, n, black_box(&inputs[0]))).unwrap();
+            black_box(check_encoded(FaultModel::N3F1, n, black_box(&inputs[0]))).unwrap();
         },
         || {
             black_box(plain_check(n, black_box(&inputs[0]))).unwrap();
@@ -185,13 +186,33 @@ fn conflicts(n: u32, rounds: u32) {
     compare(
         &format!("equivocation of {n}"),
         rounds,
-        || drop(black_box(equivocation(FaultModel::N3F1, n, &inputs[0], &inputs[1])).unwrap()),
+        || {
+            drop(
+                black_box(equivocation_encoded(
+                    FaultModel::N3F1,
+                    n,
+                    &inputs[0],
+                    &inputs[1],
+                ))
+                .unwrap(),
+            )
+        },
         || drop(black_box(plain_equivocation(n, &inputs[0], &inputs[1])).unwrap()),
     );
     compare(
         &format!("conflict of {n}"),
         rounds,
-        || drop(black_box(conflict(FaultModel::N3F1, n, &inputs[0], &inputs[1])).unwrap()),
+        || {
+            drop(
+                black_box(conflict_encoded(
+                    FaultModel::N3F1,
+                    n,
+                    &inputs[0],
+                    &inputs[1],
+                ))
+                .unwrap(),
+            )
+        },
         || drop(black_box(plain_conflict(n, &inputs[0], &inputs[1])).unwrap()),
     );
 }

@@ -15,7 +15,8 @@ fn sample(rounds: u32, f: &mut dyn FnMut()) -> f64 {
 /// processor does falls into few of them.
 const RUNS: usize = 401;
 
-/// Prints the medians of both, and the median of the ratios of neighbouring runs with its quartiles.
+/// Prints the medians of both, and the median of the ratios of neighbouring runs with its
+/// quartiles.
 pub fn compare(name: &str, rounds: u32, mut ours: impl FnMut(), mut plain: impl FnMut()) {
     let mut runs: Vec<(f64, f64)> = (0..RUNS)
         .map(|_| (sample(rounds, &mut ours), sample(rounds, &mut plain)))

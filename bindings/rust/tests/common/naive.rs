@@ -1,5 +1,5 @@
-//! The encodings and the results once more, in plain Rust and item by item: what the library is compared
-//! with. It is written from `docs/FORMAT.md`.
+//! The encodings and the results once more, in plain Rust and item by item: what the library is
+//! compared with. It is written from `docs/FORMAT.md`.
 
 use commonware_proved::{ConflictError, EncodeError, Member, Refusal};
 use std::collections::BTreeSet;
@@ -33,7 +33,8 @@ pub fn read_varint(input: &[u8]) -> Result<(u32, &[u8]), Refusal> {
     Err(Refusal::InvalidVarint)
 }
 
-/// Decodes the committee of `least` to `most` members at the start of the input; returns what follows it.
+/// Decodes the committee of `least` to `most` members at the start of the input; returns what
+/// follows it.
 pub fn read_members(
     input: &[u8],
     least: usize,
@@ -67,7 +68,8 @@ pub fn committee_bytes(members: &[Member]) -> Vec<u8> {
 
 type Parts<'a> = (&'a [u8], Vec<u32>, &'a [u8]);
 
-/// Decodes the certificate at the start of the input into its value and signers; returns what follows it.
+/// Decodes the certificate at the start of the input into its value and signers; returns what
+/// follows it.
 pub fn read_parts(
     input: &[u8],
     most_bytes: usize,

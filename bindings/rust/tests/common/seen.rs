@@ -29,5 +29,6 @@ pub fn name(refusal: &Refusal) -> &'static str {
         Refusal::NotStrict => "strict",
         Refusal::LeftOver(_) => "left over",
         Refusal::Memory => "memory",
+        _ => panic!("{refusal:?}"),
     }
 }

@@ -1,0 +1,113 @@
+//! Committees that own their encoding.
+
+use crate::hex::HexItems;
+use crate::{Committee, EncodeError, MEMBER_SIZE, Member, Refusal, Set, SetBuf};
+use alloc::vec::Vec;
+use core::fmt;
+
+/// The members of a committee, with their encoding: to a [`Committee`] what a `PathBuf` is to a
+/// `Path`.
+///
+/// ```
+/// use commonware_proved::{CommitteeBuf, FaultModel};
+///
+/// struct Node {
+///     committee: CommitteeBuf,
+/// }
+///
+/// let keys = [[7; 32], [1; 32], [3; 32], [5; 32]];
+/// let node = Node { committee: CommitteeBuf::from_keys(&keys)? };
+/// assert_eq!(node.committee.as_view().position(&[7; 32]), Some(3));
+/// assert_eq!(node.committee.as_view().quorum(FaultModel::N3F1), Some(3));
+/// # Ok::<(), commonware_proved::EncodeError>(())
+/// ```
+#[derive(Clone, PartialEq, Eq, Hash)]
+pub struct CommitteeBuf {
+    /// Its keys have 32 bytes.
+    members: SetBuf,
+}
+
+impl CommitteeBuf {
+    /// Returns the committee of these keys, which may come in any order and repeat.
+    ///
+    /// # Errors
+    ///
+    /// Those of [`Committee::encode`].
+    ///
+    /// ```
+    /// # use commonware_proved::CommitteeBuf;
+    /// let committee = CommitteeBuf::from_keys(&[[2; 32], [1; 32], [2; 32]])?;
+    /// assert_eq!(committee.as_view().members(), [[1; 32], [2; 32]]);
+    /// # Ok::<(), commonware_proved::EncodeError>(())
+    /// ```
+    pub fn from_keys(keys: &[Member]) -> Result<CommitteeBuf, EncodeError> {
+        let encoding = Committee::encode(keys)?;
+        CommitteeBuf::decode(encoding).map_err(EncodeError::of_reading)
+    }
+
+    /// Decodes the committee that the whole input is, as [`Committee::decode`] does. Nothing is
+    /// copied; who needs an input that is refused reads a [`Committee`] first.
+    ///
+    /// # Errors
+    ///
+    /// Those of [`Committee::decode`].
+    ///
+    /// ```
+    /// # use commonware_proved::{CommitteeBuf, Refusal};
+    /// let bytes = [&[1][..], &[9; 32]].concat();
+    /// assert_eq!(CommitteeBuf::decode(bytes)?.as_view().members(), [[9; 32]]);
+    /// assert_eq!(CommitteeBuf::decode(vec![1]), Err(Refusal::EndOfInput));
+    /// # Ok::<(), Refusal>(())
+    /// ```
+    pub fn decode(input: Vec<u8>) -> Result<CommitteeBuf, Refusal> {
+        let members = Committee::decode(&input)?.column();
+        Ok(CommitteeBuf::of(SetBuf::of(input, members)))
+    }
+
+    /// Returns the committee of these keys of 32 bytes.
+    pub(crate) fn of(members: SetBuf) -> CommitteeBuf {
+        CommitteeBuf { members }
+    }
+
+    /// Returns the members, in constant time.
+    ///
+    /// ```
+    /// # use commonware_proved::CommitteeBuf;
+    /// let committee = CommitteeBuf::from_keys(&[[2; 32], [1; 32]])?;
+    /// assert_eq!(committee.as_view().get(0), Some(&[1; 32]));
+    /// # Ok::<(), commonware_proved::EncodeError>(())
+    /// ```
+    #[must_use]
+    pub fn as_view(&self) -> Committee<'_> {
+        Committee::from(Set::<MEMBER_SIZE>::of(self.members.as_view()))
+    }
+
+    /// Returns the encoding, which isn't copied.
+    ///
+    /// ```
+    /// # use commonware_proved::CommitteeBuf;
+    /// assert_eq!(CommitteeBuf::from_keys(&[])?.into_bytes(), vec![0]);
+    /// # Ok::<(), commonware_proved::EncodeError>(())
+    /// ```
+    #[must_use]
+    pub fn into_bytes(self) -> Vec<u8> {
+        self.members.into_bytes()
+    }
+}
+
+/// The whole input is the committee, as [`CommitteeBuf::decode`] takes it.
+impl TryFrom<Vec<u8>> for CommitteeBuf {
+    type Error = Refusal;
+
+    fn try_from(input: Vec<u8>) -> Result<CommitteeBuf, Refusal> {
+        CommitteeBuf::decode(input)
+    }
+}
+
+/// The members in hexadecimal.
+impl fmt::Debug for CommitteeBuf {
+    fn fmt(&self, f: &mut fmt::Formatter<'_>) -> fmt::Result {
+        let members = HexItems(self.members.as_view().iter());
+        f.debug_tuple("CommitteeBuf").field(&members).finish()
+    }
+}

@@ -1,0 +1,243 @@
+//! What the crate itself takes of memory, by an allocator that counts: how many bytes, and that
+//! each allocation failure is an error.
+
+use commonware_proved::{
+    BiMapBuf, BiMapError, BiMapView, Certificate, CertificateBuf, Committee, CommitteeBuf,
+    ConflictError, EncodeError, EquivocationError, FaultModel, MapBuf, MapView, Refusal, Set,
+    SetBuf, SetView, check, conflict, conflict_encoded, equivocation, equivocation_encoded,
+    slot_value,
+};
+use std::alloc::{GlobalAlloc, Layout, System};
+use std::cell::Cell;
+use std::ptr;
+
+thread_local! {
+    static BYTES: Cell<usize> = const { Cell::new(0) };
+    static REQUESTS: Cell<usize> = const { Cell::new(0) };
+    static ALLOWED: Cell<usize> = const { Cell::new(usize::MAX) };
+}
+
+/// The system's allocator, which counts what it is asked for and refuses what it has to.
+struct Counting;
+
+/// Counts a request for memory; returns whether it is let through.
+fn is_allowed(bytes: usize) -> bool {
+    BYTES.set(BYTES.get() + bytes);
+    let requests = REQUESTS.get();
+    REQUESTS.set(requests + 1);
+    requests < ALLOWED.get()
+}
+
+// SAFETY: each call is the system's, or returns no block.
+unsafe impl GlobalAlloc for Counting {
+    unsafe fn alloc(&self, layout: Layout) -> *mut u8 {
+        if !is_allowed(layout.size()) {
+            return ptr::null_mut();
+        }
+        // SAFETY: as the caller promises.
+        unsafe { System.alloc(layout) }
+    }
+
+    unsafe fn realloc(&self, block: *mut u8, layout: Layout, size: usize) -> *mut u8 {
+        if !is_allowed(size) {
+            return ptr::null_mut();
+        }
+        // SAFETY: as the caller promises.
+        unsafe { System.realloc(block, layout, size) }
+    }
+
+    unsafe fn dealloc(&self, block: *mut u8, layout: Layout) {
+        // SAFETY: as the caller promises.
+        unsafe { System.dealloc(block, layout) }
+    }
+}
+
+#[global_allocator]
+static COUNTING: Counting = Counting;
+
+/// Returns what a call returns, and how many bytes it asks for.
+fn counted<T>(call: impl FnOnce() -> T) -> (T, usize) {
+    BYTES.set(0);
+    let result = call();
+    (result, BYTES.get())
+}
+
+/// Makes the call with each request refused in turn, until one run has none refused; returns how
+/// many requests there are.
+fn refuse_each<T, E: PartialEq + std::fmt::Debug>(
+    refused: &E,
+    call: impl Fn() -> Result<T, E>,
+) -> usize {
+    for allowed in 0.. {
+        REQUESTS.set(0);
+        ALLOWED.set(allowed);
+        let result = call();
+        ALLOWED.set(usize::MAX);
+        match result {
+            Ok(_) => return allowed,
+            Err(error) => assert_eq!(&error, refused, "after {allowed} requests"),
+        }
+    }
+    unreachable!("some run has no request refused")
+}
+
+/// The input is refused so by each reader of a certificate, of which none asks for memory.
+fn is_refused_for_nothing(input: Vec<u8>, refusal: Refusal) {
+    let (result, bytes) = counted(|| Certificate::decode(&input).map(drop));
+    assert_eq!((result, bytes), (Err(refusal), 0));
+    if !matches!(refusal, Refusal::LeftOver(_)) {
+        let read = || Certificate::read(&input, usize::MAX, usize::MAX).map(drop);
+        assert_eq!(counted(read), (Err(refusal), 0));
+    }
+    let (result, bytes) = counted(|| CertificateBuf::decode(input).map(drop));
+    assert_eq!((result, bytes), (Err(refusal), 0));
+}
+
+#[test]
+fn a_refused_certificate_asks_for_no_memory() {
+    is_refused_for_nothing(vec![0xff; 64 << 20], Refusal::InvalidVarint);
+    is_refused_for_nothing(vec![], Refusal::EndOfInput);
+    // The most signers that can be stated, and as many bytes as fit.
+    let mut stated = vec![0, 255, 255, 255, 255, 15];
+    stated.extend(vec![0; 1 << 20]);
+    is_refused_for_nothing(stated, Refusal::EndOfInput);
+    let signers: Vec<u32> = (0..300).collect();
+    let whole = Certificate::encode(&[7; 1_000], &signers).expect("a certificate");
+    for end in 0..whole.len() {
+        is_refused_for_nothing(whole[..end].to_vec(), Refusal::EndOfInput);
+    }
+    let last = whole.len() - 1;
+    let mut changed = whole.clone();
+    changed[last] = 0;
+    is_refused_for_nothing(changed, Refusal::InvalidVarint);
+    let mut changed = whole.clone();
+    changed.copy_within(last - 3..last - 1, last - 1);
+    is_refused_for_nothing(changed, Refusal::NotStrict);
+    let longer = [&whole[..], &[0; 9]].concat();
+    is_refused_for_nothing(longer, Refusal::LeftOver(9));
+    let read = || Certificate::read(&whole, 999, 300).map(drop);
+    assert_eq!(counted(read), (Err(Refusal::InvalidLength(1_000)), 0));
+    let read = || Certificate::read(&whole, 1_000, 299).map(drop);
+    assert_eq!(counted(read), (Err(Refusal::InvalidLength(300)), 0));
+}
+
+#[test]
+fn a_certificate_asks_for_its_indices_alone() {
+    let bytes = Certificate::encode(&[7; 1 << 20], &[0, 5, 9]).expect("a certificate");
+    let (certificate, asked) = counted(|| Certificate::decode(&bytes).expect("a certificate"));
+    assert_eq!((certificate.signers(), asked), (&[0, 5, 9][..], 12));
+    let longer = [&bytes[..], &[1; 1 << 20]].concat();
+    let read = || Certificate::read(&longer, 1 << 20, 1_000_000).expect("a certificate");
+    let ((read, rest), asked) = counted(read);
+    assert_eq!(
+        (read == certificate, rest.len(), asked),
+        (true, 1 << 20, 12)
+    );
+    let (owned, asked) = counted(|| CertificateBuf::decode(bytes.clone()).expect("one"));
+    assert_eq!(asked - bytes.len(), 12);
+    let (signers, asked) = counted(|| owned.as_view().signers().len());
+    assert_eq!((signers, asked), (3, 0));
+    let (signers, asked) = counted(|| certificate.into_signers());
+    assert_eq!((signers, asked), (vec![0, 5, 9], 0));
+    let (none, asked) = counted(|| Certificate::decode(&[1, 7, 0]).expect("a certificate"));
+    assert_eq!((none.signers(), asked), (&[][..], 0));
+}
+
+#[test]
+fn sets_and_maps_ask_for_nothing_and_bimaps_for_their_indices() {
+    let pairs: Vec<_> = (0..200u8).map(|i| ([i; 32], [255 - i; 8])).collect();
+    let owned = BiMapBuf::from_pairs(32, 8, pairs.iter().copied()).expect("a bimap");
+    let map = owned.as_view().as_map();
+    let (bytes, keys) = (map.as_bytes(), map.keys().as_bytes());
+    assert_eq!(counted(|| Committee::decode(keys).map(drop)), (Ok(()), 0));
+    assert_eq!(counted(|| Set::<32>::decode(keys).map(drop)), (Ok(()), 0));
+    assert_eq!(counted(|| SetView::decode(32, keys).map(drop)), (Ok(()), 0));
+    assert_eq!(
+        counted(|| MapView::decode(32, 8, bytes).map(drop)),
+        (Ok(()), 0)
+    );
+    assert_eq!(
+        counted(|| BiMapView::decode(32, 8, bytes).map(drop)),
+        (Ok(()), 800)
+    );
+    let shorter = &bytes[..bytes.len() - 1];
+    let refused = Err(BiMapError::Refused(Refusal::EndOfInput));
+    assert_eq!(
+        counted(|| BiMapView::decode(32, 8, shorter).map(drop)),
+        (refused, 0)
+    );
+    let (found, asked) = counted(|| owned.as_view().get_key(&[155; 8]).map(|key| key[0]));
+    assert_eq!((found, asked), (Some(100), 0));
+}
+
+#[test]
+fn those_named_ask_for_the_shorter_list_at_most() {
+    let committee = CommitteeBuf::from_keys(&[0, 1, 2, 3].map(|i| [i; 32])).expect("members");
+    let (committee, model) = (committee.as_view(), FaultModel::N3F1);
+    let value = |decision: u8| slot_value(&[7; 1_000], &[decision]).expect("a value");
+    let certificates = [(0, &[0, 1, 2][..]), (1, &[0, 1, 2, 3])];
+    let certificates = certificates
+        .map(|(decision, signers)| CertificateBuf::from_parts(&value(decision), signers));
+    let [first, second] = certificates.map(|it| it.expect("a certificate"));
+    let (first, second) = (first.as_view(), second.as_view());
+    let call = || conflict(model, &committee, &first, &second).map(|named| named.len());
+    assert_eq!(counted(call), (Ok(3), 12));
+    let call = || equivocation(model, &committee, &first, &second).map(|named| named.len());
+    assert_eq!(counted(call), (Ok(3), 12));
+    let call = || check(model, &committee, &first).map(|checked| checked.signer_count());
+    assert_eq!(counted(call), (Ok(3), 0));
+    let (one, two) = (first.as_bytes(), second.as_bytes());
+    let call = || conflict_encoded(model, 4, one, two).map(|named| named.len());
+    assert_eq!(counted(call), (Ok(3), 16));
+    let call = || equivocation_encoded(model, 4, one, two).map(|named| named.len());
+    assert_eq!(counted(call), (Ok(3), 16));
+}
+
+#[test]
+fn each_allocation_failure_of_a_reader_is_an_error() {
+    let certificate = Certificate::encode(b"x", &[1, 2]).expect("a certificate");
+    let decode = || Certificate::decode(&certificate);
+    assert_eq!(refuse_each(&Refusal::Memory, decode), 1);
+    let read = || Certificate::read(&certificate, 9, 9);
+    assert_eq!(refuse_each(&Refusal::Memory, read), 1);
+    let bimap = [2, 5, 7, 2, 0, 1];
+    let memory = BiMapError::Refused(Refusal::Memory);
+    assert_eq!(refuse_each(&memory, || BiMapView::decode(1, 1, &bimap)), 1);
+}
+
+#[test]
+fn each_allocation_failure_of_a_writer_is_an_error() {
+    let (memory, keys) = (EncodeError::Memory, [[7; 32], [5; 32]]);
+    let refused = |call: &dyn Fn() -> Result<(), EncodeError>| refuse_each(&memory, call);
+    assert_eq!(refused(&|| Committee::encode(&keys).map(drop)), 1);
+    assert_eq!(refused(&|| Set::encode(&keys).map(drop)), 1);
+    assert_eq!(refused(&|| MapView::encode(1, 1, &[1, 2]).map(drop)), 1);
+    let unique = || MapView::encode_unique(1, 1, &[1, 2]).map(drop);
+    assert_eq!(refused(&unique), 1);
+    assert_eq!(refused(&|| Certificate::encode(b"x", &[1]).map(drop)), 1);
+    assert_eq!(refused(&|| slot_value(b"x", b"y").map(drop)), 1);
+    assert!(refused(&|| CommitteeBuf::from_keys(&keys).map(drop)) > 0);
+    assert!(refused(&|| SetBuf::from_keys(32, keys).map(drop)) > 1);
+    let pairs = [(b"b", b"xx"), (b"a", b"yy")];
+    assert!(refused(&|| MapBuf::from_pairs(1, 2, pairs).map(drop)) > 1);
+    assert!(refused(&|| BiMapBuf::from_pairs(1, 2, pairs).map(drop)) > 2);
+    assert!(refused(&|| CertificateBuf::from_parts(b"x", &[1]).map(drop)) > 1);
+}
+
+#[test]
+fn each_allocation_failure_of_those_named_is_an_error() {
+    let value = |decision| slot_value(b"7", decision).expect("a value");
+    let inputs = [&value(b"A"), &value(b"B")].map(|value| Certificate::encode(value, &[0]));
+    let [one, two] = inputs.map(|input| input.expect("a certificate"));
+    let model = FaultModel::N3F1;
+    let call = || conflict_encoded(model, 1, &one, &two);
+    assert_eq!(refuse_each(&ConflictError::Memory, call), 1);
+    let call = || equivocation_encoded(model, 1, &one, &two);
+    assert_eq!(refuse_each(&EquivocationError::Memory, call), 1);
+    let committee = CommitteeBuf::from_keys(&[[0; 32]]).expect("a committee");
+    let [first, second] = [&one, &two].map(|it| Certificate::decode(it).expect("one"));
+    let call = || conflict(model, &committee.as_view(), &first, &second);
+    assert_eq!(refuse_each(&ConflictError::Memory, call), 1);
+    let call = || equivocation(model, &committee.as_view(), &first, &second);
+    assert_eq!(refuse_each(&EquivocationError::Memory, call), 1);
+}
