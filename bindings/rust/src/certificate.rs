@@ -30,6 +30,10 @@ pub struct Certificate<'a> {
     signers: Cow<'a, [u32]>,
 }
 
+/// How many signers are read by one call of the library. More are read by a second one, into just
+/// the memory that they take.
+const FEW: usize = 64;
+
 impl<'a> Certificate<'a> {
     /// Decodes the certificate at the start of the input, with a value of up to `most_bytes` bytes
     /// and up to `most_signers` signers, and returns what follows it. The memory is that of the
@@ -52,9 +56,10 @@ impl<'a> Certificate<'a> {
         most_bytes: usize,
         most_signers: usize,
     ) -> Result<(Certificate<'a>, &'a [u8]), Refusal> {
-        let view = call(input, (most_bytes, most_signers), &mut [])?;
+        let mut few = [0; FEW];
+        let view = call(input, (most_bytes, most_signers), &mut few)?;
         let (encoding, rest) = input.split_at(input.len() - view.left);
-        Ok((Certificate::at(encoding, view)?, rest))
+        Ok((Certificate::at(encoding, view, &few)?, rest))
     }
 
     /// Decodes the certificate that the whole input is, of any lengths. The memory is that of the
@@ -71,15 +76,23 @@ impl<'a> Certificate<'a> {
     /// # Ok::<(), Refusal>(())
     /// ```
     pub fn decode(input: &'a [u8]) -> Result<Certificate<'a>, Refusal> {
-        let view = call(input, (usize::MAX, usize::MAX), &mut [])?;
+        let mut few = [0; FEW];
+        let view = call(input, (usize::MAX, usize::MAX), &mut few)?;
         let (encoding, rest) = input.split_at(input.len() - view.left);
-        Certificate::at(whole((encoding, rest))?, view)
+        Certificate::at(whole((encoding, rest))?, view, &few)
     }
 
-    /// Returns the certificate that these bytes are, by what the library says of its size.
-    fn at(encoding: &'a [u8], view: raw::CertificateView) -> Result<Certificate<'a>, Refusal> {
+    /// Returns the certificate that these bytes are, by what the library says of it, and its
+    /// signers where they are few.
+    fn at(
+        encoding: &'a [u8],
+        view: raw::CertificateView,
+        few: &[u32; FEW],
+    ) -> Result<Certificate<'a>, Refusal> {
         let mut signers = zeros(view.signers as usize).ok_or(Refusal::Memory)?;
-        if view.status == status::ROOM {
+        if let Some(few) = few.get(..signers.len()) {
+            signers.copy_from_slice(few);
+        } else {
             let filled = call(encoding, (usize::MAX, usize::MAX), &mut signers)?;
             debug_assert_eq!(filled.status, status::OK, "there is room for each signer");
         }
