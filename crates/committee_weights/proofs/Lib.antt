@@ -1,0 +1,10 @@
+pub mod Both
+pub mod Listed
+pub mod Meeting
+pub mod Refusing
+pub mod Refuting
+pub mod Safe
+pub mod Safety
+pub mod Sharing
+pub mod Signing
+pub mod Slots

@@ -1,0 +1,5 @@
+pub mod Accountability
+pub mod Members
+pub mod Refusals
+pub mod Tolerance
+pub mod Weights

@@ -1,0 +1,17 @@
+//! Participants that have weights, as stake or voting power: which quorums are safe, whether a
+//! quorum signed a certificate, and which members signed both of two, or equivocated.
+#![tactic(auto)]
+
+mod accountability;
+mod conflicts;
+mod equivocations;
+mod laws;
+mod quorums;
+mod weights;
+
+pub use accountability::weighted_safety_law;
+pub use conflicts::{WeightedConflictError, weighted_conflict};
+pub use equivocations::{WeightedEquivocationError, weighted_equivocation};
+pub use laws::weight_law;
+pub use quorums::{WeightedQuorumError, check_weight};
+pub use weights::{MapWeightsError, Weights, WeightsError};
