@@ -1,10 +1,15 @@
 """What scripts share that run commands and count what passed."""
+import atexit
+import functools
 import os
 import pathlib
 import shutil
 import subprocess
+import tempfile
 
 ROOT = pathlib.Path(__file__).resolve().parent.parent
+# What a contributor's environment may say of compilers and packages, which nothing here is to go by.
+UNSET = ("COMMONWARE_C_LIB", "COMMONWARE_CASES", "CGO_CFLAGS", "CGO_LDFLAGS", "RUSTFLAGS", "CARGO_ENCODED_RUSTFLAGS", "PYTHONPATH")
 missing = set()
 passed, failed = [], []
 
@@ -24,7 +29,8 @@ def note(good, what, why=""):
 
 def tell(words, folder=ROOT, text=None, **environment):
     """Runs a command and returns what came of it. A variable of the environment that is empty is taken away."""
-    variables = {name: value for name, value in {**os.environ, **environment}.items() if value}
+    variables = {**os.environ, **dict.fromkeys(UNSET, ""), **environment}
+    variables = {name: value for name, value in variables.items() if value}
     return subprocess.run([*map(str, words)], cwd=folder, input=text, capture_output=True, env=variables)
 
 
@@ -35,10 +41,21 @@ def run(what, words, folder=ROOT, text=None, **environment):
     return told.stdout
 
 
+def without_rt(folder):
+    """Returns a folder with links to all that a folder of the path has, but for rt."""
+    room = tempfile.mkdtemp()
+    atexit.register(shutil.rmtree, room, ignore_errors=True)
+    for path in pathlib.Path(folder).iterdir():
+        if path.name != "rt":
+            os.symlink(path, os.path.join(room, path.name))
+    return room
+
+
+@functools.cache
 def path_without_rt():
-    """Returns the folders of the path that have no rt."""
+    """Returns the folders of the path, where one that has rt is replaced by one without it."""
     folders = os.environ["PATH"].split(os.pathsep)
-    return os.pathsep.join(it for it in folders if not os.access(os.path.join(it, "rt"), os.X_OK))
+    return os.pathsep.join(without_rt(it) if os.access(os.path.join(it, "rt"), os.X_OK) else it for it in folders)
 
 
 def finish(name):

@@ -2,6 +2,8 @@
  * be faulty, the encodings of committees and certificates, and of sets, maps and bimaps of keys of
  * any size, and which members signed both of two different values.
  *
+ * The built library is for Linux on x86-64-v2 processors, which have SSE4.1.
+ *
  * The theorem of each function is its contract in crates/commonware_c/src. This header says the
  * same in words; docs/NATIVE.md says what is proved and what only tests show.
  *
@@ -81,11 +83,22 @@ COMMONWARE_CHECKED uint32_t commonware_version(void);
 /* How many bytes a member has. */
 #define COMMONWARE_MEMBER_SIZE 32
 
-/* The most bytes that a committee with this number of members has. */
-#define COMMONWARE_COMMITTEE_SIZE(members) (5 + COMMONWARE_MEMBER_SIZE * (size_t)(members))
+/* A number as a size, for the two macros below. */
+#ifdef __cplusplus
+#define COMMONWARE_AS_SIZE(number) (static_cast<size_t>(number))
+#else
+#define COMMONWARE_AS_SIZE(number) ((size_t)(number))
+#endif
 
-/* The most bytes that a certificate has, by the bytes of its value and the number of signers. */
-#define COMMONWARE_CERTIFICATE_SIZE(bytes, signers) (10 + (size_t)(bytes) + 5 * (size_t)(signers))
+/* The most bytes that a committee with this number of members has. Of more members than memory
+ * holds it wraps. */
+#define COMMONWARE_COMMITTEE_SIZE(members)                                                       \
+    (5 + COMMONWARE_MEMBER_SIZE * COMMONWARE_AS_SIZE(members))
+
+/* The most bytes that a certificate has, by the bytes of its value and the number of signers. Of
+ * more than memory holds it wraps. */
+#define COMMONWARE_CERTIFICATE_SIZE(bytes, signers)                                              \
+    (10 + COMMONWARE_AS_SIZE(bytes) + 5 * COMMONWARE_AS_SIZE(signers))
 
 /* The k of the fault models N3f1 and N5f1, whose n participants are at least kf + 1. */
 #define COMMONWARE_N3F1 3

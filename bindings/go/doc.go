@@ -20,6 +20,6 @@
 //
 //	CGO_LDFLAGS=-L/folder/of/the/archive go build
 //
-// [Version] returns which version it is. A program that was linked with another major version
+// The archive is for Linux on x86-64-v2 processors. [Version] returns which version it is. A program that was linked with another major version
 // panics at its start.
 package commonware

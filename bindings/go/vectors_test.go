@@ -4,6 +4,7 @@ import (
 	"encoding/hex"
 	"errors"
 	"fmt"
+	"math"
 	"os"
 	"path/filepath"
 	"strconv"
@@ -33,12 +34,16 @@ func wordOf(bytes []byte) string {
 	return hex.EncodeToString(bytes)
 }
 
+// numberOf returns a number of up to 64 bits, or the greatest int where it is past that.
 func numberOf(word string) int {
-	number, err := strconv.Atoi(word)
+	number, err := strconv.ParseUint(word, 10, 64)
 	if err != nil {
 		panic(err)
 	}
-	return number
+	if number > math.MaxInt {
+		return math.MaxInt
+	}
+	return int(number)
 }
 
 // limitsOf returns the least and the greatest number of a range.
@@ -161,7 +166,7 @@ func TestVectorsOfSetsAndMaps(t *testing.T) {
 	})
 	areAnswered(t, "position", 10, func(words []string) (string, error) {
 		size, key := map[string]int{"set<u8>": 1, "set<u32>": 4}[words[0]], bytesOf(words[2])
-		if size != len(key) {
+		if size == 0 || size != len(key) {
 			return "", errSkipped
 		}
 		set, err := DecodeSet(size, bytesOf(words[1]))

@@ -56,10 +56,17 @@ def record(folder, files):
     return "".join([*lines, f"{folder}/RECORD,,\n"]).encode()
 
 
+def licences():
+    """Returns the licence and the notice, which an unpacked archive of the sources has beside this file."""
+    folder = HERE if (HERE / "LICENSE").is_file() else HERE.parents[1]
+    return {it: (folder / it).read_bytes() for it in ("LICENSE", "NOTICE") if (folder / it).is_file()}
+
+
 def build_wheel(wheel_directory, config_settings=None, metadata_directory=None):
     """Writes the wheel into a folder, and returns its name."""
     folder = f"{NAME}.dist-info"
     about = {f"{folder}/METADATA": METADATA.encode(), f"{folder}/WHEEL": WHEEL.encode()}
+    about |= {f"{folder}/licenses/{name}": text for name, text in licences().items()}
     files = {**package(), **library(), **about}
     files[f"{folder}/RECORD"] = record(folder, files)
     name = f"{NAME}-{TAG}.whl"
@@ -76,7 +83,7 @@ def build_sdist(sdist_directory, config_settings=None):
     """Writes the archive of the sources into a folder, and returns its name."""
     name = f"{NAME}.tar.gz"
     sources = {it: (HERE / it).read_bytes() for it in ("pyproject.toml", "wheels.py")}
-    files = {**package(), **library(), **sources, "PKG-INFO": METADATA.encode()}
+    files = {**package(), **library(), **sources, **licences(), "PKG-INFO": METADATA.encode()}
     packed = io.BytesIO()
     with tarfile.open(fileobj=packed, mode="w", format=tarfile.PAX_FORMAT) as archive:
         for path, data in files.items():

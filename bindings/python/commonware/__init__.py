@@ -28,7 +28,8 @@ Calls may come from any number of threads at once; the interpreter's lock isn't 
 The library is that of the folder in the environment variable COMMONWARE_C_LIB, else the one that
 was installed with this package, else the one in `bindings/prebuilt/x86_64-linux` of the repository
 that this package is in, else the system's. `version` returns its version. Where the major version
-isn't that of `__version__`, which is this package's, the import raises ImportError.
+isn't that of `__version__`, which is this package's, the import raises ImportError. It is for Linux on
+x86-64-v2 processors.
 """
 
 from ._library import __version__ as __version__

@@ -2,7 +2,7 @@
 
 use crate::error::whole;
 use crate::hex::Hex;
-use crate::room::zeros;
+use crate::room::{FEW, indices, trimmed, zeros};
 use crate::{CertificateBuf, EncodeError, Refusal, raw, status};
 use alloc::borrow::Cow;
 use alloc::vec::Vec;
@@ -30,34 +30,69 @@ pub struct Certificate<'a> {
     signers: Cow<'a, [u32]>,
 }
 
-/// How many signers are read by one call of the library. More are read by a second one, into just
-/// the memory that they take.
-const FEW: usize = 64;
+/// The greatest lengths that a certificate may have where it is read.
+///
+/// They have names, so that neither is taken for the other. Unlike the ranges of the other types
+/// they have no lower ends: the library takes none, and whether enough signed is what
+/// [`check`](crate::check) says.
+///
+/// ```
+/// use commonware_proved::{Certificate, CertificateLimits, Refusal};
+///
+/// // A value of a digest at most, and a signer of each member of a committee of 256.
+/// let limits = CertificateLimits { value_bytes: 32, signers: 256 };
+/// let bytes = Certificate::encode(&[7; 33], &[0, 2, 3])?;
+/// assert_eq!(Certificate::read(&bytes, limits), Err(Refusal::InvalidLength(33)));
+/// # Ok::<(), commonware_proved::EncodeError>(())
+/// ```
+#[derive(Clone, Copy, Debug, PartialEq, Eq, Hash)]
+pub struct CertificateLimits {
+    /// The most bytes that the value may have.
+    pub value_bytes: usize,
+    /// The most signers that there may be.
+    pub signers: usize,
+}
+
+impl CertificateLimits {
+    /// Every length that an encoding can state.
+    ///
+    /// ```
+    /// # use commonware_proved::{Certificate, CertificateLimits};
+    /// let (certificate, rest) = Certificate::read(&[1, b'x', 1, 4, 9], CertificateLimits::NONE)?;
+    /// assert_eq!((certificate.signers(), rest), (&[4][..], &[9][..]));
+    /// # Ok::<(), commonware_proved::Refusal>(())
+    /// ```
+    pub const NONE: CertificateLimits = CertificateLimits {
+        value_bytes: usize::MAX,
+        signers: usize::MAX,
+    };
+}
 
 impl<'a> Certificate<'a> {
-    /// Decodes the certificate at the start of the input, with a value of up to `most_bytes` bytes
-    /// and up to `most_signers` signers, and returns what follows it. The memory is that of the
-    /// indices, and is taken once the input is known to begin with a certificate.
+    /// Decodes the certificate at the start of the input, whose lengths are within the limits, and
+    /// returns what follows it. The memory is that of the indices, and is taken once the input is
+    /// known to begin with a certificate.
     ///
     /// # Errors
     ///
     /// The first fault (decoding error) of the input, or `Memory`; not `LeftOver`.
     ///
     /// ```
-    /// # use commonware_proved::{Certificate, Refusal};
+    /// # use commonware_proved::{Certificate, CertificateLimits, Refusal};
     /// let bytes = [&Certificate::encode(b"block", &[0, 2, 3])?[..], b"more"].concat();
-    /// let (certificate, rest) = Certificate::read(&bytes, 32, 256)?;
+    /// let limits = CertificateLimits { value_bytes: 32, signers: 256 };
+    /// let (certificate, rest) = Certificate::read(&bytes, limits)?;
     /// assert_eq!((certificate.signers().len(), rest), (3, &b"more"[..]));
-    /// assert_eq!(Certificate::read(&bytes, 4, 256), Err(Refusal::InvalidLength(5)));
+    /// let two = CertificateLimits { signers: 2, ..limits };
+    /// assert_eq!(Certificate::read(&bytes, two), Err(Refusal::InvalidLength(3)));
     /// # Ok::<(), Box<dyn std::error::Error>>(())
     /// ```
     pub fn read(
         input: &'a [u8],
-        most_bytes: usize,
-        most_signers: usize,
+        limits: CertificateLimits,
     ) -> Result<(Certificate<'a>, &'a [u8]), Refusal> {
         let mut few = [0; FEW];
-        let view = call(input, (most_bytes, most_signers), &mut few)?;
+        let view = call(input, limits, &mut few)?;
         let (encoding, rest) = input.split_at(input.len() - view.left);
         Ok((Certificate::at(encoding, view, &few)?, rest))
     }
@@ -77,7 +112,7 @@ impl<'a> Certificate<'a> {
     /// ```
     pub fn decode(input: &'a [u8]) -> Result<Certificate<'a>, Refusal> {
         let mut few = [0; FEW];
-        let view = call(input, (usize::MAX, usize::MAX), &mut few)?;
+        let view = call(input, CertificateLimits::NONE, &mut few)?;
         let (encoding, rest) = input.split_at(input.len() - view.left);
         Certificate::at(whole((encoding, rest))?, view, &few)
     }
@@ -89,17 +124,14 @@ impl<'a> Certificate<'a> {
         view: raw::CertificateView,
         few: &[u32; FEW],
     ) -> Result<Certificate<'a>, Refusal> {
-        let mut signers = zeros(view.signers as usize).ok_or(Refusal::Memory)?;
-        if let Some(few) = few.get(..signers.len()) {
-            signers.copy_from_slice(few);
-        } else {
-            let filled = call(encoding, (usize::MAX, usize::MAX), &mut signers)?;
-            debug_assert_eq!(filled.status, status::OK, "there is room for each signer");
-        }
+        let signers = indices(few, view.signers as usize, |room| {
+            let filled = call(encoding, CertificateLimits::NONE, room);
+            debug_assert!(filled.is_ok_and(|filled| filled.status == status::OK));
+        });
         Ok(Certificate {
             encoding,
             value: view.value_start..view.value_start + view.value_length,
-            signers: Cow::Owned(signers),
+            signers: Cow::Owned(signers.ok_or(Refusal::Memory)?),
         })
     }
 
@@ -132,8 +164,7 @@ impl<'a> Certificate<'a> {
         if view.status != status::OK {
             return Err(EncodeError::of(view.status, view.number));
         }
-        out.truncate(view.size);
-        Ok(out)
+        Ok(trimmed(out, view.size))
     }
 
     /// Returns the certificate of this encoding, which has the value and the signers.
@@ -157,8 +188,9 @@ impl<'a> Certificate<'a> {
     /// Returns the encoding.
     ///
     /// ```
-    /// # use commonware_proved::Certificate;
-    /// let (certificate, _) = Certificate::read(&[1, b'x', 1, 4, 9, 9], 1, 1)?;
+    /// # use commonware_proved::{Certificate, CertificateLimits};
+    /// let (certificate, _) =
+    ///     Certificate::read(&[1, b'x', 1, 4, 9, 9], CertificateLimits::NONE)?;
     /// assert_eq!(certificate.as_bytes(), [1, b'x', 1, 4]);
     /// # Ok::<(), commonware_proved::Refusal>(())
     /// ```
@@ -192,7 +224,7 @@ impl<'a> Certificate<'a> {
     }
 
     /// Returns the indices of those that signed, strictly increasing. They are copied where they
-    /// belong to a [`CertificateBuf`].
+    /// belong to a [`CertificateBuf`], which has [`CertificateBuf::into_signers`].
     ///
     /// ```
     /// # use commonware_proved::Certificate;
@@ -219,11 +251,10 @@ impl<'a> Certificate<'a> {
     }
 }
 
-/// Calls the library with an input, the greatest lengths of the value and of the signers, and a
-/// room for the latter.
+/// Calls the library with an input, the limits, and a room for the signers.
 fn call(
     input: &[u8],
-    (most_bytes, most_signers): (usize, usize),
+    limits: CertificateLimits,
     room: &mut [u32],
 ) -> Result<raw::CertificateView, Refusal> {
     // SAFETY: each pointer and the length after it are those of one slice; both are borrowed for
@@ -232,8 +263,8 @@ fn call(
         raw::commonware_certificate_read(
             input.as_ptr(),
             input.len(),
-            most_bytes,
-            most_signers,
+            limits.value_bytes,
+            limits.signers,
             room.as_mut_ptr(),
             room.len(),
         )

@@ -4,7 +4,7 @@ use crate::error::whole;
 use crate::hex::HexItems;
 use crate::items::Column;
 use crate::limits::limits;
-use crate::room::zeros;
+use crate::room::{trimmed, zeros};
 use crate::{CommitteeBuf, EncodeError, FaultModel, Refusal, Set, SetView, raw, status};
 use alloc::vec::Vec;
 use core::ops::RangeBounds;
@@ -124,8 +124,7 @@ impl<'a> Committee<'a> {
         if view.status != status::OK {
             return Err(EncodeError::of(view.status, view.number));
         }
-        out.truncate(view.size);
-        Ok(out)
+        Ok(trimmed(out, view.size))
     }
 
     /// Returns where the members are.
@@ -276,6 +275,21 @@ impl<'a> Committee<'a> {
     #[must_use]
     pub fn quorum(&self, model: FaultModel) -> Option<u32> {
         model.quorum(self.count())
+    }
+
+    /// Returns the least number of the members that share f + 1 members with each quorum of a
+    /// model, 2f + 1, or `None` where there are no members.
+    ///
+    /// ```
+    /// # use commonware_proved::{Committee, FaultModel};
+    /// let bytes = Committee::encode(&[0, 1, 2, 3, 4, 5].map(|i| [i; 32]))?;
+    /// let committee = Committee::decode(&bytes)?;
+    /// assert_eq!(committee.smaller_quorum(FaultModel::N5F1), Some(3));
+    /// # Ok::<(), Box<dyn std::error::Error>>(())
+    /// ```
+    #[must_use]
+    pub fn smaller_quorum(&self, model: FaultModel) -> Option<u32> {
+        model.smaller_quorum(self.count())
     }
 
     /// Returns the number of members, which its varint keeps below 2^32.

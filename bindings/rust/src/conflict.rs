@@ -1,21 +1,22 @@
 //! The members that signed both of two certificates for different values.
 
-use crate::room::zeros;
-use crate::{Certificate, Committee, FaultModel, Refusal, raw, status};
+use crate::named::named;
+use crate::{Certificate, Committee, FaultModel, Refusal, Which, raw, status};
 use alloc::vec::Vec;
 use core::error::Error;
 use core::fmt;
 
-/// Why two certificates name no one. Where several reasons hold, it is the first of these.
+/// Why two certificates name no one. Where several reasons hold, it is the first of these, and
+/// where one holds of both certificates, that of the first.
 ///
 /// ```
-/// use commonware_proved::{Certificate, ConflictError, FaultModel, conflict_encoded};
+/// use commonware_proved::{Certificate, ConflictError, FaultModel, Which, conflict_encoded};
 ///
 /// let first = Certificate::encode(b"view 7: A", &[0, 1])?;
 /// let second = Certificate::encode(b"view 7: B", &[1, 2, 3])?;
-/// let named = conflict_encoded(FaultModel::N3F1, 4, &first, &second);
-/// assert_eq!(named, Err(ConflictError::TooFew));
-/// assert_eq!(ConflictError::TooFew.to_string(), "fewer signers than a quorum");
+/// let error = conflict_encoded(FaultModel::N3F1, 4, &first, &second).unwrap_err();
+/// assert_eq!(error, ConflictError::TooFew(Which::First));
+/// assert_eq!(error.to_string(), "fewer signers than a quorum in the first certificate");
 /// # Ok::<(), commonware_proved::EncodeError>(())
 /// ```
 #[derive(Clone, Copy, Debug, PartialEq, Eq, Hash)]
@@ -23,29 +24,69 @@ use core::fmt;
 pub enum ConflictError {
     /// The committee has no members.
     NoMembers,
-    /// The first input isn't exactly one certificate.
-    First(Refusal),
-    /// The second input isn't exactly one certificate.
-    Second(Refusal),
+    /// This input isn't exactly one certificate.
+    Input(Which, Refusal),
     /// Both certificates are for the same value.
     SameValue,
-    /// A signer of one of them is no member.
-    Outside,
-    /// Fewer than a quorum signed one of them.
-    TooFew,
+    /// A signer of this one is no member.
+    Outside(Which),
+    /// Fewer than a quorum signed this one.
+    TooFew(Which),
     /// An allocation failed. This says nothing of the certificates.
     Memory,
+}
+
+impl ConflictError {
+    /// Returns the certificate that the error is about, or `None` where it is about neither alone.
+    ///
+    /// ```
+    /// # use commonware_proved::{ConflictError, Refusal, Which};
+    /// let error = ConflictError::Input(Which::First, Refusal::EndOfInput);
+    /// assert_eq!(error.which(), Some(Which::First));
+    /// assert_eq!(ConflictError::SameValue.which(), None);
+    /// ```
+    #[must_use]
+    pub fn which(&self) -> Option<Which> {
+        match *self {
+            ConflictError::Input(which, _)
+            | ConflictError::Outside(which)
+            | ConflictError::TooFew(which) => Some(which),
+            ConflictError::NoMembers | ConflictError::SameValue | ConflictError::Memory => None,
+        }
+    }
+
+    /// Returns the error of what the library says, or of a failed allocation where that is `None`.
+    fn of(view: Option<raw::ConflictView>) -> ConflictError {
+        let Some(view) = view else {
+            return ConflictError::Memory;
+        };
+        match (view.status, view.which) {
+            (status::NO_MEMBERS, _) => ConflictError::NoMembers,
+            (status::SAME_VALUE, _) => ConflictError::SameValue,
+            (status::OUTSIDE, which) => ConflictError::Outside(Which::of(which)),
+            (status::TOO_FEW, which) => ConflictError::TooFew(Which::of(which)),
+            (status, which) => {
+                ConflictError::Input(Which::of(which), Refusal::of(status, view.number))
+            }
+        }
+    }
 }
 
 impl fmt::Display for ConflictError {
     fn fmt(&self, f: &mut fmt::Formatter<'_>) -> fmt::Result {
         match self {
             ConflictError::NoMembers => f.write_str("the committee has no members"),
-            ConflictError::First(_) => f.write_str("the first certificate can't be read"),
-            ConflictError::Second(_) => f.write_str("the second certificate can't be read"),
+            ConflictError::Input(which, _) => write!(f, "the {which} certificate can't be read"),
             ConflictError::SameValue => f.write_str("both certificates are for the same value"),
-            ConflictError::Outside => f.write_str("a signer is no member of the committee"),
-            ConflictError::TooFew => f.write_str("fewer signers than a quorum"),
+            ConflictError::Outside(which) => {
+                write!(
+                    f,
+                    "a signer of the {which} certificate is no member of the committee"
+                )
+            }
+            ConflictError::TooFew(which) => {
+                write!(f, "fewer signers than a quorum in the {which} certificate")
+            }
             ConflictError::Memory => f.write_str("out of memory"),
         }
     }
@@ -54,7 +95,7 @@ impl fmt::Display for ConflictError {
 impl Error for ConflictError {
     fn source(&self) -> Option<&(dyn Error + 'static)> {
         match self {
-            ConflictError::First(refusal) | ConflictError::Second(refusal) => Some(refusal),
+            ConflictError::Input(_, refusal) => Some(refusal),
             _ => None,
         }
     }
@@ -67,13 +108,16 @@ impl Error for ConflictError {
 /// To sign two values is a fault only where both are for one slot (a height and a view, say):
 /// honest members sign many values, one a slot.
 ///
+/// The library goes over both encodings again, in place, and over both twice where it names more
+/// than 128; the memory is that of the indices.
+///
 /// # Warning
 ///
 /// No signature is looked at. Whoever doesn't verify them first may accuse an innocent member.
 ///
 /// # Errors
 ///
-/// Why no one is named; neither `First` nor `Second`, since both certificates were read.
+/// Why no one is named; not `Input`, since both certificates were read.
 ///
 /// ```
 /// use commonware_proved::{CertificateBuf, CommitteeBuf, FaultModel, conflict};
@@ -91,13 +135,19 @@ pub fn conflict(
     first: &Certificate<'_>,
     second: &Certificate<'_>,
 ) -> Result<Vec<u32>, ConflictError> {
-    let most = first.signers().len().min(second.signers().len());
-    let inputs = [first.as_bytes(), second.as_bytes()];
-    named(model, committee.count(), inputs, most)
+    conflict_encoded(
+        model,
+        committee.count(),
+        first.as_bytes(),
+        second.as_bytes(),
+    )
 }
 
 /// Returns the indices that [`conflict`] does, for two inputs that are certificates, and a
 /// committee of `members` members, whose keys may have any size.
+///
+/// The library goes over both inputs, in place, and over both twice where it names more than 128.
+/// The memory is that of the indices, and is taken once it is known how many they are.
 ///
 /// # Warning
 ///
@@ -121,43 +171,5 @@ pub fn conflict_encoded(
     first: &[u8],
     second: &[u8],
 ) -> Result<Vec<u32>, ConflictError> {
-    // Each signer takes at least one byte, in both.
-    let most = first.len().min(second.len()).min(members as usize);
-    named(model, members, [first, second], most)
-}
-
-/// Returns the members that signed both inputs, of whom there are at most this number.
-fn named(
-    model: FaultModel,
-    members: u32,
-    [first, second]: [&[u8]; 2],
-    most: usize,
-) -> Result<Vec<u32>, ConflictError> {
-    let mut named = zeros(most).ok_or(ConflictError::Memory)?;
-    // SAFETY: each pointer and the length after it are those of one slice; `named` is a new one.
-    let view = unsafe {
-        raw::commonware_conflict(
-            model.k(),
-            members,
-            first.as_ptr(),
-            first.len(),
-            second.as_ptr(),
-            second.len(),
-            named.as_mut_ptr(),
-            named.len(),
-        )
-    };
-    Err(match (view.status, view.which) {
-        (status::OK, _) => {
-            named.truncate(view.count);
-            return Ok(named);
-        }
-        (status::NO_MEMBERS, _) => ConflictError::NoMembers,
-        (status::SAME_VALUE, _) => ConflictError::SameValue,
-        (status::OUTSIDE, _) => ConflictError::Outside,
-        (status::TOO_FEW, _) => ConflictError::TooFew,
-        (status, 1) => ConflictError::First(Refusal::of(status, view.number)),
-        (status, 2) => ConflictError::Second(Refusal::of(status, view.number)),
-        (status, _) => unreachable!("with enough space no conflict returns status {status}"),
-    })
+    named(raw::commonware_conflict, model, members, [first, second]).map_err(ConflictError::of)
 }

@@ -1,13 +1,14 @@
 //! The members that signed two different decisions for one slot.
 
-use crate::room::zeros;
-use crate::{Certificate, Committee, EncodeError, FaultModel, Refusal, raw, status};
+use crate::named::named;
+use crate::room::{trimmed, zeros};
+use crate::{Certificate, Committee, EncodeError, FaultModel, Refusal, Which, raw, status};
 use alloc::vec::Vec;
 use core::error::Error;
 use core::fmt;
 
 /// Why two certificates prove no equivocation. Where several reasons hold, it is the first of
-/// these.
+/// these, and where one holds of both certificates, that of the first.
 ///
 /// ```
 /// use commonware_proved::{Certificate, EquivocationError, FaultModel};
@@ -25,44 +26,93 @@ use core::fmt;
 pub enum EquivocationError {
     /// The committee has no members.
     NoMembers,
-    /// The first input isn't exactly one certificate.
-    First(Refusal),
-    /// The second input isn't exactly one certificate.
-    Second(Refusal),
-    /// The value of one of them has no slot.
-    NoSlot,
+    /// This input isn't exactly one certificate.
+    Input(Which, Refusal),
+    /// The value of this one has no slot.
+    NoSlot(Which),
     /// The values are for two different slots, of which honest members may sign both.
     OtherSlot,
     /// The values are the same decision for the same slot.
     SameDecision,
-    /// A signer of one of them is no member.
-    Outside,
-    /// Fewer than a quorum signed one of them.
-    TooFew,
+    /// A signer of this one is no member.
+    Outside(Which),
+    /// Fewer than a quorum signed this one.
+    TooFew(Which),
     /// An allocation failed. This says nothing of the certificates.
     Memory,
 }
 
+impl EquivocationError {
+    /// Returns the certificate that the error is about, or `None` where it is about neither alone.
+    ///
+    /// ```
+    /// # use commonware_proved::{EquivocationError, Which};
+    /// assert_eq!(EquivocationError::NoSlot(Which::Second).which(), Some(Which::Second));
+    /// assert_eq!(EquivocationError::OtherSlot.which(), None);
+    /// ```
+    #[must_use]
+    pub fn which(&self) -> Option<Which> {
+        match *self {
+            EquivocationError::Input(which, _)
+            | EquivocationError::NoSlot(which)
+            | EquivocationError::Outside(which)
+            | EquivocationError::TooFew(which) => Some(which),
+            EquivocationError::NoMembers
+            | EquivocationError::OtherSlot
+            | EquivocationError::SameDecision
+            | EquivocationError::Memory => None,
+        }
+    }
+
+    /// Returns the error of what the library says, or of a failed allocation where that is `None`.
+    fn of(view: Option<raw::ConflictView>) -> EquivocationError {
+        let Some(view) = view else {
+            return EquivocationError::Memory;
+        };
+        match (view.status, view.which) {
+            (status::NO_MEMBERS, _) => EquivocationError::NoMembers,
+            (status::NO_SLOT, which) => EquivocationError::NoSlot(Which::of(which)),
+            (status::OTHER_SLOT, _) => EquivocationError::OtherSlot,
+            (status::SAME_VALUE, _) => EquivocationError::SameDecision,
+            (status::OUTSIDE, which) => EquivocationError::Outside(Which::of(which)),
+            (status::TOO_FEW, which) => EquivocationError::TooFew(Which::of(which)),
+            (status, which) => {
+                EquivocationError::Input(Which::of(which), Refusal::of(status, view.number))
+            }
+        }
+    }
+}
+
 impl fmt::Display for EquivocationError {
     fn fmt(&self, f: &mut fmt::Formatter<'_>) -> fmt::Result {
-        f.write_str(match self {
-            EquivocationError::NoMembers => "the committee has no members",
-            EquivocationError::First(_) => "the first certificate can't be read",
-            EquivocationError::Second(_) => "the second certificate can't be read",
-            EquivocationError::NoSlot => "a value without a slot",
-            EquivocationError::OtherSlot => "two different slots",
-            EquivocationError::SameDecision => "the same decision for the same slot",
-            EquivocationError::Outside => "a signer is no member of the committee",
-            EquivocationError::TooFew => "fewer signers than a quorum",
-            EquivocationError::Memory => "out of memory",
-        })
+        match self {
+            EquivocationError::NoMembers => f.write_str("the committee has no members"),
+            EquivocationError::Input(which, _) => {
+                write!(f, "the {which} certificate can't be read")
+            }
+            EquivocationError::NoSlot(which) => {
+                write!(f, "the value of the {which} certificate has no slot")
+            }
+            EquivocationError::OtherSlot => f.write_str("two different slots"),
+            EquivocationError::SameDecision => f.write_str("the same decision for the same slot"),
+            EquivocationError::Outside(which) => {
+                write!(
+                    f,
+                    "a signer of the {which} certificate is no member of the committee"
+                )
+            }
+            EquivocationError::TooFew(which) => {
+                write!(f, "fewer signers than a quorum in the {which} certificate")
+            }
+            EquivocationError::Memory => f.write_str("out of memory"),
+        }
     }
 }
 
 impl Error for EquivocationError {
     fn source(&self) -> Option<&(dyn Error + 'static)> {
         match self {
-            EquivocationError::First(refusal) | EquivocationError::Second(refusal) => Some(refusal),
+            EquivocationError::Input(_, refusal) => Some(refusal),
             _ => None,
         }
     }
@@ -74,13 +124,16 @@ impl Error for EquivocationError {
 /// outside every set of f members. No honest member is among them, if honest members sign at most
 /// one decision a slot.
 ///
+/// The library goes over both encodings again, in place, and over both twice where it names more
+/// than 128; the memory is that of the indices.
+///
 /// # Warning
 ///
 /// No signature is looked at. Whoever doesn't verify them first may accuse an innocent member.
 ///
 /// # Errors
 ///
-/// Why no one is named; neither `First` nor `Second`, since both certificates were read.
+/// Why no one is named; not `Input`, since both certificates were read.
 ///
 /// ```
 /// use commonware_proved::{CertificateBuf, CommitteeBuf, FaultModel, equivocation, slot_value};
@@ -98,13 +151,19 @@ pub fn equivocation(
     first: &Certificate<'_>,
     second: &Certificate<'_>,
 ) -> Result<Vec<u32>, EquivocationError> {
-    let most = first.signers().len().min(second.signers().len());
-    let inputs = [first.as_bytes(), second.as_bytes()];
-    named(model, committee.count(), inputs, most)
+    equivocation_encoded(
+        model,
+        committee.count(),
+        first.as_bytes(),
+        second.as_bytes(),
+    )
 }
 
 /// Returns the indices that [`equivocation`] does, for two inputs that are certificates, and a
 /// committee of `members` members, whose keys may have any size.
+///
+/// The library goes over both inputs, in place, and over both twice where it names more than 128.
+/// The memory is that of the indices, and is taken once it is known how many they are.
 ///
 /// # Warning
 ///
@@ -128,47 +187,8 @@ pub fn equivocation_encoded(
     first: &[u8],
     second: &[u8],
 ) -> Result<Vec<u32>, EquivocationError> {
-    // Each signer takes at least one byte, in both.
-    let most = first.len().min(second.len()).min(members as usize);
-    named(model, members, [first, second], most)
-}
-
-/// Returns the members that signed both inputs, of whom there are at most this number.
-fn named(
-    model: FaultModel,
-    members: u32,
-    [first, second]: [&[u8]; 2],
-    most: usize,
-) -> Result<Vec<u32>, EquivocationError> {
-    let mut named = zeros(most).ok_or(EquivocationError::Memory)?;
-    // SAFETY: each pointer and the length after it are those of one slice; `named` is a new one.
-    let view = unsafe {
-        raw::commonware_equivocation(
-            model.k(),
-            members,
-            first.as_ptr(),
-            first.len(),
-            second.as_ptr(),
-            second.len(),
-            named.as_mut_ptr(),
-            named.len(),
-        )
-    };
-    Err(match (view.status, view.which) {
-        (status::OK, _) => {
-            named.truncate(view.count);
-            return Ok(named);
-        }
-        (status::NO_MEMBERS, _) => EquivocationError::NoMembers,
-        (status::NO_SLOT, _) => EquivocationError::NoSlot,
-        (status::OTHER_SLOT, _) => EquivocationError::OtherSlot,
-        (status::SAME_VALUE, _) => EquivocationError::SameDecision,
-        (status::OUTSIDE, _) => EquivocationError::Outside,
-        (status::TOO_FEW, _) => EquivocationError::TooFew,
-        (status, 1) => EquivocationError::First(Refusal::of(status, view.number)),
-        (status, 2) => EquivocationError::Second(Refusal::of(status, view.number)),
-        (status, _) => unreachable!("with enough space no equivocation has status {status}"),
-    })
+    let judge = raw::commonware_equivocation;
+    named(judge, model, members, [first, second]).map_err(EquivocationError::of)
 }
 
 /// Returns the value that a decision for a slot is, which members sign: the slot's length, the
@@ -198,6 +218,5 @@ pub fn slot_value(slot: &[u8], decision: &[u8]) -> Result<Vec<u8>, EncodeError> 
     if view.status != status::OK {
         return Err(EncodeError::of(view.status, view.number));
     }
-    out.truncate(view.size);
-    Ok(out)
+    Ok(trimmed(out, view.size))
 }

@@ -5,7 +5,7 @@ use core::fmt;
 
 /// A fault model of a resilience `n >= kf + 1`: of n participants f may be faulty, where f is the
 /// greatest number that fits. It is the greatest for which any two quorums, of n - f each, share
-/// (k - 2)f + 1 participants. Models are in the order of their k: a greater one lets fewer be
+/// (k - 2)f + 1 participants. Models are in the order of their k: a greater one lets no more be
 /// faulty.
 ///
 /// ```

@@ -31,7 +31,8 @@
 //! map and a bimap alike, `get` returns the key at an index and `position` the index of a key;
 //! `value` the value at an index and `get_value` that of a key; `position_of_value` and `get_key`
 //! of a bimap go the other way. `as_bytes` is the whole encoding, whatever the type. The views are
-//! borrowed from it; the types whose names end in `Buf` own it, and have the views by `as_view`.
+//! borrowed from it; the types whose names end in `Buf` own it, have the views by `as_view`, and
+//! give it away by `into_bytes`.
 //!
 //! # What is proved, and what isn't
 //!
@@ -50,15 +51,21 @@
 //!
 //! # Linking
 //!
-//! The build script links `libcommonware.a`, which is for x86-64 Linux: that of the folder whose
-//! absolute path the environment variable `COMMONWARE_C_LIB` has, else that of
-//! `prebuilt/x86_64-linux` beside the crate's folder. The text `PROVED` beside it says which version
-//! it is and of which sources. Another major version than the crate's is an error, and so are, in a
-//! clone of the repository, other sources than those that are there.
+//! The build script links `libcommonware.a`, which is for Linux on processors of x86-64-v2 or later
+//! (its instructions go up to SSE4.1): that of the folder whose absolute path the environment
+//! variable `COMMONWARE_C_LIB` has, else that of `prebuilt/x86_64-linux` beside the crate's folder.
+//! The text `PROVED` beside it says its version, its SHA-256 and of which sources it is. It is an
+//! error where the major version isn't the crate's, where the archive has another SHA-256, and in a
+//! clone of the repository where the sources that are there are others. Where the program
+//! `sha256sum` can't be run, a warning says so in place of the last two. A copy is linked, whose
+//! name has the first digits of the SHA-256, so that no other library is taken for it.
 //!
 //! # Memory
 //!
 //! No call panics or aborts: an allocation failure is an error, which says nothing of the input.
+//! An encoding is written into a room for the longest one. Where it takes under half of that, it is
+//! copied into just its own, and where there is no memory for the copy, it keeps the room.
+//!
 //! Only copies take their memory as `Vec` does: those of keys and pairs
 //! ([`SetView::to_owned_keys`], [`MapView::to_owned_pairs`], [`BiMapView::to_owned_pairs`]),
 //! `to_buf`, clones, and [`Certificate::into_signers`] of the view of a [`CertificateBuf`].
@@ -87,6 +94,7 @@ mod hex;
 mod items;
 mod limits;
 mod map;
+mod named;
 mod owned;
 mod raw;
 mod room;
@@ -95,7 +103,7 @@ mod status;
 mod version;
 
 pub use bimap::{BiMapError, BiMapView};
-pub use certificate::Certificate;
+pub use certificate::{Certificate, CertificateLimits};
 pub use check::{CheckError, Checked, check, check_encoded};
 pub use committee::{Committee, MEMBER_SIZE, Member};
 pub use conflict::{ConflictError, conflict, conflict_encoded};
@@ -104,6 +112,7 @@ pub use error::{EncodeError, Refusal};
 pub use faults::FaultModel;
 pub use items::{Items, Pairs};
 pub use map::MapView;
+pub use named::Which;
 pub use owned::{BiMapBuf, CertificateBuf, CommitteeBuf, MapBuf, SetBuf};
 pub use set::{Set, SetView};
 pub use version::{Version, version};

@@ -4,7 +4,7 @@ use crate::error::whole;
 use crate::hex::HexPairs;
 use crate::items::{Column, Items, Pairs};
 use crate::limits::limits;
-use crate::room::zeros;
+use crate::room::{trimmed, zeros};
 use crate::{EncodeError, MapBuf, Refusal, SetView, raw, status};
 use alloc::vec::Vec;
 use core::fmt;
@@ -366,10 +366,7 @@ fn encoded(
         write(key_size, value_size, from, length, room, most)
     };
     match view.status {
-        status::OK => {
-            out.truncate(view.size);
-            Ok(out)
-        }
+        status::OK => Ok(trimmed(out, view.size)),
         status::REPEATED_KEY => Err(repeated_key(key_size, value_size, pairs, view.number)),
         status => Err(EncodeError::of(status, view.number)),
     }

@@ -89,6 +89,18 @@ pub struct CheckView {
 pub type MapWrite =
     unsafe extern "C" fn(usize, usize, *const u8, usize, *mut u8, usize) -> WrittenView;
 
+/// A call that judges two certificates: the k, the number of members, both inputs, and the room.
+pub type Judge = unsafe extern "C" fn(
+    u32,
+    u32,
+    *const u8,
+    usize,
+    *const u8,
+    usize,
+    *mut u32,
+    usize,
+) -> ConflictView;
+
 unsafe extern "C" {
     // These take numbers only, and return a number for each.
     pub safe fn commonware_max_faults(k: u32, n: u32) -> u32;

@@ -4,7 +4,7 @@ use crate::error::whole;
 use crate::hex::HexItems;
 use crate::items::{Column, Items};
 use crate::limits::limits;
-use crate::room::zeros;
+use crate::room::{trimmed, zeros};
 use crate::{EncodeError, Refusal, SetBuf, raw, status};
 use alloc::vec::Vec;
 use core::ops::RangeBounds;
@@ -110,8 +110,7 @@ impl<'a> SetView<'a> {
         if view.status != status::OK {
             return Err(EncodeError::of(view.status, view.number));
         }
-        out.truncate(view.size);
-        Ok(out)
+        Ok(trimmed(out, view.size))
     }
 
     /// Returns the set that is encoded by these bytes, and whose keys are there.

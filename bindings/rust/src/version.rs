@@ -13,6 +13,7 @@ use core::fmt;
 /// assert_eq!(newer.to_string(), "1.10.0");
 /// ```
 #[derive(Clone, Copy, Debug, PartialEq, Eq, PartialOrd, Ord, Hash)]
+#[non_exhaustive]
 pub struct Version {
     /// The number that rises where a call has another meaning than before, or is gone.
     pub major: u32,

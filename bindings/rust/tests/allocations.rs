@@ -2,10 +2,10 @@
 //! each allocation failure is an error.
 
 use commonware_proved::{
-    BiMapBuf, BiMapError, BiMapView, Certificate, CertificateBuf, Committee, CommitteeBuf,
-    ConflictError, EncodeError, EquivocationError, FaultModel, MapBuf, MapView, Refusal, Set,
-    SetBuf, SetView, check, conflict, conflict_encoded, equivocation, equivocation_encoded,
-    slot_value,
+    BiMapBuf, BiMapError, BiMapView, Certificate, CertificateBuf, CertificateLimits, Committee,
+    CommitteeBuf, ConflictError, EncodeError, EquivocationError, FaultModel, MapBuf, MapView,
+    Refusal, Set, SetBuf, SetView, Which, check, conflict, conflict_encoded, equivocation,
+    equivocation_encoded, slot_value,
 };
 use std::alloc::{GlobalAlloc, Layout, System};
 use std::cell::Cell;
@@ -81,12 +81,20 @@ fn refuse_each<T, E: PartialEq + std::fmt::Debug>(
     unreachable!("some run has no request refused")
 }
 
+/// Returns the limits of these lengths.
+fn limits(value_bytes: usize, signers: usize) -> CertificateLimits {
+    CertificateLimits {
+        value_bytes,
+        signers,
+    }
+}
+
 /// The input is refused so by each reader of a certificate, of which none asks for memory.
 fn is_refused_for_nothing(input: Vec<u8>, refusal: Refusal) {
     let (result, bytes) = counted(|| Certificate::decode(&input).map(drop));
     assert_eq!((result, bytes), (Err(refusal), 0));
     if !matches!(refusal, Refusal::LeftOver(_)) {
-        let read = || Certificate::read(&input, usize::MAX, usize::MAX).map(drop);
+        let read = || Certificate::read(&input, CertificateLimits::NONE).map(drop);
         assert_eq!(counted(read), (Err(refusal), 0));
     }
     let (result, bytes) = counted(|| CertificateBuf::decode(input).map(drop));
@@ -115,9 +123,9 @@ fn a_refused_certificate_asks_for_no_memory() {
     is_refused_for_nothing(changed, Refusal::NotStrict);
     let longer = [&whole[..], &[0; 9]].concat();
     is_refused_for_nothing(longer, Refusal::LeftOver(9));
-    let read = || Certificate::read(&whole, 999, 300).map(drop);
+    let read = || Certificate::read(&whole, limits(999, 300)).map(drop);
     assert_eq!(counted(read), (Err(Refusal::InvalidLength(1_000)), 0));
-    let read = || Certificate::read(&whole, 1_000, 299).map(drop);
+    let read = || Certificate::read(&whole, limits(1_000, 299)).map(drop);
     assert_eq!(counted(read), (Err(Refusal::InvalidLength(300)), 0));
 }
 
@@ -127,7 +135,7 @@ fn a_certificate_asks_for_its_indices_alone() {
     let (certificate, asked) = counted(|| Certificate::decode(&bytes).expect("a certificate"));
     assert_eq!((certificate.signers(), asked), (&[0, 5, 9][..], 12));
     let longer = [&bytes[..], &[1; 1 << 20]].concat();
-    let read = || Certificate::read(&longer, 1 << 20, 1_000_000).expect("a certificate");
+    let read = || Certificate::read(&longer, limits(1 << 20, 1_000_000)).expect("a certificate");
     let ((read, rest), asked) = counted(read);
     assert_eq!(
         (read == certificate, rest.len(), asked),
@@ -171,7 +179,7 @@ fn sets_and_maps_ask_for_nothing_and_bimaps_for_their_indices() {
 }
 
 #[test]
-fn those_named_ask_for_the_shorter_list_at_most() {
+fn those_named_ask_for_their_indices_alone() {
     let committee = CommitteeBuf::from_keys(&[0, 1, 2, 3].map(|i| [i; 32])).expect("members");
     let (committee, model) = (committee.as_view(), FaultModel::N3F1);
     let value = |decision: u8| slot_value(&[7; 1_000], &[decision]).expect("a value");
@@ -188,9 +196,117 @@ fn those_named_ask_for_the_shorter_list_at_most() {
     assert_eq!(counted(call), (Ok(3), 0));
     let (one, two) = (first.as_bytes(), second.as_bytes());
     let call = || conflict_encoded(model, 4, one, two).map(|named| named.len());
-    assert_eq!(counted(call), (Ok(3), 16));
+    assert_eq!(counted(call), (Ok(3), 12));
     let call = || equivocation_encoded(model, 4, one, two).map(|named| named.len());
-    assert_eq!(counted(call), (Ok(3), 16));
+    assert_eq!(counted(call), (Ok(3), 12));
+}
+
+#[test]
+fn those_named_are_the_same_about_the_number_that_one_call_finds() {
+    for count in [1, 127, 128, 129, 300, 5_000] {
+        // At a k of 2 a quorum of 2c + 3 members is c + 2, and these two share c.
+        let members = 2 * count + 3;
+        let signers = [0..count + 2, 2..members].map(Vec::from_iter);
+        let inputs = [(b"A", &signers[0]), (b"B", &signers[1])];
+        let inputs = inputs.map(|(decision, signers)| {
+            Certificate::encode(&slot_value(b"7", decision).expect("a value"), signers)
+        });
+        let [one, two] = inputs.map(|input| input.expect("a certificate"));
+        let model = FaultModel::new(2).expect("a model");
+        let both: Vec<u32> = (2..count + 2).collect();
+        let asked = 4 * both.len();
+        let call = || conflict_encoded(model, members, &one, &two);
+        assert_eq!(counted(call), (Ok(both.clone()), asked), "{count}");
+        let call = || equivocation_encoded(model, members, &one, &two);
+        assert_eq!(counted(call), (Ok(both), asked), "{count}");
+    }
+}
+
+/// The inputs name no one in a committee of a number of members, and no call asks for memory.
+fn name_no_one_for_nothing(members: u32, inputs: [&[u8]; 2], expected: ConflictError) {
+    let [one, two] = inputs;
+    let model = FaultModel::N3F1;
+    let call = || conflict_encoded(model, members, one, two);
+    assert_eq!(counted(call), (Err(expected), 0));
+    let (result, asked) = counted(|| equivocation_encoded(model, members, one, two).map(drop));
+    assert_eq!((result.is_err(), asked), (true, 0), "{expected}");
+}
+
+#[test]
+fn inputs_that_name_no_one_ask_for_no_memory() {
+    let garbage = vec![0xff; 64 << 20];
+    let varint = Refusal::InvalidVarint;
+    let first = ConflictError::Input(Which::First, varint);
+    name_no_one_for_nothing(u32::MAX, [&garbage, &garbage], first);
+    let signers: Vec<u32> = (0..70_000).collect();
+    let [one, two] = [b"A", b"B"].map(|decision| {
+        let value = slot_value(b"7", decision).expect("a value");
+        Certificate::encode(&value, &signers).expect("a certificate")
+    });
+    let second = ConflictError::Input(Which::Second, varint);
+    name_no_one_for_nothing(u32::MAX, [&one, &garbage], second);
+    name_no_one_for_nothing(70_000, [&one, &one], ConflictError::SameValue);
+    let outside = ConflictError::Outside(Which::First);
+    name_no_one_for_nothing(69_999, [&one, &two], outside);
+    let few = ConflictError::TooFew(Which::First);
+    name_no_one_for_nothing(u32::MAX, [&one, &two], few);
+    name_no_one_for_nothing(0, [&one, &two], ConflictError::NoMembers);
+}
+
+/// A result has no more than twice the memory that it takes.
+fn is_trimmed(what: &str, result: Result<Vec<u8>, EncodeError>) {
+    let bytes = result.expect("it is written");
+    let most = 2 * bytes.len();
+    assert!(
+        bytes.capacity() <= most,
+        "{what}: {} of {}",
+        bytes.len(),
+        bytes.capacity()
+    );
+}
+
+#[test]
+fn results_keep_no_more_than_twice_their_memory() {
+    for count in [0, 1, 2, 3, 100, 70_000usize] {
+        let keys = vec![[7; 32]; count];
+        is_trimmed("committee", Committee::encode(&keys));
+        is_trimmed(
+            "committee",
+            CommitteeBuf::from_keys(&keys).map(CommitteeBuf::into_bytes),
+        );
+        is_trimmed("set", Set::encode(&keys));
+        is_trimmed("set", SetView::encode(32, keys.as_flattened()));
+        is_trimmed("set", SetBuf::from_keys(32, &keys).map(SetBuf::into_bytes));
+        is_trimmed("map", MapView::encode(31, 1, keys.as_flattened()));
+        let signers: Vec<u32> = (0..count as u32).collect();
+        is_trimmed("certificate", Certificate::encode(b"x", &signers));
+        let owned = CertificateBuf::from_parts(b"", &signers);
+        is_trimmed("certificate", owned.map(CertificateBuf::into_bytes));
+        is_trimmed("value", slot_value(&vec![7; count], b""));
+    }
+    is_trimmed("map", MapView::encode_unique(1, 1, &[]));
+    let none: [([u8; 1], [u8; 1]); 0] = [];
+    is_trimmed(
+        "map",
+        MapBuf::from_pairs(1, 1, none).map(MapBuf::into_bytes),
+    );
+    is_trimmed(
+        "bimap",
+        BiMapBuf::from_pairs(1, 1, none).map(BiMapBuf::into_bytes),
+    );
+}
+
+#[test]
+fn a_result_keeps_its_room_where_there_is_no_memory_for_less() {
+    let signers: Vec<u32> = (0..100).collect();
+    REQUESTS.set(0);
+    ALLOWED.set(1);
+    let result = Certificate::encode(b"x", &signers);
+    ALLOWED.set(usize::MAX);
+    let bytes = result.expect("it is written");
+    // The length of the value, its byte, the number of signers, and one byte for each.
+    assert_eq!((bytes.len(), bytes.capacity()), (103, 10 + 1 + 500));
+    assert_eq!(bytes[..4], [1, b'x', 100, 0]);
 }
 
 #[test]
@@ -198,7 +314,7 @@ fn each_allocation_failure_of_a_reader_is_an_error() {
     let certificate = Certificate::encode(b"x", &[1, 2]).expect("a certificate");
     let decode = || Certificate::decode(&certificate);
     assert_eq!(refuse_each(&Refusal::Memory, decode), 1);
-    let read = || Certificate::read(&certificate, 9, 9);
+    let read = || Certificate::read(&certificate, limits(9, 9));
     assert_eq!(refuse_each(&Refusal::Memory, read), 1);
     let bimap = [2, 5, 7, 2, 0, 1];
     let memory = BiMapError::Refused(Refusal::Memory);

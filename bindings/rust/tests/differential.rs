@@ -10,7 +10,8 @@ use common::naive::{
 use common::random::{Random, some_keys, some_parts, spoil};
 use common::seen::{Seen, name};
 use commonware_proved::{
-    Certificate, Committee, ConflictError, FaultModel, Member, Refusal, conflict, conflict_encoded,
+    Certificate, CertificateLimits, Committee, ConflictError, FaultModel, Member, Refusal, Which,
+    conflict, conflict_encoded,
 };
 use std::collections::BTreeSet;
 
@@ -128,7 +129,11 @@ fn certificates_are_read_as_by_the_naive_reader() {
             1 => (random.below(3), random.below(100)),
             _ => (32, 256),
         };
-        let ours = Certificate::read(&bytes, most_bytes, most_signers);
+        let limits = CertificateLimits {
+            value_bytes: most_bytes,
+            signers: most_signers,
+        };
+        let ours = Certificate::read(&bytes, limits);
         let naive = read_parts(&bytes, most_bytes, most_signers);
         match (ours, naive) {
             (Ok((certificate, rest)), Ok((value, signers, left))) => {
@@ -207,7 +212,7 @@ fn conflict_of_read(
     pair: &[Vec<u8>; 2],
 ) -> Option<Result<Vec<u32>, ConflictError>> {
     let longer = pair.each_ref().map(|bytes| [bytes, &[7, 7][..]].concat());
-    let [first, second] = [0, 1].map(|i| Certificate::read(&longer[i], usize::MAX, usize::MAX));
+    let [first, second] = [0, 1].map(|i| Certificate::read(&longer[i], CertificateLimits::NONE));
     let ((first, more), (second, others)) = (first.ok()?, second.ok()?);
     let is_one = more == [7, 7] && others == [7, 7];
     is_one.then(|| conflict(model, committee, &first, &second))
@@ -243,22 +248,28 @@ fn conflicts_are_those_of_the_naive_search() {
             }
             if let Ok(accused) = &ours {
                 let f = model.max_faults(members as u32).unwrap();
-                assert_eq!(committee.max_faults(model), Some(f));
+                let smaller = committee.smaller_quorum(model);
+                assert_eq!(
+                    (committee.max_faults(model), smaller),
+                    (Some(f), Some(2 * f + 1))
+                );
                 assert!(accused.len() > ((k - 2) * f) as usize);
             }
             seen.note(match ours {
                 Ok(_) => "ok",
-                Err(ConflictError::First(_)) => "first",
-                Err(ConflictError::Second(_)) => "second",
+                Err(ConflictError::Input(Which::First, _)) => "first",
+                Err(ConflictError::Input(Which::Second, _)) => "second",
                 Err(ConflictError::NoMembers) => "none",
                 Err(ConflictError::SameValue) => "same",
-                Err(ConflictError::Outside) => "outside",
-                Err(ConflictError::TooFew) => "few",
+                Err(ConflictError::Outside(Which::First)) => "first outside",
+                Err(ConflictError::Outside(Which::Second)) => "second outside",
+                Err(ConflictError::TooFew(Which::First)) => "first few",
+                Err(ConflictError::TooFew(Which::Second)) => "second few",
                 Err(other) => panic!("{other}"),
             });
         }
     }
-    seen.assert_each(8, 200);
+    seen.assert_each(10, 200);
 }
 
 #[test]
@@ -332,7 +343,10 @@ fn an_empty_input_ends_too_soon() {
     assert_eq!(Committee::encode(&[]), Ok(vec![0]));
     assert_eq!(Certificate::encode(&[], &[]), Ok(vec![0, 0]));
     let refused = conflict_encoded(FaultModel::N3F1, 1, &[], &[]);
-    assert_eq!(refused, Err(ConflictError::First(Refusal::EndOfInput)));
+    assert_eq!(
+        refused,
+        Err(ConflictError::Input(Which::First, Refusal::EndOfInput))
+    );
 }
 
 #[test]
@@ -353,5 +367,8 @@ fn bytes_left_over_are_counted() {
         Err(Refusal::LeftOver(1))
     );
     let second = conflict_encoded(FaultModel::N3F1, 1, &[0, 1, 0], &[1, 7, 1, 0, 9]);
-    assert_eq!(second, Err(ConflictError::Second(Refusal::LeftOver(1))));
+    assert_eq!(
+        second,
+        Err(ConflictError::Input(Which::Second, Refusal::LeftOver(1)))
+    );
 }

@@ -9,8 +9,8 @@ use common::naive::{certificate_bytes, committee_bytes, encode_parts, varint};
 use common::random::{Random, some_keys, some_parts, spoil};
 use common::seen::Seen;
 use commonware_proved::{
-    BiMapBuf, BiMapError, BiMapView, Certificate, CertificateBuf, Committee, CommitteeBuf,
-    EncodeError, MapBuf, MapView, Refusal, Set, SetBuf, SetView,
+    BiMapBuf, BiMapError, BiMapView, Certificate, CertificateBuf, CertificateLimits, Committee,
+    CommitteeBuf, EncodeError, MapBuf, MapView, Refusal, Set, SetBuf, SetView,
 };
 use std::collections::{BTreeMap, BTreeSet, HashMap};
 
@@ -252,6 +252,8 @@ fn certificates_of_parts_have_what_their_view_has() {
                 assert_eq!(owned.as_view().signers(), signers);
                 assert_eq!(owned.as_view().into_signers(), signers);
                 assert_eq!(CertificateBuf::decode(bytes.clone()).as_ref(), Ok(&owned));
+                assert_eq!(owned.clone().into_signers(), signers);
+                assert_eq!((owned.as_bytes(), owned.as_ref()), (&bytes[..], &bytes[..]));
                 assert_eq!(owned.into_bytes(), bytes);
                 seen.note("ok");
             }
@@ -271,19 +273,26 @@ fn certificates_of_parts_have_what_their_view_has() {
     seen.assert_each(2, cases() / 500);
 }
 
+/// The owned form has these bytes, borrowed and moved.
+fn has_bytes<T: AsRef<[u8]>>(owned: T, into_bytes: impl Fn(T) -> Vec<u8>, bytes: &[u8]) {
+    assert_eq!(owned.as_ref(), bytes);
+    assert_eq!(into_bytes(owned), bytes);
+}
+
 #[test]
 fn an_owned_form_of_a_read_one_has_its_own_bytes_alone() {
     let bytes = [&[1][..], &[9; 32], &[1, 7, 5]].concat();
     let (committee, _) = Committee::read(&bytes, ..).expect("a committee");
-    assert_eq!(committee.to_buf().into_bytes(), &bytes[..33]);
+    has_bytes(committee.to_buf(), CommitteeBuf::into_bytes, &bytes[..33]);
     let (map, _) = MapView::read(32, 1, &bytes, ..).expect("a map");
-    assert_eq!(map.to_buf().into_bytes(), &bytes[..35]);
-    assert_eq!(map.keys().to_buf().into_bytes(), &bytes[..33]);
+    has_bytes(map.to_buf(), MapBuf::into_bytes, &bytes[..35]);
+    has_bytes(map.keys().to_buf(), SetBuf::into_bytes, &bytes[..33]);
     let (bimap, _) = BiMapView::read(32, 1, &bytes, ..).expect("a bimap");
-    assert_eq!(bimap.to_buf().into_bytes(), &bytes[..35]);
+    has_bytes(bimap.to_buf(), BiMapBuf::into_bytes, &bytes[..35]);
     let input = [2, 8, 8, 1, 3, 9];
-    let (certificate, _) = Certificate::read(&input, 2, 1).expect("a certificate");
-    assert_eq!(certificate.to_buf().into_bytes(), [2, 8, 8, 1, 3]);
+    let (certificate, _) = Certificate::read(&input, CertificateLimits::NONE).expect("one");
+    let owned = certificate.to_buf();
+    has_bytes(owned, CertificateBuf::into_bytes, &[2, 8, 8, 1, 3]);
 }
 
 #[test]

@@ -9,8 +9,8 @@ mod raw;
 
 use common::naive::varint;
 use commonware_proved::{
-    BiMapError, BiMapView, Certificate, Committee, EncodeError, MEMBER_SIZE, MapView, Refusal, Set,
-    SetView,
+    BiMapError, BiMapView, Certificate, CertificateLimits, Committee, EncodeError, MEMBER_SIZE,
+    MapView, Refusal, Set, SetView,
 };
 
 /// Statuses of the library.
@@ -335,7 +335,11 @@ fn limits_of_a_certificate_hold_at_their_edges() {
                 (_, true) => Err(Refusal::InvalidLength(3)),
                 _ => Ok(3),
             };
-            let read = Certificate::read(&bytes, most_bytes, most_signers);
+            let limits = CertificateLimits {
+                value_bytes: most_bytes,
+                signers: most_signers,
+            };
+            let read = Certificate::read(&bytes, limits);
             let read = read.map(|(certificate, _)| certificate.signers().len());
             assert_eq!(read, result, "{most_bytes} {most_signers}");
         }

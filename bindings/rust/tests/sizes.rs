@@ -5,7 +5,8 @@
 mod naive;
 
 use commonware_proved::{
-    Certificate, Committee, ConflictError, FaultModel, Member, Refusal, conflict_encoded,
+    Certificate, CertificateLimits, Committee, ConflictError, FaultModel, Member, Refusal, Which,
+    conflict_encoded,
 };
 use naive::{accused, certificate_bytes, committee_bytes, encode_parts, read_members};
 
@@ -65,7 +66,11 @@ fn goes_both_ways(value: &[u8], signers: &[u32]) {
     assert!(written == encode_parts(value, signers), "{case:?}");
     let mut bytes = written.expect("it is written");
     bytes.extend([7; 3]);
-    let (read, rest) = Certificate::read(&bytes, value.len(), signers.len()).expect("it is read");
+    let limits = CertificateLimits {
+        value_bytes: value.len(),
+        signers: signers.len(),
+    };
+    let (read, rest) = Certificate::read(&bytes, limits).expect("it is read");
     assert!(
         read.value() == value && read.signers() == signers,
         "{case:?}"
@@ -74,7 +79,7 @@ fn goes_both_ways(value: &[u8], signers: &[u32]) {
     let whole = Certificate::try_from(&bytes[..]);
     assert_eq!(whole.err(), Some(Refusal::LeftOver(3)), "{case:?}");
     let shorter = &bytes[..bytes.len() - 4];
-    let refused = Certificate::read(shorter, usize::MAX, usize::MAX);
+    let refused = Certificate::read(shorter, CertificateLimits::NONE);
     assert_eq!(refused.err(), Some(Refusal::EndOfInput), "{case:?}");
 }
 
@@ -118,12 +123,12 @@ fn names_those_of_both(k: u32, members: u32, length: usize) {
         (
             &first,
             &two_quorums(length, members + 1, members)[1],
-            ConflictError::Outside,
+            ConflictError::Outside(Which::Second),
         ),
         (
             &first,
             &two_quorums(length, members, members - f - 1)[1],
-            ConflictError::TooFew,
+            ConflictError::TooFew(Which::Second),
         ),
     ];
     for (first, second, error) in refused {
@@ -135,7 +140,7 @@ fn names_those_of_both(k: u32, members: u32, length: usize) {
         assert_eq!(accused(k, members, first, second), Err(error), "{case:?}");
     }
     let shorter = &second[..second.len() - 1];
-    let ends = Err(ConflictError::Second(Refusal::EndOfInput));
+    let ends = Err(ConflictError::Input(Which::Second, Refusal::EndOfInput));
     assert_eq!(
         conflict_encoded(model, members, &first, shorter),
         ends,
@@ -175,9 +180,17 @@ fn each_proper_prefix_ends_too_soon() {
         let ends = Refusal::EndOfInput;
         assert_eq!(Certificate::try_from(prefix), Err(ends), "{end}");
         let refused = conflict_encoded(FaultModel::N3F1, EACH, first, prefix);
-        assert_eq!(refused, Err(ConflictError::Second(ends)), "{end}");
+        assert_eq!(
+            refused,
+            Err(ConflictError::Input(Which::Second, ends)),
+            "{end}"
+        );
         let refused = conflict_encoded(FaultModel::N3F1, EACH, prefix, first);
-        assert_eq!(refused, Err(ConflictError::First(ends)), "{end}");
+        assert_eq!(
+            refused,
+            Err(ConflictError::Input(Which::First, ends)),
+            "{end}"
+        );
     }
     let committee = Committee::encode(&keys_of(EACH)).unwrap();
     for end in 0..committee.len() {

@@ -7,7 +7,7 @@ use common::committee_of;
 use common::naive::{certificate_bytes, read_parts};
 use common::random::{Random, some_parts, spoil};
 use commonware_proved::{
-    Certificate, CheckError, EquivocationError, FaultModel, Refusal, check, check_encoded,
+    Certificate, CheckError, EquivocationError, FaultModel, Refusal, Which, check, check_encoded,
     equivocation, equivocation_encoded, slot_value,
 };
 use std::collections::BTreeMap;
@@ -68,22 +68,28 @@ fn equivocated(
     if members == 0 {
         return Err(EquivocationError::NoMembers);
     }
-    let (x, a) = exactly_one(first).map_err(EquivocationError::First)?;
-    let (y, b) = exactly_one(second).map_err(EquivocationError::Second)?;
-    let (Some((slot, decision)), Some((other, contrary))) = (slot_of(x), slot_of(y)) else {
-        return Err(EquivocationError::NoSlot);
-    };
+    let (x, a) =
+        exactly_one(first).map_err(|refusal| EquivocationError::Input(Which::First, refusal))?;
+    let (y, b) =
+        exactly_one(second).map_err(|refusal| EquivocationError::Input(Which::Second, refusal))?;
+    let (slot, decision) = slot_of(x).ok_or(EquivocationError::NoSlot(Which::First))?;
+    let (other, contrary) = slot_of(y).ok_or(EquivocationError::NoSlot(Which::Second))?;
     if slot != other {
         return Err(EquivocationError::OtherSlot);
     }
     if decision == contrary {
         return Err(EquivocationError::SameDecision);
     }
-    if a.iter().chain(&b).any(|signer| *signer >= members) {
-        return Err(EquivocationError::Outside);
+    let both = [(Which::First, &a), (Which::Second, &b)];
+    for (which, signers) in both {
+        if signers.iter().any(|signer| *signer >= members) {
+            return Err(EquivocationError::Outside(which));
+        }
     }
-    if a.len().min(b.len()) < quorum(k, members) {
-        return Err(EquivocationError::TooFew);
+    for (which, signers) in both {
+        if signers.len() < quorum(k, members) {
+            return Err(EquivocationError::TooFew(which));
+        }
     }
     Ok(a.into_iter().filter(|signer| b.contains(signer)).collect())
 }
@@ -166,13 +172,16 @@ fn equivocations_are_those_of_the_naive_search() {
                 let committee = committees[members as usize].as_view();
                 assert_eq!(equivocation(model, &committee, &first, &second), ours);
             }
-            let outcome = ours.map_or_else(|error| format!("{error:?}"), |_| "named".to_string());
-            *seen
-                .entry(outcome.split('(').next().unwrap().to_string())
-                .or_default() += 1;
+            let outcome = match ours {
+                Ok(_) => "named".to_string(),
+                Err(EquivocationError::Input(Which::First, _)) => "first".to_string(),
+                Err(EquivocationError::Input(Which::Second, _)) => "second".to_string(),
+                Err(error) => format!("{error:?}"),
+            };
+            *seen.entry(outcome).or_default() += 1;
         }
     }
-    assert_eq!(seen.len(), 9, "{seen:?}");
+    assert_eq!(seen.len(), 12, "{seen:?}");
     assert!(seen.values().all(|count| *count > 500), "{seen:?}");
 }
 

@@ -5,9 +5,10 @@
 mod raw;
 
 use commonware_proved::{
-    BiMapBuf, BiMapError, BiMapView, Certificate, CertificateBuf, CheckError, Checked, Committee,
-    CommitteeBuf, ConflictError, EncodeError, EquivocationError, FaultModel, Items, MEMBER_SIZE,
-    MapBuf, MapView, Pairs, Refusal, Set, SetBuf, SetView, Version, check_encoded, version,
+    BiMapBuf, BiMapError, BiMapView, Certificate, CertificateBuf, CertificateLimits, CheckError,
+    Checked, Committee, CommitteeBuf, ConflictError, EncodeError, EquivocationError, FaultModel,
+    Items, MEMBER_SIZE, MapBuf, MapView, Pairs, Refusal, Set, SetBuf, SetView, Version, Which,
+    check_encoded, version,
 };
 use std::collections::HashSet;
 use std::error::Error;
@@ -142,10 +143,18 @@ fn an_error_of_an_input_has_the_refusal_as_its_source() {
             "the first certificate can't be read",
             "the second certificate can't be read",
         );
-        says(ConflictError::First(refusal), first, inner);
-        says(ConflictError::Second(refusal), second, inner);
-        says(EquivocationError::First(refusal), first, inner);
-        says(EquivocationError::Second(refusal), second, inner);
+        says(ConflictError::Input(Which::First, refusal), first, inner);
+        says(ConflictError::Input(Which::Second, refusal), second, inner);
+        says(
+            EquivocationError::Input(Which::First, refusal),
+            first,
+            inner,
+        );
+        says(
+            EquivocationError::Input(Which::Second, refusal),
+            second,
+            inner,
+        );
     }
 }
 
@@ -163,20 +172,69 @@ fn each_reason_to_name_no_one_has_a_text_and_no_source() {
         "both certificates are for the same value",
         None,
     );
-    says(ConflictError::Outside, outside, None);
-    says(ConflictError::TooFew, few, None);
     says(ConflictError::Memory, "out of memory", None);
     says(EquivocationError::NoMembers, members, None);
-    says(EquivocationError::NoSlot, "a value without a slot", None);
     says(EquivocationError::OtherSlot, "two different slots", None);
     says(
         EquivocationError::SameDecision,
         "the same decision for the same slot",
         None,
     );
-    says(EquivocationError::Outside, outside, None);
-    says(EquivocationError::TooFew, few, None);
     says(EquivocationError::Memory, "out of memory", None);
+}
+
+#[test]
+fn an_error_says_which_certificate_it_is_about() {
+    for (which, word) in [(Which::First, "first"), (Which::Second, "second")] {
+        assert_eq!(which.to_string(), word);
+        let outside = format!("a signer of the {word} certificate is no member of the committee");
+        let few = format!("fewer signers than a quorum in the {word} certificate");
+        let slot = format!("the value of the {word} certificate has no slot");
+        says(ConflictError::Outside(which), &outside, None);
+        says(ConflictError::TooFew(which), &few, None);
+        says(EquivocationError::Outside(which), &outside, None);
+        says(EquivocationError::TooFew(which), &few, None);
+        says(EquivocationError::NoSlot(which), &slot, None);
+    }
+}
+
+#[test]
+fn each_error_about_one_certificate_tells_it_alone() {
+    for which in [Which::First, Which::Second] {
+        let refused = ConflictError::Input(which, Refusal::EndOfInput);
+        let errors = [
+            refused,
+            ConflictError::Outside(which),
+            ConflictError::TooFew(which),
+        ];
+        assert_eq!(errors.map(|error| error.which()), [Some(which); 3]);
+        let errors = [
+            EquivocationError::Input(which, Refusal::EndOfInput),
+            EquivocationError::NoSlot(which),
+            EquivocationError::Outside(which),
+            EquivocationError::TooFew(which),
+        ];
+        assert_eq!(errors.map(|error| error.which()), [Some(which); 4]);
+    }
+    let errors = [
+        ConflictError::NoMembers,
+        ConflictError::SameValue,
+        ConflictError::Memory,
+    ];
+    assert_eq!(errors.map(|error| error.which()), [None; 3]);
+    let errors = [
+        EquivocationError::NoMembers,
+        EquivocationError::OtherSlot,
+        EquivocationError::SameDecision,
+        EquivocationError::Memory,
+    ];
+    assert_eq!(errors.map(|error| error.which()), [None; 4]);
+}
+
+#[test]
+fn errors_about_two_certificates_are_three_words_at_most() {
+    let words = 3 * size_of::<usize>();
+    assert!(size_of::<ConflictError>() <= words && size_of::<EquivocationError>() <= words);
 }
 
 #[test]
@@ -262,6 +320,7 @@ fn the_library_has_the_major_version_of_the_crate() {
         major,
         minor,
         patch,
+        ..
     } = version();
     assert_eq!(number, 1_000_000 * major + 1_000 * minor + patch);
     assert!(minor < 1_000 && patch < 1_000, "{number}");
@@ -304,6 +363,8 @@ fn types_are_shared_printed_and_compared() {
     is_shared::<Checked<'_>>();
     is_shared::<FaultModel>();
     is_shared::<Version>();
+    is_shared::<CertificateLimits>();
+    is_shared::<Which>();
     is_error::<Refusal>();
     is_error::<EncodeError>();
     is_error::<BiMapError>();

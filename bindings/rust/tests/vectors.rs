@@ -1,7 +1,7 @@
 //! The vectors of certificates, and of sets and maps of bytes, at the repository's root: their
 //! results were worked out by hand.
 
-use commonware_proved::{Certificate, MapView, Refusal, SetView};
+use commonware_proved::{Certificate, CertificateLimits, MapView, Refusal, SetView};
 use std::fs;
 use std::path::{Path, PathBuf};
 
@@ -54,7 +54,7 @@ fn answer(result: Result<(usize, &[u8]), Refusal>) -> String {
     }
 }
 
-/// Returns the questions of a file, each as its words, and the answers to them.
+/// Returns the questions of a file that can be read, each as its words, and the answers to them.
 fn asked(name: &str) -> Vec<(Vec<String>, String)> {
     let questions = vectors(&format!("{name}.questions"));
     let answers = vectors(&format!("{name}.answers"));
@@ -62,7 +62,10 @@ fn asked(name: &str) -> Vec<(Vec<String>, String)> {
         .lines()
         .filter(|it| !it.is_empty() && !it.starts_with('#'));
     let words = questions.map(|it| it.split_whitespace().map(str::to_string).collect());
-    words.zip(answers.lines().map(str::to_string)).collect()
+    let asked = words.zip(answers.lines().map(str::to_string));
+    asked
+        .filter(|(_, answer)| !answer.starts_with("unreadable"))
+        .collect()
 }
 
 #[test]
@@ -107,7 +110,11 @@ fn certificates_are_decoded_as_the_vectors_say() {
         // The call takes no lower bounds.
         if let (Some(most_bytes), Some(most_signers)) = (most(value), most(signers)) {
             let input = bytes(input);
-            let result = Certificate::read(&input, most_bytes, most_signers);
+            let limits = CertificateLimits {
+                value_bytes: most_bytes,
+                signers: most_signers,
+            };
+            let result = Certificate::read(&input, limits);
             let result = result.map(|(it, rest)| (it.signers().len(), rest));
             assert_eq!(answer(result), expected, "{words:?}");
             tried += 1;

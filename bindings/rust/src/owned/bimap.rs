@@ -106,6 +106,19 @@ impl BiMapBuf {
         BiMapView::of(self.pairs.as_view(), Cow::Borrowed(&self.by_value))
     }
 
+    /// Returns the encoding.
+    ///
+    /// ```
+    /// # use commonware_proved::BiMapBuf;
+    /// let owned = BiMapBuf::from_pairs(1, 1, [(b"b", b"x"), (b"a", b"y")])?;
+    /// assert_eq!(owned.as_bytes(), b"\x02ab\x02yx");
+    /// # Ok::<(), commonware_proved::EncodeError>(())
+    /// ```
+    #[must_use]
+    pub fn as_bytes(&self) -> &[u8] {
+        self.pairs.as_bytes()
+    }
+
     /// Returns the encoding, which isn't copied.
     ///
     /// ```
@@ -135,6 +148,13 @@ fn given_index(pairs: &[u8], map: &MapBuf, index: usize) -> usize {
     let pairs = pairs.chunks_exact(map.key_size() + map.value_size());
     let others = pairs.take_while(|pair| Some(&pair[..map.key_size()]) != key);
     others.count()
+}
+
+/// The encoding.
+impl AsRef<[u8]> for BiMapBuf {
+    fn as_ref(&self) -> &[u8] {
+        self.as_bytes()
+    }
 }
 
 /// The pairs in hexadecimal.

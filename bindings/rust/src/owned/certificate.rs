@@ -85,6 +85,18 @@ impl CertificateBuf {
         Certificate::of(&self.encoding, self.value.clone(), &self.signers)
     }
 
+    /// Returns the encoding.
+    ///
+    /// ```
+    /// # use commonware_proved::CertificateBuf;
+    /// assert_eq!(CertificateBuf::from_parts(b"x", &[4, 6])?.as_bytes(), [1, b'x', 2, 4, 6]);
+    /// # Ok::<(), commonware_proved::EncodeError>(())
+    /// ```
+    #[must_use]
+    pub fn as_bytes(&self) -> &[u8] {
+        &self.encoding
+    }
+
     /// Returns the encoding, which isn't copied.
     ///
     /// ```
@@ -97,6 +109,19 @@ impl CertificateBuf {
     pub fn into_bytes(self) -> Vec<u8> {
         self.encoding
     }
+
+    /// Returns the indices of those that signed, strictly increasing, which aren't copied.
+    ///
+    /// ```
+    /// # use commonware_proved::CertificateBuf;
+    /// let signers = CertificateBuf::from_parts(b"x", &[4, 6])?.into_signers();
+    /// assert_eq!(signers, [4, 6]);
+    /// # Ok::<(), commonware_proved::EncodeError>(())
+    /// ```
+    #[must_use]
+    pub fn into_signers(self) -> Vec<u32> {
+        self.signers
+    }
 }
 
 /// The whole input is the certificate, as [`CertificateBuf::decode`] takes it.
@@ -105,6 +130,13 @@ impl TryFrom<Vec<u8>> for CertificateBuf {
 
     fn try_from(input: Vec<u8>) -> Result<CertificateBuf, Refusal> {
         CertificateBuf::decode(input)
+    }
+}
+
+/// The encoding.
+impl AsRef<[u8]> for CertificateBuf {
+    fn as_ref(&self) -> &[u8] {
+        self.as_bytes()
     }
 }
 

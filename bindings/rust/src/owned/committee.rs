@@ -82,6 +82,18 @@ impl CommitteeBuf {
         Committee::from(Set::<MEMBER_SIZE>::of(self.members.as_view()))
     }
 
+    /// Returns the encoding.
+    ///
+    /// ```
+    /// # use commonware_proved::CommitteeBuf;
+    /// assert_eq!(CommitteeBuf::from_keys(&[])?.as_bytes(), [0]);
+    /// # Ok::<(), commonware_proved::EncodeError>(())
+    /// ```
+    #[must_use]
+    pub fn as_bytes(&self) -> &[u8] {
+        self.members.as_bytes()
+    }
+
     /// Returns the encoding, which isn't copied.
     ///
     /// ```
@@ -101,6 +113,13 @@ impl TryFrom<Vec<u8>> for CommitteeBuf {
 
     fn try_from(input: Vec<u8>) -> Result<CommitteeBuf, Refusal> {
         CommitteeBuf::decode(input)
+    }
+}
+
+/// The encoding.
+impl AsRef<[u8]> for CommitteeBuf {
+    fn as_ref(&self) -> &[u8] {
+        self.as_bytes()
     }
 }
 

@@ -103,6 +103,19 @@ impl MapBuf {
         MapView::of(&self.encoding, self.columns)
     }
 
+    /// Returns the encoding.
+    ///
+    /// ```
+    /// # use commonware_proved::MapBuf;
+    /// let owned = MapBuf::from_pairs(1, 1, [(b"b", b"x"), (b"a", b"y")])?;
+    /// assert_eq!(owned.as_bytes(), b"\x02ab\x02yx");
+    /// # Ok::<(), commonware_proved::EncodeError>(())
+    /// ```
+    #[must_use]
+    pub fn as_bytes(&self) -> &[u8] {
+        &self.encoding
+    }
+
     /// Returns the encoding, which isn't copied.
     ///
     /// ```
@@ -133,6 +146,13 @@ pub(super) fn pair_bytes<K: AsRef<[u8]>, V: AsRef<[u8]>>(
         }
     }
     Ok(bytes)
+}
+
+/// The encoding.
+impl AsRef<[u8]> for MapBuf {
+    fn as_ref(&self) -> &[u8] {
+        self.as_bytes()
+    }
 }
 
 /// The pairs in hexadecimal.

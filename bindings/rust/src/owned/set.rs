@@ -90,6 +90,18 @@ impl SetBuf {
         SetView::of(&self.encoding, self.keys)
     }
 
+    /// Returns the encoding.
+    ///
+    /// ```
+    /// # use commonware_proved::SetBuf;
+    /// assert_eq!(SetBuf::from_keys(1, [[7], [5]])?.as_bytes(), [2, 5, 7]);
+    /// # Ok::<(), commonware_proved::EncodeError>(())
+    /// ```
+    #[must_use]
+    pub fn as_bytes(&self) -> &[u8] {
+        &self.encoding
+    }
+
     /// Returns the encoding, which isn't copied.
     ///
     /// ```
@@ -113,6 +125,13 @@ pub(super) fn append_key(
     match key.len() {
         length if length == key_size => append(bytes, key),
         length => Err(EncodeError::KeySize { index, length }),
+    }
+}
+
+/// The encoding.
+impl AsRef<[u8]> for SetBuf {
+    fn as_ref(&self) -> &[u8] {
+        self.as_bytes()
     }
 }
 

@@ -1,7 +1,7 @@
 //! The encodings and the results once more, in plain Rust and item by item: what the library is
 //! compared with. It is written from `docs/FORMAT.md`.
 
-use commonware_proved::{ConflictError, EncodeError, Member, Refusal};
+use commonware_proved::{ConflictError, EncodeError, Member, Refusal, Which};
 use std::collections::BTreeSet;
 
 /// Returns the varint of a number: groups of seven bits, the lowest first.
@@ -137,17 +137,24 @@ pub fn accused(
     if members == 0 {
         return Err(ConflictError::NoMembers);
     }
-    let (x, a) = exactly_one(first).map_err(ConflictError::First)?;
-    let (y, b) = exactly_one(second).map_err(ConflictError::Second)?;
+    let (x, a) =
+        exactly_one(first).map_err(|refusal| ConflictError::Input(Which::First, refusal))?;
+    let (y, b) =
+        exactly_one(second).map_err(|refusal| ConflictError::Input(Which::Second, refusal))?;
     if x == y {
         return Err(ConflictError::SameValue);
     }
-    if a.iter().chain(&b).any(|i| *i >= members) {
-        return Err(ConflictError::Outside);
+    let both = [(Which::First, &a), (Which::Second, &b)];
+    for (which, signers) in both {
+        if signers.iter().any(|i| *i >= members) {
+            return Err(ConflictError::Outside(which));
+        }
     }
     let quorum = (members - (members - 1) / k) as usize;
-    if a.len() < quorum || b.len() < quorum {
-        return Err(ConflictError::TooFew);
+    for (which, signers) in both {
+        if signers.len() < quorum {
+            return Err(ConflictError::TooFew(which));
+        }
     }
     let b: BTreeSet<u32> = b.into_iter().collect();
     Ok(a.into_iter().filter(|i| b.contains(i)).collect())
