@@ -1,0 +1,108 @@
+"""Tries each mutation on the vectors: python3 -B vectors/reference/kills.py [--update]
+
+The reference has to answer all vectors as they say. Each mutation has to answer one of them
+otherwise: that vector kills it. Each sentence that a mutation breaks has to be in a document.
+What kills which mutation is written to vectors/KILLED.md with --update, and compared with it
+otherwise. The long vectors are tried where no other one kills, up to the first that does.
+"""
+
+import collections
+import pathlib
+import re
+import resource
+import sys
+import textwrap
+
+from mutations import mutant, read_mutations, reference
+from vectors import read_long_vectors, read_vectors
+
+ROOT = pathlib.Path(__file__).resolve().parent.parent.parent
+KILLED = ROOT / "vectors/KILLED.md"
+DOCUMENTS = ("docs/FORMAT.md", "docs/JUDGE.md", "vectors/README.md")
+# How many vectors are named for a mutation that more kill.
+NAMED = 3
+# How many bytes of memory there are: a wrong implementation that asks for more fails.
+MEMORY = 2**31
+HEAD = """# Wrong implementations that the vectors kill
+
+Each is a change of the reference in `vectors/reference`, by `vectors/reference/mutations.txt`, and
+breaks the sentence that is quoted. A vector kills it where its answer is another one. Of more than
+three those are named that kill the fewest of all; one of `vectors/long.recipes` is named where no
+other vector kills. `.ci/vectors --update` writes this file.
+"""
+
+
+def wrong(answer_to, vectors):
+    """Yields the vectors that are answered otherwise."""
+    return (it for it in vectors if answer_to(it.question) != it.answer)
+
+
+def killers(mutations, vectors, long_vectors):
+    """Returns the ids of the vectors that kill each mutation."""
+    found = {}
+    for name, mutation in mutations.items():
+        answer_to = mutant(mutation)
+        ids = [it.id for it in wrong(answer_to, vectors)]
+        first_long = next(wrong(answer_to, long_vectors), None) if not ids else None
+        found[name] = ids or ([first_long.id] if first_long else [])
+    return found
+
+
+def unquoted(mutations):
+    """Returns the mutations whose sentence is in no document."""
+    plain = lambda text: re.sub(r"\s+", " ", text)
+    texts = [plain((ROOT / it).read_text()) for it in DOCUMENTS]
+    found = lambda sentence: any(plain(sentence) in text for text in texts)
+    return [name for name, it in mutations.items() if not found(it["sentence"])]
+
+
+def table(mutations, found):
+    """Returns the document: each sentence, and the mutations that break it with what kills them."""
+    kills = collections.Counter(id for ids in found.values() for id in ids)
+    sentences = dict.fromkeys(it["sentence"] for it in mutations.values())
+    lines = [HEAD, f"There are {len(mutations)} of them.\n"]
+    for sentence in sentences:
+        names = [name for name, it in mutations.items() if it["sentence"] == sentence]
+        rows = [row(name, found[name], kills) for name in names]
+        lines += [wrapped(f"> {sentence}", "> "), "", *rows, ""]
+    return "\n".join(lines).rstrip("\n") + "\n"
+
+
+def wrapped(text, indent):
+    """Returns the lines of a paragraph."""
+    return textwrap.fill(text, 130, break_on_hyphens=False, subsequent_indent=indent)
+
+
+def row(name, ids, kills):
+    """Returns the line of a mutation."""
+    named = sorted(sorted(ids, key=kills.get)[:NAMED], key=ids.index)
+    more = f" and {len(ids) - NAMED} more" if len(ids) > NAMED else ""
+    return wrapped(f"- {name}: {', '.join(named)}{more}", "  ")
+
+
+def complaints(mutations, found, vectors):
+    """Returns what is wrong with the vectors or with the mutations."""
+    failed = [f"the reference answers {it.id} otherwise" for it in wrong(reference(), vectors)]
+    failed += [f"no vector kills: {name}" for name, ids in found.items() if not ids]
+    return failed + [f"in no document is the sentence of: {name}" for name in unquoted(mutations)]
+
+
+def main():
+    """Returns whether something is wrong."""
+    resource.setrlimit(resource.RLIMIT_AS, (MEMORY, MEMORY))
+    mutations, vectors, long_vectors = read_mutations(), read_vectors(), read_long_vectors()
+    found = killers(mutations, vectors, long_vectors)
+    failed = complaints(mutations, found, vectors + long_vectors)
+    document = table(mutations, found)
+    if sys.argv[1:] == ["--update"]:
+        KILLED.write_text(document)
+    elif not KILLED.exists() or KILLED.read_text() != document:
+        failed.append("vectors/KILLED.md is not up to date: .ci/vectors --update writes it")
+    for it in failed:
+        print(f"kills: {it}")
+    print(f"kills: {len(found)} mutations, {sum(not ids for ids in found.values())} survive")
+    return bool(failed)
+
+
+if __name__ == "__main__":
+    sys.exit(main())
