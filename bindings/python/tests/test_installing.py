@@ -160,6 +160,9 @@ class Installing(unittest.TestCase):
             for name in (_library.NAME, "PROVED"):
                 data = wheel.read(f"commonware/lib/{name}")
                 self.assertEqual(data, (PREBUILT / name).read_bytes())
+            for name in ("LICENSE", "NOTICE"):
+                data = wheel.read(f"commonware_proved-1.0.0.dist-info/licenses/{name}")
+                self.assertEqual(data, (HERE.parents[1] / name).read_bytes())
 
 
 if __name__ == "__main__":
