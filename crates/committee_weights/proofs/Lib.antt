@@ -1,4 +1,6 @@
 pub mod Both
+pub mod Grouped
+pub mod KeyedReads
 pub mod Listed
 pub mod Meeting
 pub mod Refusing

@@ -1,5 +1,7 @@
 pub mod Accountability
+pub mod Keyed
 pub mod Members
 pub mod Refusals
+pub mod Refutations
 pub mod Tolerance
 pub mod Weights

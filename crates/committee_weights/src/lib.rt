@@ -5,13 +5,17 @@
 mod accountability;
 mod conflicts;
 mod equivocations;
+mod keyed;
 mod laws;
 mod quorums;
+mod refutations;
 mod weights;
 
 pub use accountability::weighted_safety_law;
 pub use conflicts::{WeightedConflictError, weighted_conflict};
 pub use equivocations::{WeightedEquivocationError, weighted_equivocation};
+pub use keyed::{ReadWeightsError, read_weights, read_weights_law};
 pub use laws::weight_law;
 pub use quorums::{WeightedQuorumError, check_weight};
+pub use refutations::{WeightRefutation, weight_refutation};
 pub use weights::{MapWeightsError, Weights, WeightsError};

@@ -3,10 +3,12 @@
 use crate::{accused_weight, two_thirds_of};
 use committee_certificates::Certificate;
 use committee_weights::{
-    MapWeightsError, WeightedConflictError, WeightedEquivocationError, WeightedQuorumError,
-    Weights, WeightsError, check_weight, weighted_conflict, weighted_equivocation,
+    MapWeightsError, ReadWeightsError, WeightRefutation, WeightedConflictError,
+    WeightedEquivocationError, WeightedQuorumError, Weights, WeightsError, check_weight,
+    read_weights, weight_refutation, weighted_conflict, weighted_equivocation,
 };
 use commonware_base::Participant;
+use commonware_base::codec::{Error, Source, Write};
 use commonware_map::Map;
 use commonware_ordered::Set;
 use commonware_sequence::U64;
@@ -131,4 +133,124 @@ fn two_certificates_that_accuse_no_one(rt: HostRuntime) {
     assert!(rt; named.is_err_and(|error| error == WeightedEquivocationError::OtherSlot));
     let text = format!(in alloc; "{}", WeightedConflictError::TooLight).expect(&rt, "memory");
     assert!(rt; text.as_str() == "the signers weigh less than a quorum");
+}
+
+/// The bytes of a map of two keys of one byte, with a byte after it.
+const KEYED: [u8; 21] = [
+    2, 3, 7, 2, 0, 0, 0, 0, 0, 0, 0, 40, 0, 0, 0, 0, 0, 0, 0, 10, 99,
+];
+
+/// The keys 3 and 7 have the weights 40 and 10, and are written as they are read.
+#[test]
+fn weights_with_their_keys(rt: HostRuntime) {
+    let alloc = rt.alloc();
+    let limits = ((0..=4).into(), (), ());
+    let mut source = Source::new(KEYED.as_slice());
+    let read = read_weights::<u8, Global>(alloc, &mut source, &limits);
+    let (stakes, weights) = read.expect(&rt, "weights");
+    assert!(rt; stakes.keys().as_slice() == [3, 7].as_slice());
+    assert!(rt; weights.as_slice() == [40, 10].as_slice() && weights.total() == 50);
+    assert!(rt; source.rest() == [99].as_slice());
+    let mut written = Vec::new(alloc);
+    stakes.write(&mut written).expect(&rt, "memory");
+    assert!(rt; written.as_slice() == &KEYED[..20]);
+}
+
+/// What is wrong with some bytes, read as weights of keys of one byte; and how many are left.
+fn refusal(alloc: Global, bytes: &[u8]) -> (Option<ReadWeightsError>, usize) {
+    let limits = ((0..=4).into(), (), ());
+    let mut source = Source::new(bytes);
+    match read_weights::<u8, Global>(alloc, &mut source, &limits) {
+        Ok(_read) => (None, source.remaining()),
+        Err(error) => (Some(error), source.remaining()),
+    }
+}
+
+/// The faults of the map come first, and after each refusal all bytes are left.
+#[test]
+fn the_first_fault_of_keyed_weights(rt: HostRuntime) {
+    let alloc = rt.alloc();
+    let (error, left) = refusal(alloc, &[0, 0]);
+    assert!(rt; error == Some(ReadWeightsError::Refused(WeightsError::Empty)) && left == 2);
+    let zero = [2, 3, 7, 2, 0, 0, 0, 0, 0, 0, 0, 40, 0, 0, 0, 0, 0, 0, 0, 0];
+    let (error, left) = refusal(alloc, zero.as_slice());
+    assert!(rt; error == Some(ReadWeightsError::Refused(WeightsError::Zero(1))) && left == 20);
+    let unsorted = [2, 7, 3, 2, 0, 0, 0, 0, 0, 0, 0, 40, 0, 0, 0, 0, 0, 0, 0, 0];
+    let (error, left) = refusal(alloc, unsorted.as_slice());
+    let invalid = Error::Invalid("Set", "items must be sorted and unique");
+    assert!(rt; error == Some(ReadWeightsError::Undecodable(invalid)) && left == 20);
+    let (error, left) = refusal(alloc, &KEYED[..19]);
+    assert!(rt; error == Some(ReadWeightsError::Undecodable(Error::EndOfBuffer)) && left == 19);
+    let (error, left) = refusal(alloc, &[5]);
+    assert!(rt; error == Some(ReadWeightsError::Undecodable(Error::InvalidLength(5))) && left == 1);
+}
+
+/// Whether a refutation is these weights, and these two subsets.
+fn is(found: &WeightRefutation<Global>, weights: &[u64], one: &[bool], other: &[bool]) -> bool {
+    found.weights.as_slice() == weights
+        && found.one.as_slice() == one
+        && found.other.as_slice() == other
+}
+
+/// Of 7 in all, at a k of 3, 2 is safe, and 3 isn't: two subsets that weigh 4 share 1, and 4 are
+/// needed. Where all are outside, no one is in a quorum.
+#[test]
+fn refuted_by_weights(rt: HostRuntime) {
+    let alloc = rt.alloc();
+    let found = weight_refutation(alloc, 3, 7, 3, 3)
+        .expect(&rt, "memory")
+        .expect(&rt, "three");
+    assert!(rt;
+        is(
+            &found,
+            &[3, 1, 3],
+            &[true, true, false],
+            &[false, true, true]
+        )
+    );
+    let found = weight_refutation(alloc, 3, 7, 3, 5)
+        .expect(&rt, "memory")
+        .expect(&rt, "five");
+    let one = [true, true, true, true, false];
+    let other = [false, false, false, true, true];
+    assert!(rt; is(&found, &[1, 1, 1, 1, 3], one.as_slice(), other.as_slice()));
+    let found = weight_refutation(alloc, 3, 7, 4, 3)
+        .expect(&rt, "memory")
+        .expect(&rt, "half");
+    assert!(rt;
+        is(
+            &found,
+            &[3, 1, 3],
+            &[true, false, false],
+            &[false, true, true]
+        )
+    );
+    let found = weight_refutation(alloc, 3, 7, 9, 3)
+        .expect(&rt, "memory")
+        .expect(&rt, "all");
+    assert!(rt;
+        is(
+            &found,
+            &[1, 1, 5],
+            &[true, false, false],
+            &[false, true, true]
+        )
+    );
+    let most = weight_refutation(alloc, 2, u64::MAX, u64::MAX, 3).expect(&rt, "memory");
+    assert!(rt; most.expect(&rt, "most").weights.total() == u64::MAX);
+    assert!(rt;
+        weight_refutation(alloc, 3, 7, 2, 3)
+            .expect(&rt, "safe")
+            .is_none()
+    );
+    assert!(rt;
+        weight_refutation(alloc, 3, 7, 3, 2)
+            .expect(&rt, "two")
+            .is_none()
+    );
+    assert!(rt;
+        weight_refutation(alloc, 3, 7, 3, 8)
+            .expect(&rt, "eight")
+            .is_none()
+    );
 }
