@@ -40,14 +40,14 @@ shared-both (w ∷ ws) us (x ∷ xs) ys (p ∷ ps) qs l m =
     )
 
 -- all or none of a list
-weight-whole : (ws : List ℕ) (b : Bool) → weight ws (replicate (length ws) b) ≡ cond b (sum ws) 0
+pub weight-whole : (ws : List ℕ) (b : Bool) → weight ws (replicate (length ws) b) ≡ cond b (sum ws) 0
 weight-whole [] true = omega arith
 weight-whole [] false = omega arith
 weight-whole (w ∷ ws) true = omega (arith, sum-cons w ws, weight-whole ws true)
 weight-whole (w ∷ ws) false = weight-whole ws false
 
 -- and what two such subsets share
-shared-whole : (ws : List ℕ) (b c : Bool)
+pub shared-whole : (ws : List ℕ) (b c : Bool)
     → shared_weight ws (replicate (length ws) b) (replicate (length ws) c) ≡ cond (b && c) (sum ws) 0
 shared-whole [] true true = omega arith
 shared-whole [] true false = omega arith

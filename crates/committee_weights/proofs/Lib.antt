@@ -7,6 +7,7 @@ pub mod Refusing
 pub mod Refuting
 pub mod Safe
 pub mod Safety
+pub mod Searching
 pub mod Sharing
 pub mod Signing
 pub mod Slots

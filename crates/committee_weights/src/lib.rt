@@ -5,6 +5,7 @@
 mod accountability;
 mod conflicts;
 mod equivocations;
+mod greatest;
 mod keyed;
 mod laws;
 mod quorums;
@@ -14,6 +15,7 @@ mod weights;
 pub use accountability::weighted_safety_law;
 pub use conflicts::{WeightedConflictError, weighted_conflict};
 pub use equivocations::{WeightedEquivocationError, weighted_equivocation};
+pub use greatest::greatest_safe;
 pub use keyed::{ReadWeightsError, read_weights, read_weights_law};
 pub use laws::weight_law;
 pub use quorums::{WeightedQuorumError, check_weight};

@@ -41,7 +41,8 @@ pub fn weight_refutation<A: Allocator + Copy>(
         IsRefutedBy k total greater participants
         refutation.weights refutation.one.items refutation.other.items)) }
     ensures none { IfOk result (λ found. (found ≡ None)
-        ↔ ((greater ≤ faulty_weight k total) ⊎ (participants < 3) ⊎ (total < participants))) }
+        ↔ ((greater ≤ faulty_weight k total)
+        ⊎ (participants < 3) ⊎ (total < participants))) }
     ensures memory { OnErr result ((faulty_weight k total < greater)
         × (3 ≤ participants) × (participants ≤ total)) }
 {

@@ -1,11 +1,12 @@
 //! Numbers worked out by hand, and each public call once.
+ghost use Rattle.std.specs.Prelude.{◌≤◌};
 
 use crate::{accused_weight, two_thirds_of};
 use committee_certificates::Certificate;
 use committee_weights::{
     MapWeightsError, ReadWeightsError, WeightRefutation, WeightedConflictError,
     WeightedEquivocationError, WeightedQuorumError, Weights, WeightsError, check_weight,
-    read_weights, weight_refutation, weighted_conflict, weighted_equivocation,
+    greatest_safe, read_weights, weight_refutation, weighted_conflict, weighted_equivocation,
 };
 use commonware_base::Participant;
 use commonware_base::codec::{Error, Source, Write};
@@ -253,4 +254,30 @@ fn refuted_by_weights(rt: HostRuntime) {
             .expect(&rt, "eight")
             .is_none()
     );
+}
+
+/// What `greatest_safe` returns of at most 20 participants.
+fn greatest_of(k: u32, weights: &Weights<Global>) -> Option<u64>
+    requires { 2 ≤ k }
+{
+    if weights.len() > 20 {
+        return None;
+    }
+    Some(greatest_safe(k, weights))
+}
+
+/// Of 5, 3 and 2 at a k of 3: {5, 2} and {3, 2} share 2 and leave out 3 and 5, so that 5 isn't
+/// safe, and at 4 each subset that weighs 6 or more has the 5.
+#[test]
+fn what_lumps_allow(rt: HostRuntime) {
+    let alloc = rt.alloc();
+    let pair = weights_of(alloc, &[2, 1]).expect(&rt, "weights");
+    assert!(rt; greatest_of(3, &pair) == Some(1) && pair.max_faulty_weight(3) == 0);
+    let ones = weights_of(alloc, &[1, 1, 1]).expect(&rt, "weights");
+    assert!(rt; greatest_of(3, &ones) == Some(0) && greatest_of(2, &ones) == Some(1));
+    let three = weights_of(alloc, &[5, 3, 2]).expect(&rt, "weights");
+    assert!(rt; greatest_of(2, &three) == Some(4) && greatest_of(3, &three) == Some(4));
+    assert!(rt; greatest_of(5, &three) == Some(2) && three.max_faulty_weight(5) == 1);
+    let one = weights_of(alloc, &[u64::MAX]).expect(&rt, "weights");
+    assert!(rt; greatest_of(3, &one) == Some(u64::MAX - 1));
 }
