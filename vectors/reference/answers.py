@@ -75,7 +75,7 @@ def answer_faults(words, verb):
 
 
 def answer_refute(words, verb):
-    """Says why so many members can't be faulty, or that they can."""
+    """Says why this number of members can't be faulty, or that it can."""
     resilience, members = read_model(next(words, "")), read_members(next(words, ""))
     faults = read_number(next(words, ""), "number", 0, members)
     finish(words, "number")

@@ -17,7 +17,7 @@ def exactly(length):
 
 
 class List:
-    """A `vec`: a length, and so many items."""
+    """A `vec`: a length, and as many items."""
 
     def __init__(self, item, lengths=ANY):
         self.item = item

@@ -103,7 +103,7 @@ def value(dice):
 
 
 def signers(dice, members):
-    """Returns the signers of a certificate, near a quorum of so many members."""
+    """Returns the signers of a certificate, near a quorum of this number of members."""
     most = min(members, 60)
     quorums = [members - (members - 1) // 3, members - (members - 1) // 5, members // 2 + 1, most]
     indices = sorted(dice.sample(range(most), min(most, dice.choice(quorums))))
