@@ -1,6 +1,6 @@
 /* The proved committee layer of consensus nodes, for C11 and C++17: how many of n participants may
- * be faulty, the encodings of committees and certificates, and of sets, maps and bimaps of keys of
- * any size, and which members signed both of two different values.
+ * be faulty, or what they may weigh, the encodings of committees and certificates, and of sets,
+ * maps and bimaps of keys of any size, and which members signed both of two different values.
  *
  * The built library is for Linux on x86-64-v2 processors, which have SSE4.1.
  *
@@ -66,7 +66,7 @@ extern "C" {
 
 /* The version of this header, by its parts and as one number, each for #if too. */
 #define COMMONWARE_VERSION_MAJOR 1
-#define COMMONWARE_VERSION_MINOR 0
+#define COMMONWARE_VERSION_MINOR 1
 #define COMMONWARE_VERSION_PATCH 0
 #define COMMONWARE_VERSION                                                  \
     (1000000 * COMMONWARE_VERSION_MAJOR + 1000 * COMMONWARE_VERSION_MINOR + \
@@ -124,7 +124,10 @@ enum commonware_status {
     COMMONWARE_NO_SIZE = 16,       /* keys have no bytes: it can't be told how many there are */
     COMMONWARE_NOT_WHOLE = 17,     /* bytes follow the last whole key, or the last whole pair */
     COMMONWARE_REPEATED_VALUE = 18, /* two pairs have the same value */
-    COMMONWARE_REPEATED_KEY = 19    /* a pair has the key of an earlier one */
+    COMMONWARE_REPEATED_KEY = 19,   /* a pair has the key of an earlier one */
+    COMMONWARE_ZERO_WEIGHT = 20,    /* the weight at the index `number` is 0 */
+    COMMONWARE_WEIGHT_OVERFLOW = 21, /* with the weight at `number` the sum is past 2^64 - 1 */
+    COMMONWARE_TOO_LIGHT = 22       /* the signers weigh less than a quorum */
 };
 
 /* One line of text for a status, without an end of line. Never NULL, for no other number either. */
@@ -150,6 +153,9 @@ COMMONWARE_CHECKED static inline const char *commonware_status_text(uint32_t sta
         "bytes follow the last whole key, or the last whole pair",
         "two pairs have the same value",
         "a pair has the key of an earlier one",
+        "a weight is 0",
+        "the sum of the weights is past 18446744073709551615",
+        "the signers weigh less than a quorum",
     };
     return status < sizeof texts / sizeof *texts ? texts[status] : "no status of this version";
 }
@@ -443,6 +449,103 @@ COMMONWARE_CHECKED commonware_conflict_view commonware_conflict(
 COMMONWARE_CHECKED commonware_conflict_view commonware_equivocation(
     uint32_t k, uint32_t members, const uint8_t *first, size_t first_length,
     const uint8_t *second, size_t second_length, uint32_t *out, size_t out_length);
+
+/* What the weights of a committee's members allow, their stake or voting power. */
+typedef struct {
+    uint32_t status;         /* OK, NO_MODEL, NO_MEMBERS, INVALID_LENGTH, ZERO_WEIGHT or
+                              * WEIGHT_OVERFLOW */
+    size_t number;           /* at INVALID_LENGTH: how many weights there are; at ZERO_WEIGHT and
+                              * WEIGHT_OVERFLOW: the index of a weight */
+    uint64_t total;          /* at OK: what all members weigh */
+    uint64_t tolerated;      /* at OK: f, what faulty members may weigh together */
+    uint64_t quorum;         /* at OK: what a quorum weighs, total - f */
+    uint64_t smaller_quorum; /* at OK: 2f + 1 */
+} commonware_weights_view;
+
+/* What the weights of a committee allow at a resilience k. Member i weighs weights[i].
+ *
+ * f is (total - 1) / k, the greatest that is safe for all weights of this total: any two subsets of
+ * the members that weigh a quorum share members that weigh at least (k - 2)f + 1, and where k is 3
+ * or more, a member outside every subset that weighs at most f. 2f + 1 is the least weight whose
+ * subsets share f + 1 with each quorum. At a k of 3 the quorum is the "more than two thirds" of the
+ * chains, 2 * total / 3 + 1, and no sum or product wraps.
+ *
+ * The status is the first of these: NO_MODEL, NO_MEMBERS for no weights, INVALID_LENGTH for more
+ * than 4294967295, and of the first weight that is 0, or with which the sum is past 2^64 - 1,
+ * ZERO_WEIGHT or WEIGHT_OVERFLOW. Each weight is looked at once. */
+COMMONWARE_CHECKED commonware_weights_view commonware_weights_quorum(
+    uint32_t k, const uint64_t *weights, size_t weights_length);
+
+/* A certificate that members who weigh a quorum signed. */
+typedef struct {
+    uint32_t status;        /* OK, or why it is none */
+    uint32_t signers;       /* at OK: how many members signed */
+    size_t number;          /* at LEFT_OVER: how many bytes follow the certificate; else as
+                             * commonware_weights_view has it */
+    size_t value_start;     /* at OK: the offset of the value */
+    size_t value_length;    /* at OK: how many bytes it has */
+    size_t slot_start;      /* at OK: the offset of the slot, never 0; 0 where the value has none */
+    size_t slot_length;     /* at OK, with a slot: how many bytes it has */
+    size_t decision_start;  /* at OK, with a slot: the offset of the decision */
+    size_t decision_length; /* at OK, with a slot: how many bytes it has */
+    uint64_t weight;        /* at OK: what the signers weigh together */
+} commonware_weighted_check_view;
+
+/* Whether the input is exactly one certificate whose signers are members of a committee with these
+ * weights, and weigh at least a quorum at a resilience k: OK exactly then. Else the first of these:
+ * what commonware_weights_quorum says of the weights, a fault of the input (END_OF_INPUT,
+ * INVALID_VARINT, NOT_STRICT, LEFT_OVER), OUTSIDE, TOO_LIGHT. Never MEMORY.
+ *
+ * Warning: no signature is looked at. Whoever doesn't verify them knows nothing of who signed. */
+COMMONWARE_CHECKED commonware_weighted_check_view commonware_weighted_check(
+    uint32_t k, const uint64_t *weights, size_t weights_length, const uint8_t *input,
+    size_t input_length);
+
+/* The result for two certificates, by weight. */
+typedef struct {
+    uint32_t status; /* as the call says */
+    uint32_t which;  /* the input that the status is about, 1 or 2; 0 at OK, ROOM, SAME_VALUE and
+                      * OTHER_SLOT, and where it is about the weights or k */
+    size_t number;   /* at LEFT_OVER: how many bytes follow the certificate; else as
+                      * commonware_weights_view has it */
+    size_t count;    /* at OK and ROOM: how many members signed both */
+    uint64_t weight; /* at OK: what they weigh together */
+} commonware_weighted_conflict_view;
+
+/* The members that signed both of two certificates for different values, in a committee with these
+ * weights at a resilience k: their indices go to the start of `out`, in order. With f as
+ * commonware_weights_quorum has it they weigh at least (k - 2)f + 1, and where k is 3 or more, at
+ * least one of them is outside every set of members that weighs at most f. Each input is exactly
+ * one certificate. To sign two values is a fault only where both are for one slot, which
+ * commonware_weighted_equivocation asks: honest members sign many values, one a slot.
+ *
+ * Warning: no signature is looked at. Whoever doesn't verify them first may accuse an innocent
+ * member.
+ *
+ * The status is the first of these: what commonware_weights_quorum says of the weights, a fault of
+ * the first input (END_OF_INPUT, INVALID_VARINT, NOT_STRICT, LEFT_OVER), one of the second,
+ * SAME_VALUE, OUTSIDE of the first, of the second, TOO_LIGHT of the first, of the second, ROOM. As
+ * many indices as there are members always suffice. Never MEMORY. */
+COMMONWARE_CHECKED commonware_weighted_conflict_view commonware_weighted_conflict(
+    uint32_t k, const uint64_t *weights, size_t weights_length, const uint8_t *first,
+    size_t first_length, const uint8_t *second, size_t second_length, uint32_t *out,
+    size_t out_length);
+
+/* The members that equivocated: those that signed both of two certificates for different decisions
+ * for one slot. All is as commonware_weighted_conflict has it, and no honest member is named where
+ * honest members sign at most one decision a slot.
+ *
+ * Warning: no signature is looked at. Whoever doesn't verify them first may accuse an innocent
+ * member.
+ *
+ * The status is the first of these: what commonware_weights_quorum says of the weights, a fault of
+ * the first input, one of the second, NO_SLOT of the first value, of the second, OTHER_SLOT,
+ * SAME_VALUE for one decision, OUTSIDE of the first, of the second, TOO_LIGHT of the first, of the
+ * second, ROOM. Never MEMORY. */
+COMMONWARE_CHECKED commonware_weighted_conflict_view commonware_weighted_equivocation(
+    uint32_t k, const uint64_t *weights, size_t weights_length, const uint8_t *first,
+    size_t first_length, const uint8_t *second, size_t second_length, uint32_t *out,
+    size_t out_length);
 
 #undef COMMONWARE_CHECKED
 

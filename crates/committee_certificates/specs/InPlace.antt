@@ -1,6 +1,6 @@
 -- The signers of a certificate, as they are found in an input.
-use Rattle.std.specs.Prelude.{◌≡◌, ℕ, ◌≤◌, ◌↔◌, List, ◌++◌, drop, length, take}
-use Rattle.std.specs.List.{AllByRecursion, flat_map}
+use Rattle.std.specs.Prelude.{◌≡◌, ℕ, ◌≤◌, ◌↔◌, List, ◌++◌, drop, get_or, length, take}
+use Rattle.std.specs.List.{AllByRecursion, flat_map, sum_by}
 use Rattle.std.specs.Ordering.{nat_cmp}
 use Rattle.commonware_base.specs.Source.{rest_of}
 use Rattle.commonware_base.specs.Varint.{varint}
@@ -28,3 +28,7 @@ pub record AreWrittenBoth (first second : List ℕ) (count : ℕ) (old_room new_
   pub in_both : AreInBoth first second both
   pub count_is : count ≡ length both
   pub room : new_room ≡ written both old_room
+
+-- the sum of the numbers at these indices, of which one past the last number adds none
+abbrev pub sum_at : List ℕ → List ℕ → ℕ
+sum_at numbers indices = sum_by (λ i. get_or numbers i 0) indices

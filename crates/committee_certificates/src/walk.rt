@@ -1,7 +1,8 @@
 //! Signers walked in place, index by index.
-ghost use Rattle.std.specs.Prelude.{◌≡◌, ◌<◌, ◌≤◌, ◌++◌, ℕ, List, [], ◌∷◌, length};
+ghost use Rattle.std.specs.Prelude.{◌≡◌, ◌<◌, ◌≤◌, ◌^◌, ◌++◌, ℕ, List, SomeIff, [], ◌∷◌, length};
 ghost use Rattle.committee_certificates.specs.Cursors.{GoesOnWith, IsAt};
-ghost use Rattle.committee_certificates.specs.InPlace.{AreSignersAt, AreWrittenBoth, written};
+ghost use Rattle.committee_certificates.specs.InPlace.{AreSignersAt, AreWrittenBoth, sum_at, written};
+ghost use Rattle.committee_certificates.specs.Signers.{AreMembers};
 
 use crate::in_place::SignersAt;
 use commonware_base::codec::{Source, read_varint};
@@ -30,6 +31,25 @@ impl SignersAt<'_> {
             count += 1;
             cursor = next_place(&cursor);
         }
+    }
+
+    /// Returns the sum of the numbers at the indices of the signers, or `None` where an index is at
+    /// or past their length, or the sum is past `u64::MAX`.
+    ///
+    /// Of the signers 0 and 2 and the numbers 40, 30 and 20 it is 60.
+    pub fn sum_of(&self, numbers: &[u64]) -> Option<u64>
+        ensures { (indices : List ℕ) → AreSignersAt self.now indices → SomeIff result
+            (AreMembers (length numbers.now) indices × (sum_at numbers.now indices < 2 ^ 64))
+            (sum_at numbers.now indices) }
+    {
+        let mut cursor = first_place(self);
+        let mut sum: u64 = 0;
+        while cursor.left > 0 {
+            let number = numbers.get(cursor.index as usize)?;
+            sum = sum.checked_add(*number)?;
+            cursor = next_place(&cursor);
+        }
+        Some(sum)
     }
 }
 

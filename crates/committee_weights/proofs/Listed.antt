@@ -1,10 +1,12 @@
 -- What listed participants weigh is the sum of their weights.
 use Rattle.std.proofs.Common.{◌≡◌, ℕ, zero, suc, ◌+◌, ◌-◌, ◌<◌, ◌≤◌, Bool, true, false, List, [], ◌∷◌, length, map, sum}
-use Rattle.std.proofs.Common.{get_or, take, refl, ap, subst, sym, ◌∙◌, arith, inl, inr}
+use Rattle.std.proofs.Common.{None, Option, Some, SomeIff, ◌^◌, get_or, take, refl, ap, subst, sym, ◌∙◌, arith, inl, inr}
 use Rattle.std.proofs.Math.Nat.{eq-or-lt_of_le}
 use Rattle.std.specs.List.{range_with_len, sum_by}
 use Rattle.std.specs.Ordering.{nat_cmp}
 use Rattle.std.proofs.lemmas.List.Sums.{sum_by-cons, sum_by_more, sum_by_more_le}
+use Rattle.committee_certificates.specs.InPlace.{sum_at}
+use Rattle.committee_certificates.specs.Signers.{AreMembers}
 use Rattle.commonware_ordered.specs.Strict.{IsStrict}
 use Rattle.commonware_ordered.specs.Voters.{is_among}
 use Rattle.commonware_ordered.specs.laws.PositionLaws.{RisesFrom, among_after, among_first, not_among_below}
@@ -121,3 +123,12 @@ sum_next ws xs i x w inside here weighs =
     let next = sum_by_more (weight_at ws) xs i x inside in
     let same : get_or ws (get_or xs i x) 0 ≡ w = ap (λ k. get_or ws k 0) (sym here) ∙ sym weighs in
     omega (arith, next, same)
+
+-- they weigh no more than all, so the condition that their sum fits is no condition
+pub weigh_when_members : (ws xs : List ℕ) (result : Option ℕ) → IsStrict nat_cmp xs → sum ws < 2 ^ 64
+    → SomeIff result (AreMembers (length ws) xs × (sum_at ws xs < 2 ^ 64)) (sum_at ws xs)
+    → SomeIff result (AreMembers (length ws) xs) (weight_of ws xs)
+weigh_when_members ws xs None strict fits never = λ members.
+    let most = weight-le-sum ws (map (is_among xs) (range_with_len 0 (length ws))) in
+    never (members, omega (arith, most, weight_of-listed ws xs strict, fits))
+weigh_when_members ws xs (Some x) strict fits h = (h.0.0, h.1 ∙ sym (weight_of-listed ws xs strict))

@@ -91,6 +91,13 @@ pub exactly_accepted : {W : Type 0} (ws : List ℕ) (r : Result W WeightsError)
 exactly_accepted ws (Ok w) h = (λ is. h, λ sound. refl)
 exactly_accepted ws (Err d) h = (λ is. absurd (cc), λ sound. absurd (accepted_not_refused ws d sound h))
 
+-- whatever is known of the sum
+pub without_total : (ws : List ℕ) (r : Result ℕ WeightsError)
+    → MatchResult r (λ total. AreCommitteeWeights ws × (total ≡ sum ws)) (λ e. IsRefusedAs ws e)
+    → MatchResult r (λ total. AreCommitteeWeights ws) (λ e. IsRefusedAs ws e)
+without_total ws (Ok total) h = h.0
+without_total ws (Err e) h = h
+
 -- the first i weights are above 0, and their sum is the total, which fits
 abbrev pub AreSummed : List ℕ → ℕ → ℕ → Type 0
 AreSummed ws i total = (total ≡ sum (take i ws)) × (total < 2 ^ 64) × ((k : ℕ) → k < i → 1 ≤ get_or ws k 0)

@@ -10,6 +10,7 @@ mod keyed;
 mod laws;
 mod quorums;
 mod refutations;
+mod slices;
 mod weights;
 
 pub use accountability::weighted_safety_law;
@@ -20,4 +21,5 @@ pub use keyed::{ReadWeightsError, read_weights, read_weights_law};
 pub use laws::weight_law;
 pub use quorums::{WeightedQuorumError, check_weight};
 pub use refutations::{WeightRefutation, weight_refutation};
+pub use slices::{tolerated_weight, total_weight, weight_of_indices, weight_of_signers};
 pub use weights::{MapWeightsError, Weights, WeightsError};

@@ -16,6 +16,7 @@ mod display;
 mod error;
 mod sums;
 
+use crate::slices::tolerated_weight;
 use commonware_base::Participant;
 use commonware_map::Map;
 use commonware_ordered::Set;
@@ -24,7 +25,8 @@ pub use error::{MapWeightsError, WeightsError};
 use std::alloc::{AllocError, Allocator};
 use std::marker::Model;
 use std::slice;
-use sums::{total_of, total_of_values, weight_listed};
+pub(crate) use sums::total_of;
+use sums::{total_of_values, weight_listed};
 
 /// A weight for each participant of a committee, as its stake or voting power: a positive `u64` for
 /// each of 1 to `u32::MAX` participants, whose sum fits a `u64`.
@@ -139,7 +141,7 @@ impl<A: Allocator> Weights<A> {
         ensures tolerance { IsWeightTolerance k (sum self.now) result }
         ensures are_weights { AreCommitteeWeights self.now }
     {
-        (self.total - 1) / k as u64
+        tolerated_weight(k, self.total)
     }
 
     /// Returns what a quorum weighs: all but what faulty participants may weigh. Two quorums share

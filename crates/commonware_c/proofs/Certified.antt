@@ -14,7 +14,7 @@ use Rattle.commonware_base.proofs.ByteSteps.{bytes_join}
 use Rattle.committee_certificates.specs.Certificates.{certificate_enc, CertificateFault}
 use Rattle.committee_certificates.specs.Signers.{AreMembers, HasOutsider}
 use Rattle.committee_certificates.specs.laws.CertificateLaws.{certificate_canonical, certificate_laws, certificate_prefix_free}
-use Rattle.commonware_c.specs.Certificates.{any_length, faulty, IsCertificate, IsWhole, left_over}
+use Rattle.commonware_c.specs.Certificates.{any_length, faulty, IsCertificate, IsNoWhole, IsWhole, left_over}
 use Rattle.commonware_c.specs.Checks.{IsCertifiedOf, IsSlotIn, IsUncertified, IsValueAt, StandAt, TellsSlot}
 use Rattle.commonware_c.specs.Checks.{no_members, no_model, no_slot_in, outside, slot_in, too_few, unread, with_slot, without_slot}
 use Rattle.commonware_c.specs.declared.checks.CheckView.{CheckView}
@@ -37,26 +37,31 @@ nothing_follows s c d rest whole found =
     omega (arith, same, one, two, length-append (certificate_enc c) [], length-append (certificate_enc d) rest)
 
 -- and its signers are the same
-one_list : (s : List ℕ) (c d : List ℕ × List ℕ) → IsWhole s c → IsWhole s d → d.1 ≡ c.1
+pub one_list : (s : List ℕ) (c d : List ℕ × List ℕ) → IsWhole s c → IsWhole s d → d.1 ≡ c.1
 one_list s c d whole found =
     let equal = (certificate_canonical.equal_by_bytes d c found.writable whole.writable).1 (one_encoding s c d [] whole found) in
     same_text d.1 c.1 (sym (and_parts _ _ equal).1)
 
 -- a member and an outsider are two
-members_no_outsider : (n : ℕ) (xs : List ℕ) → AreMembers n xs → ¬ HasOutsider n xs
+pub members_no_outsider : (n : ℕ) (xs : List ℕ) → AreMembers n xs → ¬ HasOutsider n xs
 members_no_outsider n xs m o = let below = m o.0 o.1 o.2 in omega (arith, below, o.3, o.4)
 
--- what is told to be no certificate of a quorum is none
+-- what is told to be no certificate is none
+pub not_whole : (s : List ℕ) (status number : ℕ) → IsNoWhole s status number → (certificate : List ℕ × List ℕ)
+    → ¬ IsWhole s certificate
+not_whole s status number (left_over a l) certificate whole =
+    let none = nothing_follows s certificate l.0 l.1 whole l.2 in
+    omega (arith, none, l.3, l.4)
+not_whole s status number (faulty r) certificate whole =
+    let fault = fault_of_refusal (CertificateFault any_length any_length s) r.0 r.1 in
+    (certificate_laws any_length any_length).accepted_no_fault s certificate [] fault.0 whole fault.1
+
+-- and what is told to be none of a quorum
 pub not_certified : (k n : ℕ) (s : List ℕ) (status number : ℕ) → IsUncertified k n s status number
     → (certificate : List ℕ × List ℕ) → ¬ IsCertifiedOf k n s certificate
 not_certified k n s status number (no_model a b h) certificate c = omega (arith, h, c.0.0)
 not_certified k n s status number (no_members a b h none) certificate c = omega (arith, none, c.0.1)
-not_certified k n s status number (unread model (left_over a l)) certificate c =
-    let none = nothing_follows s certificate l.0 l.1 c.1 l.2 in
-    omega (arith, none, l.3, l.4)
-not_certified k n s status number (unread model (faulty r)) certificate c =
-    let fault = fault_of_refusal (CertificateFault any_length any_length s) r.0 r.1 in
-    (certificate_laws any_length any_length).accepted_no_fault s certificate [] fault.0 c.1 fault.1
+not_certified k n s status number (unread model why) certificate c = not_whole s status number why certificate c.1
 not_certified k n s status number (outside a b model d whole o) certificate c =
     let members = c.2.2.0 in
     members_no_outsider n certificate.1 members

@@ -10,5 +10,6 @@ pub mod Spliced
 pub mod Repeats
 pub mod Rows
 pub mod SignedBoth
+pub mod Weighed
 pub mod WrittenIndices
 pub mod Values

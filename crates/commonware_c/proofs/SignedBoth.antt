@@ -32,7 +32,7 @@ among_fewer others numbers strict among =
     (λ i j d. Less-from_sorted nat_cmp numbers i j d (sorted_from_strict nat_cmp_total numbers strict)) among
 
 -- nor than the members, where they are members
-members_fewer : (n : ℕ) (ones both : List ℕ) → IsStrict nat_cmp both → AreMembers n ones
+pub members_fewer : (n : ℕ) (ones both : List ℕ) → IsStrict nat_cmp both → AreMembers n ones
     → ((x : ℕ) → Contains both x → Contains ones x) → length both ≤ n
 members_fewer n ones both strict members among =
     length-le_from_below n both (sorted_from_strict nat_cmp_total both strict) (λ k d h.

@@ -91,7 +91,7 @@ fn certified(k: u32, members: u32, input: &[u8]) -> Result<CertificateAt<'_>, (u
 }
 
 /// Returns the view of a certificate that a quorum signed.
-fn view_of(certificate: &CertificateAt<'_>) -> CheckView
+pub(crate) fn view_of(certificate: &CertificateAt<'_>) -> CheckView
     requires { length certificate.now.value.now < 2 ^ 32 }
     ensures status { result.status ≡ 0 }
     ensures number { result.number ≡ 0 }
@@ -123,7 +123,7 @@ fn view_of(certificate: &CertificateAt<'_>) -> CheckView
 }
 
 /// Returns the view of a refusal.
-fn refused(status: u32, number: usize) -> CheckView
+pub(crate) fn refused(status: u32, number: usize) -> CheckView
     ensures { result ≡ record {
       status = status;
       signers = 0;

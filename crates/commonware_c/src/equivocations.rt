@@ -68,7 +68,7 @@ fn contradicting_signers<'a>(
 }
 
 /// Refuses values that aren't different decisions for one slot.
-fn check_values(first: &[u8], second: &[u8]) -> Result<(), Reason>
+pub(crate) fn check_values(first: &[u8], second: &[u8]) -> Result<(), Reason>
     ensures contradict { OnOk result (Contradict first.now second.now) }
     ensures refused { IfErr result (λ reason.
         AreNoContradiction first.now second.now reason.status reason.which) }

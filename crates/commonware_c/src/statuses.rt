@@ -64,6 +64,15 @@ pub(crate) const REPEATED_VALUE: u32 = 18;
 /// A row has the key of an earlier one.
 pub(crate) const REPEATED_KEY: u32 = 19;
 
+/// A weight is 0.
+pub(crate) const ZERO_WEIGHT: u32 = 20;
+
+/// The sum of the weights is past 18446744073709551615.
+pub(crate) const WEIGHT_OVERFLOW: u32 = 21;
+
+/// The signers weigh less than a quorum.
+pub(crate) const TOO_LIGHT: u32 = 22;
+
 /// Returns the status and the number of an error.
 #[inline(always)]
 pub(crate) fn status_of(error: &Error) -> (u32, usize)

@@ -11,7 +11,7 @@ use commonware_base::Participant;
 use commonware_sequence::U64;
 
 /// Returns the sum of numbers, or why they are no weights of a committee.
-pub(super) fn total_of(weights: &[u64]) -> Result<u64, WeightsError>
+pub(crate) fn total_of(weights: &[u64]) -> Result<u64, WeightsError>
     ensures { MatchResult result
         (λ total. AreCommitteeWeights weights.now × (total ≡ sum weights.now))
         (λ error. IsRefusedAs weights.now error) }
