@@ -10,6 +10,8 @@ mod conflicts;
 #[cfg(test)]
 mod equivocations;
 #[cfg(test)]
+mod in_place;
+#[cfg(test)]
 mod keyed;
 #[cfg(test)]
 mod lists;

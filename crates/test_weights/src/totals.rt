@@ -1,7 +1,7 @@
 //! Totals about each power of two that a number may wrap at or be rounded at, and lists of which
 //! the sum is one too many.
 use crate::lists::weights_of;
-use committee_weights::{Weights, WeightsError};
+use committee_weights::{Weights, WeightsError, tolerated_weight, total_weight};
 use std::alloc::Global;
 
 /// The resiliences of the table.
@@ -99,7 +99,10 @@ fn are_numbers(weights: &Weights<Global>, total: u64, k: u32, faulty: u64) -> bo
     }
     let smaller = faulty.checked_mul(2).and_then(|twice| twice.checked_add(1));
     weights.total() == total
+        && total_weight(weights.as_slice()).is_ok_and(|it| it == total)
         && weights.max_faulty_weight(k) == faulty
+        && total > 0
+        && tolerated_weight(k, total) == faulty
         && total.checked_sub(faulty) == Some(weights.quorum_weight(k))
         && smaller == Some(weights.smaller_quorum_weight(k))
 }
@@ -162,6 +165,9 @@ static REFUSED: [(&[u64], WeightsError); 14] = [
 
 /// Whether these are refused for this.
 fn are_refused(alloc: Global, items: &[u64], wanted: WeightsError) -> bool {
+    if !total_weight(items).is_err_and(|error| error == wanted) {
+        return false;
+    }
     match Vec::from_slice(alloc, items) {
         Ok(items) => Weights::new(items).is_err_and(|error| error == wanted),
         Err(_) => false,
