@@ -155,15 +155,21 @@ fn sha256(path: &Path) -> Result<String, String> {
     Ok(digits.unwrap_or_default().to_owned())
 }
 
-/// The library has the major version of this crate.
+/// The library has the major version of this crate, and its minor version or a later one, so that
+/// it has each call.
 fn check_version(proved: &str, folder: &Path) -> Result<(), String> {
-    let ours = variable("CARGO_PKG_VERSION_MAJOR")?;
+    let major = variable("CARGO_PKG_VERSION_MAJOR")?;
+    let minor = variable("CARGO_PKG_VERSION_MINOR")?;
     let version = said(proved, "version ").unwrap_or("(none)");
-    if version.split('.').next() == Some(&ours) {
+    let mut parts = version.split('.');
+    let is_major = parts.next() == Some(&major);
+    let theirs: Option<u32> = parts.next().and_then(|part| part.parse().ok());
+    if is_major && theirs >= minor.parse().ok() {
         return Ok(());
     }
     Err(format!(
-        "libcommonware.a in {} has version {version}, and this crate takes version {ours}",
+        "libcommonware.a in {} has version {version}, and this crate takes version {major}.{minor} \
+         or a later one of {major}",
         folder.display()
     ))
 }

@@ -25,6 +25,17 @@ pub struct Checked<'a> {
 }
 
 impl<'a> Checked<'a> {
+    /// Returns what the library has found in an input that is a certificate of a quorum.
+    pub(crate) fn of(input: &'a [u8], view: &raw::CheckView) -> Checked<'a> {
+        let slot = &input[view.slot_start..][..view.slot_length];
+        let decision = &input[view.decision_start..][..view.decision_length];
+        Checked {
+            value: &input[view.value_start..][..view.value_length],
+            parts: (view.slot_start > 0).then_some((slot, decision)),
+            signer_count: view.signers,
+        }
+    }
+
     /// Returns the bytes that were signed.
     ///
     /// ```
@@ -192,14 +203,8 @@ pub fn check_encoded(
     let view = unsafe {
         raw::commonware_certificate_check(model.k(), members, input.as_ptr(), input.len())
     };
-    let slot = &input[view.slot_start..][..view.slot_length];
-    let decision = &input[view.decision_start..][..view.decision_length];
     match view.status {
-        status::OK => Ok(Checked {
-            value: &input[view.value_start..][..view.value_length],
-            parts: (view.slot_start > 0).then_some((slot, decision)),
-            signer_count: view.signers,
-        }),
+        status::OK => Ok(Checked::of(input, &view)),
         status::NO_MEMBERS => Err(CheckError::NoMembers),
         status::OUTSIDE => Err(CheckError::Outside),
         status::TOO_FEW => Err(CheckError::TooFew),

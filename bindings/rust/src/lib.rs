@@ -1,6 +1,7 @@
 //! Committees, certificates and quorums of consensus nodes: how many of n participants may be
 //! faulty, the encodings of committees and of certificates, and of sets, maps and bimaps of keys of
-//! any size, and which members signed both of two different values.
+//! any size, and which members signed both of two different values; all by the number of members or
+//! by what they weigh.
 //!
 //! # A whole use
 //!
@@ -34,6 +35,27 @@
 //! borrowed from it; the types whose names end in `Buf` own it, have the views by `as_view`, and
 //! give it away by `into_bytes`.
 //!
+//! # By stake
+//!
+//! Where members have weights, as stake or voting power, the calls whose names begin with
+//! `weighted_` judge certificates by what the signers weigh, and say what those weigh that are
+//! named.
+//!
+//! ```
+//! use commonware_proved::{Certificate, FaultModel, Weights};
+//! use commonware_proved::{slot_value, weighted_check_encoded, weighted_equivocation_encoded};
+//!
+//! let (weights, model) = (Weights::new(&[40, 30, 20, 10])?, FaultModel::N3F1);
+//! assert_eq!((weights.max_faulty_weight(model), weights.quorum_weight(model)), (33, 67));
+//!
+//! let first = Certificate::encode(&slot_value(b"view 7", b"A")?, &[0, 1])?;
+//! let second = Certificate::encode(&slot_value(b"view 7", b"B")?, &[0, 2, 3])?;
+//! assert_eq!(weighted_check_encoded(model, &weights, &first)?.weight(), 70);
+//! let named = weighted_equivocation_encoded(model, &weights, &first, &second)?;
+//! assert_eq!((&named.members[..], named.weight), (&[0][..], 40));
+//! # Ok::<(), Box<dyn std::error::Error>>(())
+//! ```
+//!
 //! # What is proved, and what isn't
 //!
 //! What is decoded, encoded, looked up and judged is so by calls of the static library
@@ -55,8 +77,9 @@
 //! (its instructions go up to SSE4.1): that of the folder whose absolute path the environment
 //! variable `COMMONWARE_C_LIB` has, else that of `prebuilt/x86_64-linux` beside the crate's folder.
 //! The text `PROVED` beside it says its version, its SHA-256 and of which sources it is. It is an
-//! error where the major version isn't the crate's, where the archive has another SHA-256, and in a
-//! clone of the repository where the sources that are there are others. Where the program
+//! error where the major version isn't the crate's or the minor version is an earlier one, where the
+//! archive has another SHA-256, and in a clone of the repository where the sources that are there
+//! are others. Where the program
 //! `sha256sum` can't be run, a warning says so in place of the last two. A copy is linked, whose
 //! name has the first digits of the SHA-256, so that no other library is taken for it.
 //!
@@ -101,6 +124,8 @@ mod room;
 mod set;
 mod status;
 mod version;
+mod weighted;
+mod weights;
 
 pub use bimap::{BiMapError, BiMapView};
 pub use certificate::{Certificate, CertificateLimits};
@@ -116,3 +141,9 @@ pub use named::Which;
 pub use owned::{BiMapBuf, CertificateBuf, CommitteeBuf, MapBuf, SetBuf};
 pub use set::{Set, SetView};
 pub use version::{Version, version};
+pub use weighted::{
+    Named, WeightedCheckError, WeightedChecked, WeightedConflictError, WeightedEquivocationError,
+    weighted_check, weighted_check_encoded, weighted_conflict, weighted_conflict_encoded,
+    weighted_equivocation, weighted_equivocation_encoded,
+};
+pub use weights::{Weights, WeightsError};

@@ -39,6 +39,18 @@ impl Which {
     }
 }
 
+impl AsRef<raw::ConflictView> for raw::ConflictView {
+    fn as_ref(&self) -> &raw::ConflictView {
+        self
+    }
+}
+
+impl AsRef<raw::ConflictView> for raw::WeightedConflictView {
+    fn as_ref(&self) -> &raw::ConflictView {
+        &self.conflict
+    }
+}
+
 impl fmt::Display for Which {
     fn fmt(&self, f: &mut fmt::Formatter<'_>) -> fmt::Result {
         f.write_str(match self {
@@ -48,46 +60,48 @@ impl fmt::Display for Which {
     }
 }
 
-/// Returns the members that a call names for two inputs. Else what the library says of them, or
-/// `None` where an allocation failed. No memory is taken for inputs that name no one.
+/// Returns the members that a call names, which gets a room for their indices, and what it says of
+/// them. Else what it says, or `None` where an allocation failed. No memory is taken where no one
+/// is named.
+pub fn named_by<V: AsRef<raw::ConflictView>>(
+    call: impl Fn(&mut [u32]) -> V,
+) -> Result<(Vec<u32>, V), Option<V>> {
+    let mut few = [0; FEW];
+    let mut view = call(&mut few);
+    if !matches!(view.as_ref().status, status::OK | status::ROOM) {
+        return Err(Some(view));
+    }
+    let named = indices(&few, view.as_ref().count, |room| {
+        view = call(room);
+        let status = view.as_ref().status;
+        debug_assert_eq!(status, status::OK, "there is room for each member");
+    });
+    Ok((named.ok_or(None)?, view))
+}
+
+/// Returns the members that a call names for two inputs, of a committee with this number of them.
+/// Else what the library says of them, or `None` where an allocation failed.
 pub fn named(
     judge: raw::Judge,
     model: FaultModel,
     members: u32,
-    inputs: [&[u8]; 2],
-) -> Result<Vec<u32>, Option<raw::ConflictView>> {
-    let mut few = [0; FEW];
-    let view = call(judge, model, members, inputs, &mut few);
-    if !matches!(view.status, status::OK | status::ROOM) {
-        return Err(Some(view));
-    }
-    let named = indices(&few, view.count, |room| {
-        let filled = call(judge, model, members, inputs, room);
-        debug_assert_eq!(filled.status, status::OK, "there is room for each member");
-    });
-    named.ok_or(None)
-}
-
-/// Calls the library with a model, a number of members, two inputs, and a room for those named.
-fn call(
-    judge: raw::Judge,
-    model: FaultModel,
-    members: u32,
     [first, second]: [&[u8]; 2],
-    room: &mut [u32],
-) -> raw::ConflictView {
-    // SAFETY: each pointer and the length after it are those of one slice; all are borrowed for the
-    // call.
-    unsafe {
-        judge(
-            model.k(),
-            members,
-            first.as_ptr(),
-            first.len(),
-            second.as_ptr(),
-            second.len(),
-            room.as_mut_ptr(),
-            room.len(),
-        )
-    }
+) -> Result<Vec<u32>, Option<raw::ConflictView>> {
+    let (named, _) = named_by(|room| {
+        // SAFETY: each pointer and the length after it are those of one slice; all are borrowed for
+        // the call.
+        unsafe {
+            judge(
+                model.k(),
+                members,
+                first.as_ptr(),
+                first.len(),
+                second.as_ptr(),
+                second.len(),
+                room.as_mut_ptr(),
+                room.len(),
+            )
+        }
+    })?;
+    Ok(named)
 }

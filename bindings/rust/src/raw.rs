@@ -85,6 +85,33 @@ pub struct CheckView {
     pub decision_length: usize,
 }
 
+#[repr(C)]
+#[derive(Clone, Copy)]
+pub struct WeightsView {
+    pub status: u32,
+    pub number: usize,
+    pub total: u64,
+    pub tolerated: u64,
+    pub quorum: u64,
+    pub smaller_quorum: u64,
+}
+
+/// The fields of the other view come first, in their order.
+#[repr(C)]
+#[derive(Clone, Copy)]
+pub struct WeightedCheckView {
+    pub check: CheckView,
+    pub weight: u64,
+}
+
+/// The fields of the other view come first, in their order.
+#[repr(C)]
+#[derive(Clone, Copy)]
+pub struct WeightedConflictView {
+    pub conflict: ConflictView,
+    pub weight: u64,
+}
+
 /// A call that writes a map: the sizes of a key and of a value, the pairs, and the room.
 pub type MapWrite =
     unsafe extern "C" fn(usize, usize, *const u8, usize, *mut u8, usize) -> WrittenView;
@@ -100,6 +127,19 @@ pub type Judge = unsafe extern "C" fn(
     *mut u32,
     usize,
 ) -> ConflictView;
+
+/// A call that judges two certificates by weight: the k, the weights, both inputs, and the room.
+pub type WeightedJudge = unsafe extern "C" fn(
+    u32,
+    *const u64,
+    usize,
+    *const u8,
+    usize,
+    *const u8,
+    usize,
+    *mut u32,
+    usize,
+) -> WeightedConflictView;
 
 unsafe extern "C" {
     // These take numbers only, and return a number for each.
@@ -232,4 +272,38 @@ unsafe extern "C" {
         out: *mut u32,
         out_length: usize,
     ) -> ConflictView;
+    pub fn commonware_weights_quorum(
+        k: u32,
+        weights: *const u64,
+        weights_length: usize,
+    ) -> WeightsView;
+    pub fn commonware_weighted_check(
+        k: u32,
+        weights: *const u64,
+        weights_length: usize,
+        input: *const u8,
+        input_length: usize,
+    ) -> WeightedCheckView;
+    pub fn commonware_weighted_conflict(
+        k: u32,
+        weights: *const u64,
+        weights_length: usize,
+        first: *const u8,
+        first_length: usize,
+        second: *const u8,
+        second_length: usize,
+        out: *mut u32,
+        out_length: usize,
+    ) -> WeightedConflictView;
+    pub fn commonware_weighted_equivocation(
+        k: u32,
+        weights: *const u64,
+        weights_length: usize,
+        first: *const u8,
+        first_length: usize,
+        second: *const u8,
+        second_length: usize,
+        out: *mut u32,
+        out_length: usize,
+    ) -> WeightedConflictView;
 }

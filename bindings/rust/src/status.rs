@@ -18,3 +18,6 @@ pub const NO_SIZE: u32 = 16;
 pub const NOT_WHOLE: u32 = 17;
 pub const REPEATED_VALUE: u32 = 18;
 pub const REPEATED_KEY: u32 = 19;
+pub const ZERO_WEIGHT: u32 = 20;
+pub const WEIGHT_OVERFLOW: u32 = 21;
+pub const TOO_LIGHT: u32 = 22;

@@ -4,8 +4,9 @@
 use commonware_proved::{
     BiMapBuf, BiMapError, BiMapView, Certificate, CertificateBuf, CertificateLimits, Committee,
     CommitteeBuf, ConflictError, EncodeError, EquivocationError, FaultModel, MapBuf, MapView,
-    Refusal, Set, SetBuf, SetView, Which, check, conflict, conflict_encoded, equivocation,
-    equivocation_encoded, slot_value,
+    Refusal, Set, SetBuf, SetView, WeightedConflictError, WeightedEquivocationError, Weights,
+    Which, check, conflict, conflict_encoded, equivocation, equivocation_encoded, slot_value,
+    weighted_check_encoded, weighted_conflict_encoded, weighted_equivocation_encoded,
 };
 use std::alloc::{GlobalAlloc, Layout, System};
 use std::cell::Cell;
@@ -253,6 +254,38 @@ fn inputs_that_name_no_one_ask_for_no_memory() {
     name_no_one_for_nothing(0, [&one, &two], ConflictError::NoMembers);
 }
 
+#[test]
+fn those_named_by_weight_ask_for_their_indices_alone() {
+    for count in [1, 127, 128, 129, 300, 5_000u32] {
+        let items = vec![7; count as usize];
+        let (weights, asked) = counted(|| Weights::new(&items).expect("weights"));
+        assert_eq!(asked, 0);
+        let signers: Vec<u32> = (0..count).collect();
+        let [one, two] = [b"A", b"B"].map(|decision| {
+            let value = slot_value(b"7", decision).expect("a value");
+            Certificate::encode(&value, &signers).expect("a certificate")
+        });
+        let model = FaultModel::N3F1;
+        let call = || weighted_check_encoded(model, &weights, &one).map(|it| it.weight());
+        assert_eq!(counted(call), (Ok(weights.total()), 0), "{count}");
+        let wanted = (Ok(signers.clone()), 4 * signers.len());
+        let call = || weighted_conflict_encoded(model, &weights, &one, &two).map(|it| it.members);
+        assert_eq!(counted(call), wanted, "{count}");
+        let wanted = (Ok(signers.clone()), 4 * signers.len());
+        let call =
+            || weighted_equivocation_encoded(model, &weights, &one, &two).map(|it| it.members);
+        assert_eq!(counted(call), wanted, "{count}");
+        let same = || weighted_conflict_encoded(model, &weights, &one, &one).map(drop);
+        assert_eq!(counted(same), (Err(WeightedConflictError::SameValue), 0));
+        let shorter = Weights::new(&items[..1]).expect("weights");
+        let outside = || weighted_equivocation_encoded(model, &shorter, &one, &two).map(drop);
+        if count > 1 {
+            let refused = WeightedEquivocationError::Outside(Which::First);
+            assert_eq!(counted(outside), (Err(refused), 0));
+        }
+    }
+}
+
 /// A result has no more than twice the memory that it takes.
 fn is_trimmed(what: &str, result: Result<Vec<u8>, EncodeError>) {
     let bytes = result.expect("it is written");
@@ -356,4 +389,9 @@ fn each_allocation_failure_of_those_named_is_an_error() {
     assert_eq!(refuse_each(&ConflictError::Memory, call), 1);
     let call = || equivocation(model, &committee.as_view(), &first, &second);
     assert_eq!(refuse_each(&EquivocationError::Memory, call), 1);
+    let weights = Weights::new(&[5]).expect("weights");
+    let call = || weighted_conflict_encoded(model, &weights, &one, &two);
+    assert_eq!(refuse_each(&WeightedConflictError::Memory, call), 1);
+    let call = || weighted_equivocation_encoded(model, &weights, &one, &two);
+    assert_eq!(refuse_each(&WeightedEquivocationError::Memory, call), 1);
 }

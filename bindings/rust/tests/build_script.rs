@@ -74,8 +74,11 @@ impl Repository {
     }
 
     fn write_proved(&self, checksums: &str) {
-        let major = env!("CARGO_PKG_VERSION_MAJOR");
-        let text = format!("# version {major}.0.0\n# sources 0123\n{checksums}");
+        self.write_version(env!("CARGO_PKG_VERSION"), checksums);
+    }
+
+    fn write_version(&self, version: &str, checksums: &str) {
+        let text = format!("# version {version}\n# sources 0123\n{checksums}");
         let folder = self.root.join("bindings/prebuilt/x86_64-linux");
         fs::write(folder.join("PROVED"), text).expect("a file");
     }
@@ -100,6 +103,7 @@ impl Repository {
         script.env_clear().envs(self.variables.iter().cloned());
         script.env("CARGO_MANIFEST_DIR", self.root.join("bindings/rust"));
         script.env("CARGO_PKG_VERSION_MAJOR", env!("CARGO_PKG_VERSION_MAJOR"));
+        script.env("CARGO_PKG_VERSION_MINOR", env!("CARGO_PKG_VERSION_MINOR"));
         script.envs([
             ("CARGO_CFG_TARGET_ARCH", "x86_64"),
             ("CARGO_CFG_TARGET_OS", "linux"),
@@ -185,6 +189,31 @@ fn a_list_without_the_checksum_is_refused() {
     {
         repository.write_proved(checksums);
         repository.is_refused(&["PROVED", "SHA-256"]);
+    }
+}
+
+#[test]
+fn an_earlier_version_and_another_major_one_are_refused() {
+    let repository = Repository::new("versions");
+    let checksums = format!("{ABC}  libcommonware.a\n");
+    let number = |part: &str| part.parse::<u32>().expect("a number");
+    let major = number(env!("CARGO_PKG_VERSION_MAJOR"));
+    let minor = number(env!("CARGO_PKG_VERSION_MINOR"));
+    for later in [minor, minor + 1, minor + 10] {
+        repository.write_version(&format!("{major}.{later}.0"), &checksums);
+        assert_eq!(repository.told(), repository.linked(), "{later}");
+    }
+    let others = [
+        format!("{major}.{}.9", minor - 1),
+        format!("{}.{minor}.0", major + 1),
+        format!("{}.{minor}.0", major - 1),
+        format!("{major}"),
+        format!("{major}.x.0"),
+    ];
+    let taken = format!("version {major}.{minor} or a later one of {major}");
+    for version in others {
+        repository.write_version(&version, &checksums);
+        repository.is_refused(&[&format!("version {version}, "), &taken]);
     }
 }
 

@@ -5,8 +5,10 @@
 use commonware_proved::{
     BiMapBuf, BiMapError, BiMapView, Certificate, CertificateBuf, CheckError, Committee,
     CommitteeBuf, ConflictError, EncodeError, EquivocationError, FaultModel, MapBuf, MapView,
-    Refusal, Set, SetBuf, SetView, check_encoded, conflict_encoded, equivocation_encoded,
-    slot_value,
+    Refusal, Set, SetBuf, SetView, WeightedCheckError, WeightedConflictError,
+    WeightedEquivocationError, Weights, WeightsError, check_encoded, conflict_encoded,
+    equivocation_encoded, slot_value, weighted_check_encoded, weighted_conflict_encoded,
+    weighted_equivocation_encoded,
 };
 use std::cell::Cell;
 use std::ptr::NonNull;
@@ -244,4 +246,23 @@ fn slots_are_written_and_judged_without_an_allocation() {
     assert_eq!(refuse_each(&EquivocationError::Memory, call), 0);
     let call = || check_encoded(FaultModel::N3F1, 5_000, &inputs[0]);
     assert_eq!(refuse_each(&CheckError::NoMembers, call), 0);
+}
+
+#[test]
+fn weights_are_taken_and_judged_by_without_an_allocation() {
+    let (items, model) = ([3; 5_000], FaultModel::N3F1);
+    assert_eq!(
+        refuse_each(&WeightsError::Empty, || Weights::new(&items)),
+        0
+    );
+    let weights = Weights::new(&items).unwrap();
+    let signers: Vec<u32> = (0..5_000).collect();
+    let inputs = [b"A", b"B"].map(|decision| slot_value(b"7", decision).unwrap());
+    let inputs = inputs.map(|value| Certificate::encode(&value, &signers).unwrap());
+    let call = || weighted_check_encoded(model, &weights, &inputs[0]);
+    assert_eq!(refuse_each(&WeightedCheckError::Outside, call), 0);
+    let call = || weighted_conflict_encoded(model, &weights, &inputs[0], &inputs[1]);
+    assert_eq!(refuse_each(&WeightedConflictError::Memory, call), 0);
+    let call = || weighted_equivocation_encoded(model, &weights, &inputs[0], &inputs[1]);
+    assert_eq!(refuse_each(&WeightedEquivocationError::Memory, call), 0);
 }

@@ -7,8 +7,9 @@ mod raw;
 use commonware_proved::{
     BiMapBuf, BiMapError, BiMapView, Certificate, CertificateBuf, CertificateLimits, CheckError,
     Checked, Committee, CommitteeBuf, ConflictError, EncodeError, EquivocationError, FaultModel,
-    Items, MEMBER_SIZE, MapBuf, MapView, Pairs, Refusal, Set, SetBuf, SetView, Version, Which,
-    check_encoded, version,
+    Items, MEMBER_SIZE, MapBuf, MapView, Named, Pairs, Refusal, Set, SetBuf, SetView, Version,
+    WeightedCheckError, WeightedChecked, WeightedConflictError, WeightedEquivocationError, Weights,
+    WeightsError, Which, check_encoded, version, weighted_check_encoded, weighted_conflict_encoded,
 };
 use std::collections::HashSet;
 use std::error::Error;
@@ -235,6 +236,111 @@ fn each_error_about_one_certificate_tells_it_alone() {
 fn errors_about_two_certificates_are_three_words_at_most() {
     let words = 3 * size_of::<usize>();
     assert!(size_of::<ConflictError>() <= words && size_of::<EquivocationError>() <= words);
+    assert!(size_of::<WeightedConflictError>() <= words);
+    assert!(size_of::<WeightedEquivocationError>() <= words);
+}
+
+#[test]
+fn each_error_by_weight_has_a_text_and_its_source() {
+    let inner = Some("unexpected end of input");
+    let read = "the certificate can't be read";
+    says(WeightedCheckError::Input(Refusal::EndOfInput), read, inner);
+    let outside = "a signer is no member of the committee";
+    says(WeightedCheckError::Outside, outside, None);
+    let light = "the signers weigh less than a quorum";
+    says(WeightedCheckError::TooLight, light, None);
+    let same = "both certificates are for the same value";
+    says(WeightedConflictError::SameValue, same, None);
+    says(WeightedConflictError::Memory, "out of memory", None);
+    let slots = "two different slots";
+    says(WeightedEquivocationError::OtherSlot, slots, None);
+    let same = "the same decision for the same slot";
+    says(WeightedEquivocationError::SameDecision, same, None);
+    says(WeightedEquivocationError::Memory, "out of memory", None);
+    for (which, word) in [(Which::First, "first"), (Which::Second, "second")] {
+        let read = format!("the {word} certificate can't be read");
+        let refusal = Refusal::EndOfInput;
+        says(WeightedConflictError::Input(which, refusal), &read, inner);
+        let error = WeightedEquivocationError::Input(which, refusal);
+        says(error, &read, inner);
+        let outside = format!("a signer of the {word} certificate is no member of the committee");
+        says(WeightedConflictError::Outside(which), &outside, None);
+        says(WeightedEquivocationError::Outside(which), &outside, None);
+        let light = format!("the signers of the {word} certificate weigh less than a quorum");
+        says(WeightedConflictError::TooLight(which), &light, None);
+        says(WeightedEquivocationError::TooLight(which), &light, None);
+        let slot = format!("the value of the {word} certificate has no slot");
+        says(WeightedEquivocationError::NoSlot(which), &slot, None);
+    }
+}
+
+#[test]
+fn each_error_by_weight_tells_the_certificate_that_it_is_about() {
+    for which in [Which::First, Which::Second] {
+        let errors = [
+            WeightedConflictError::Input(which, Refusal::EndOfInput),
+            WeightedConflictError::Outside(which),
+            WeightedConflictError::TooLight(which),
+        ];
+        assert_eq!(errors.map(|error| error.which()), [Some(which); 3]);
+        let errors = [
+            WeightedEquivocationError::Input(which, Refusal::EndOfInput),
+            WeightedEquivocationError::NoSlot(which),
+            WeightedEquivocationError::Outside(which),
+            WeightedEquivocationError::TooLight(which),
+        ];
+        assert_eq!(errors.map(|error| error.which()), [Some(which); 4]);
+    }
+    let errors = [
+        WeightedConflictError::SameValue,
+        WeightedConflictError::Memory,
+    ];
+    assert_eq!(errors.map(|error| error.which()), [None; 2]);
+    let errors = [
+        WeightedEquivocationError::OtherSlot,
+        WeightedEquivocationError::SameDecision,
+        WeightedEquivocationError::Memory,
+    ];
+    assert_eq!(errors.map(|error| error.which()), [None; 3]);
+}
+
+#[test]
+fn each_error_of_weights_has_a_text_and_its_index() {
+    says(WeightsError::Empty, "no weights", None);
+    let many = "4294967296 weights are past 4294967295";
+    says(WeightsError::TooMany(1 << 32), many, None);
+    says(WeightsError::Zero(7), "weight 7 is 0", None);
+    let past = "with weight 8 the sum is past 18446744073709551615";
+    says(WeightsError::Overflow(8), past, None);
+    let errors = [
+        WeightsError::Empty,
+        WeightsError::TooMany(9),
+        WeightsError::Zero(7),
+        WeightsError::Overflow(8),
+    ];
+    let indices = [None, None, Some(7), Some(8)];
+    assert_eq!(errors.map(|error| error.index()), indices);
+}
+
+#[test]
+fn weights_and_what_is_weighed_are_printed_and_compared() {
+    let items = [40, 30, 20, 10];
+    let weights = Weights::try_from(&items[..]).expect("weights");
+    assert_eq!(format!("{weights:?}"), "Weights([40, 30, 20, 10])");
+    let again: Vec<u64> = weights.into_iter().collect();
+    assert!((&weights).into_iter().rev().eq([10, 20, 30, 40]));
+    let same = Weights::new(&again).expect("weights");
+    let other = Weights::new(&[30, 40, 20, 10]).expect("weights");
+    differ(weights, same, other);
+    let input = [3, 1, 0x0a, 0xb0, 2, 0, 1];
+    let checked = weighted_check_encoded(FaultModel::N3F1, &weights, &input).expect("a quorum");
+    let parts = r#"value: "010ab0", slot: Some("0a"), decision: Some("b0")"#;
+    let printed = format!("WeightedChecked {{ {parts}, signer_count: 2, weight: 70 }}");
+    assert_eq!(format!("{checked:?}"), printed);
+    let second = [1, 9, 3, 0, 2, 3];
+    let named = weighted_conflict_encoded(FaultModel::N3F1, &weights, &input, &second);
+    let printed = "Named { members: [0], weight: 40 }";
+    assert_eq!(format!("{:?}", named.expect("a conflict")), printed);
 }
 
 #[test]
@@ -365,12 +471,19 @@ fn types_are_shared_printed_and_compared() {
     is_shared::<Version>();
     is_shared::<CertificateLimits>();
     is_shared::<Which>();
+    is_shared::<Weights<'_>>();
+    is_shared::<WeightedChecked<'_>>();
+    is_shared::<Named>();
     is_error::<Refusal>();
     is_error::<EncodeError>();
     is_error::<BiMapError>();
     is_error::<CheckError>();
     is_error::<ConflictError>();
     is_error::<EquivocationError>();
+    is_error::<WeightsError>();
+    is_error::<WeightedCheckError>();
+    is_error::<WeightedConflictError>();
+    is_error::<WeightedEquivocationError>();
 }
 
 fn is_iterator<T: DoubleEndedIterator + ExactSizeIterator + FusedIterator + Clone + Debug>() {}

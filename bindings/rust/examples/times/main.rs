@@ -1,5 +1,6 @@
 //! Nanoseconds a call, through the static library and by plain Rust that does the same checks. Hold
-//! it to one core (taskset). With the word `keys` after it, those of sets of keys of several sizes.
+//! it to one core (taskset). With the word `keys` after it, those of sets of keys of several sizes;
+//! with the word `weights`, those of certificates by weight.
 
 use commonware_proved::{
     Certificate, Committee, FaultModel, Member, check_encoded, conflict_encoded,
@@ -12,8 +13,12 @@ use timing::compare;
 use varint::varint;
 
 mod keys;
+#[allow(dead_code, reason = "the crate calls the rest")]
+#[path = "../../src/raw.rs"]
+mod raw;
 mod timing;
 mod varint;
+mod weights;
 
 /// Returns the members in place, and what follows them.
 #[inline(never)]
@@ -106,8 +111,10 @@ fn main() {
         "{:<34} {:>12} {:>12}  ratio (quartiles)",
         "", "library", "plain Rust"
     );
-    if env::args().nth(1).as_deref() == Some("keys") {
-        return keys::compare_all();
+    match env::args().nth(1).as_deref() {
+        Some("keys") => return keys::compare_all(),
+        Some("weights") => return weights::compare_all(),
+        _ => {}
     }
     compare(
         "quorum",
