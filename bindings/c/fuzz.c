@@ -3,7 +3,7 @@
  *
  * clang -fsanitize=fuzzer makes a fuzzer of it. With COMMONWARE_DRIVER it has a main of its own,
  * which takes a number n and files: it tries each file, and n random changes of each. */
-#include "commonware.h"
+#include "decoder.h"
 
 #include <stdbool.h>
 #include <stdio.h>
@@ -20,111 +20,6 @@ static void require(bool holds, const char *what, int line) {
 }
 
 #define REQUIRE(condition) require((condition), #condition, __LINE__)
-
-/* The bytes that are not yet read. */
-struct rest {
-    const uint8_t *bytes;
-    size_t length;
-};
-
-/* Decodes groups of seven bits, the lowest first, in at most five bytes and the fewest. */
-static uint32_t decode_varint(struct rest *rest, uint32_t *number) {
-    uint64_t value = 0;
-    for (size_t i = 0; i < 5; i++) {
-        if (i == rest->length) {
-            return COMMONWARE_END_OF_INPUT;
-        }
-        const uint8_t byte = rest->bytes[i];
-        value |= (uint64_t)(byte % 128) << (7 * i);
-        if (i == 4 && byte > 0x0f) {
-            return COMMONWARE_INVALID_VARINT;
-        }
-        if (byte < 128) {
-            if (byte == 0 && i > 0) {
-                return COMMONWARE_INVALID_VARINT;
-            }
-            *number = (uint32_t)value;
-            rest->bytes += i + 1;
-            rest->length -= i + 1;
-            return COMMONWARE_OK;
-        }
-    }
-    return COMMONWARE_INVALID_VARINT;
-}
-
-/* Decodes how many items follow, of which `least` to `most` are allowed. */
-static uint32_t decode_length(struct rest *rest, size_t least, size_t most, uint32_t *length) {
-    const uint32_t status = decode_varint(rest, length);
-    if (status == COMMONWARE_OK && (*length < least || most < *length)) {
-        return COMMONWARE_INVALID_LENGTH;
-    }
-    return status;
-}
-
-/* Takes `count` items of `size` bytes; says whether they are strictly increasing. */
-static uint32_t decode_items(struct rest *rest, size_t size, uint32_t count, bool *strict) {
-    *strict = size > 0 || count < 2;
-    for (uint32_t i = 0; size > 0 && i < count; i++) {
-        if (rest->length < size) {
-            return COMMONWARE_END_OF_INPUT;
-        }
-        *strict = *strict && (i == 0 || memcmp(rest->bytes - size, rest->bytes, size) < 0);
-        rest->bytes += size;
-        rest->length -= size;
-    }
-    return COMMONWARE_OK;
-}
-
-/* A set of keys of `size` bytes; `count` is the length that the input states. */
-static uint32_t decode_set(struct rest *rest, size_t size, size_t least, size_t most,
-                           uint32_t *count) {
-    uint32_t status = decode_length(rest, least, most, count);
-    bool strict = true;
-    if (status == COMMONWARE_OK) {
-        status = decode_items(rest, size, *count, &strict);
-    }
-    return status == COMMONWARE_OK && !strict ? COMMONWARE_NOT_STRICT : status;
-}
-
-/* A list of bytes, and then a set of participants, whose indices go to `signers`. */
-struct parts {
-    const uint8_t *value;
-    uint32_t value_length;
-    uint32_t count;
-    uint32_t *signers;
-};
-
-/* `length` is the length that the input states. */
-static uint32_t decode_certificate(struct rest *rest, size_t most_bytes, size_t most_signers,
-                                   struct parts *parts, uint32_t *length) {
-    uint32_t status = decode_length(rest, 0, most_bytes, length);
-    if (status != COMMONWARE_OK) {
-        return status;
-    }
-    if (rest->length < *length) {
-        return COMMONWARE_END_OF_INPUT;
-    }
-    parts->value = rest->bytes;
-    parts->value_length = *length;
-    rest->bytes += *length;
-    rest->length -= *length;
-    status = decode_length(rest, 0, most_signers, length);
-    if (status != COMMONWARE_OK) {
-        return status;
-    }
-    parts->count = *length;
-    bool strict = true;
-    for (uint32_t i = 0; i < parts->count; i++) {
-        uint32_t signer = 0;
-        status = decode_varint(rest, &signer);
-        if (status != COMMONWARE_OK) {
-            return status;
-        }
-        strict = strict && (i == 0 || parts->signers[i - 1] < signer);
-        parts->signers[i] = signer;
-    }
-    return strict ? COMMONWARE_OK : COMMONWARE_NOT_STRICT;
-}
 
 /* At least one element, so that no allocation is of 0 bytes. */
 static void *room(size_t elements, size_t size) {
@@ -494,14 +389,54 @@ static void try_indices(const uint8_t *input, size_t length, size_t value_length
     free(out);
 }
 
+/* The k of a model, how many members there are, and what each of them weighs, or NULL. */
+struct committee {
+    uint32_t k, members;
+    const uint64_t *weights;
+};
+
 static bool has_outsider(const struct parts *parts, uint32_t members) {
     return parts->count > 0 && parts->signers[parts->count - 1] >= members;
 }
 
-/* A status, and the input that it is about. */
+/* A status, the input that it is about, and its number. */
 struct verdict {
     uint32_t status, which;
+    size_t number;
 };
+
+static const struct verdict no_fault = {COMMONWARE_OK, 0, 0};
+
+static struct verdict fault(uint32_t status, uint32_t which, size_t number) {
+    return (struct verdict){status, which, number};
+}
+
+/* What signers weigh that are members: their number, where the members have no weights. */
+static uint64_t weight_of(struct committee it, const uint32_t *signers, size_t count) {
+    uint64_t weight = it.weights == NULL ? count : 0;
+    for (size_t i = 0; it.weights != NULL && i < count; i++) {
+        weight += it.weights[signers[i]];
+    }
+    return weight;
+}
+
+/* Whether there is a model, and members, with weights whose sum fits; and what they weigh. */
+static struct verdict judge_committee(struct committee it, uint64_t *total) {
+    if (it.k < 2 || it.members == 0) {
+        return fault(it.k < 2 ? COMMONWARE_NO_MODEL : COMMONWARE_NO_MEMBERS, 0, 0);
+    }
+    *total = it.weights == NULL ? it.members : 0;
+    for (uint32_t i = 0; it.weights != NULL && i < it.members; i++) {
+        if (it.weights[i] == 0) {
+            return fault(COMMONWARE_ZERO_WEIGHT, 0, i);
+        }
+        if (it.weights[i] > UINT64_MAX - *total) {
+            return fault(COMMONWARE_WEIGHT_OVERFLOW, 0, i);
+        }
+        *total += it.weights[i];
+    }
+    return no_fault;
+}
 
 /* Finds the slot of a value and the decision after it. */
 static bool find_slot(const struct parts *parts, struct rest *slot, struct rest *decision) {
@@ -526,72 +461,85 @@ static struct verdict judge_values(const struct parts *parts, bool by_slot) {
     if (!by_slot) {
         const struct rest values[2] = {{parts[0].value, parts[0].value_length},
                                        {parts[1].value, parts[1].value_length}};
-        return (struct verdict){
-            are_same(values[0], values[1]) ? COMMONWARE_SAME_VALUE : COMMONWARE_OK, 0};
+        return fault(are_same(values[0], values[1]) ? COMMONWARE_SAME_VALUE : COMMONWARE_OK, 0, 0);
     }
     for (uint32_t i = 0; i < 2; i++) {
         if (!find_slot(&parts[i], &slots[i], &decisions[i])) {
-            return (struct verdict){COMMONWARE_NO_SLOT, i + 1};
+            return fault(COMMONWARE_NO_SLOT, i + 1, 0);
         }
     }
     if (!are_same(slots[0], slots[1])) {
-        return (struct verdict){COMMONWARE_OTHER_SLOT, 0};
+        return fault(COMMONWARE_OTHER_SLOT, 0, 0);
     }
-    return (struct verdict){
-        are_same(decisions[0], decisions[1]) ? COMMONWARE_SAME_VALUE : COMMONWARE_OK, 0};
+    const bool is_same = are_same(decisions[0], decisions[1]);
+    return fault(is_same ? COMMONWARE_SAME_VALUE : COMMONWARE_OK, 0, 0);
 }
 
-/* Whether the signers are members, and at least a quorum, one list after the other. */
-static struct verdict judge_signers(const struct parts *parts, uint32_t lists, uint32_t k,
-                                    uint32_t members) {
+/* Whether the signers are members, and a quorum of this total or more, one list after the other. */
+static struct verdict judge_signers(const struct parts *parts, uint32_t lists,
+                                    struct committee it, uint64_t total) {
     for (uint32_t i = 0; i < lists; i++) {
-        if (has_outsider(&parts[i], members)) {
-            return (struct verdict){COMMONWARE_OUTSIDE, i + 1};
+        if (has_outsider(&parts[i], it.members)) {
+            return fault(COMMONWARE_OUTSIDE, i + 1, 0);
         }
     }
     for (uint32_t i = 0; i < lists; i++) {
-        if (parts[i].count < members - (members - 1) / k) {
-            return (struct verdict){COMMONWARE_TOO_FEW, i + 1};
+        if (weight_of(it, parts[i].signers, parts[i].count) < total - (total - 1) / it.k) {
+            const bool by_weight = it.weights != NULL;
+            return fault(by_weight ? COMMONWARE_TOO_LIGHT : COMMONWARE_TOO_FEW, i + 1, 0);
         }
     }
-    return (struct verdict){COMMONWARE_OK, 0};
+    return no_fault;
 }
 
-/* Decodes an input that is exactly one certificate. */
-static uint32_t decode_whole(struct rest rest, struct parts *parts) {
+/* Decodes an input that is exactly one certificate: of two the one of this number, else 0. */
+static struct verdict decode_whole(struct rest rest, struct parts *parts, uint32_t which) {
     uint32_t stated = 0;
     const uint32_t status = decode_certificate(&rest, SIZE_MAX, SIZE_MAX, parts, &stated);
-    return status == COMMONWARE_OK && rest.length > 0 ? COMMONWARE_LEFT_OVER : status;
+    if (status != COMMONWARE_OK) {
+        return fault(status, which, 0);
+    }
+    return rest.length == 0 ? no_fault : fault(COMMONWARE_LEFT_OVER, which, rest.length);
+}
+
+/* Calls the library for two inputs. Where the members have no weights, each weighs 1. */
+static commonware_weighted_conflict_view call_both(struct committee it, const struct rest *rests,
+                                                   bool by_slot, uint32_t *out, size_t places) {
+    const struct rest one = rests[0], two = rests[1];
+    if (it.weights != NULL) {
+        return (by_slot ? commonware_weighted_equivocation : commonware_weighted_conflict)(
+            it.k, it.weights, it.members, one.bytes, one.length, two.bytes, two.length, out,
+            places);
+    }
+    const commonware_conflict_view view =
+        (by_slot ? commonware_equivocation : commonware_conflict)(
+            it.k, it.members, one.bytes, one.length, two.bytes, two.length, out, places);
+    const size_t weight = view.status == COMMONWARE_OK ? view.count : 0;
+    return (commonware_weighted_conflict_view){view.status, view.which, view.number, view.count,
+                                               weight};
 }
 
 /* The members that signed both of two inputs: the bytes before a place, and those from it on. */
-static void try_both(uint32_t k, uint32_t members, const uint8_t *input, size_t length,
-                     size_t place, bool by_slot) {
+static void try_both(struct committee it, const uint8_t *input, size_t length, size_t place,
+                     bool by_slot) {
     const struct rest rests[2] = {{input, place}, {input + place, length - place}};
     struct parts parts[2];
-    struct verdict wanted = {COMMONWARE_OK, 0};
+    uint64_t total = 0;
+    struct verdict wanted = judge_committee(it, &total);
     for (uint32_t i = 0; i < 2; i++) {
         parts[i].signers = room(length, sizeof(uint32_t));
         parts[i].count = 0;
-        if (wanted.status == COMMONWARE_OK) {
-            wanted.status = decode_whole(rests[i], &parts[i]);
-            wanted.which = wanted.status == COMMONWARE_OK ? 0 : i + 1;
-        }
+        wanted = wanted.status == COMMONWARE_OK ? decode_whole(rests[i], &parts[i], i + 1) : wanted;
     }
-    if (k < 2 || members == 0) {
-        wanted = (struct verdict){k < 2 ? COMMONWARE_NO_MODEL : COMMONWARE_NO_MEMBERS, 0};
-    } else if (wanted.status == COMMONWARE_OK) {
+    if (wanted.status == COMMONWARE_OK) {
         wanted = judge_values(parts, by_slot);
-        wanted = wanted.status == COMMONWARE_OK ? judge_signers(parts, 2, k, members) : wanted;
+        wanted = wanted.status == COMMONWARE_OK ? judge_signers(parts, 2, it, total) : wanted;
     }
     size_t both = 0;
     uint32_t *out = room(length, sizeof(uint32_t));
-    const commonware_conflict_view view =
-        by_slot ? commonware_equivocation(k, members, input, place, input + place, length - place,
-                                          out, length)
-                : commonware_conflict(k, members, input, place, input + place, length - place, out,
-                                      length);
+    commonware_weighted_conflict_view view = call_both(it, rests, by_slot, out, length);
     REQUIRE(view.status == wanted.status && view.which == wanted.which);
+    REQUIRE(view.number == wanted.number);
     for (uint32_t i = 0; view.status == COMMONWARE_OK && i < parts[0].count; i++) {
         for (uint32_t j = 0; j < parts[1].count; j++) {
             if (parts[0].signers[i] == parts[1].signers[j]) {
@@ -600,27 +548,45 @@ static void try_both(uint32_t k, uint32_t members, const uint8_t *input, size_t 
         }
     }
     REQUIRE(view.count == both);
-    REQUIRE(view.status != COMMONWARE_OK || out[both] == 0xeeeeeeee);
-    REQUIRE(view.status != COMMONWARE_OK || both >= (k - 2) * ((members - 1) / k) + 1);
-    REQUIRE(view.status == COMMONWARE_OK || out[0] == 0xeeeeeeee);
+    if (view.status == COMMONWARE_OK) {
+        REQUIRE(out[both] == 0xeeeeeeee && view.weight == weight_of(it, out, both));
+        REQUIRE(view.weight >= (it.k - 2) * ((total - 1) / it.k) + 1);
+        out[0] = 0xeeeeeeee;
+        view = call_both(it, rests, by_slot, out, both - 1);
+        REQUIRE(view.status == COMMONWARE_ROOM && view.count == both);
+    }
+    REQUIRE(out[0] == 0xeeeeeeee && view.weight == 0);
     free(parts[0].signers);
     free(parts[1].signers);
     free(out);
 }
 
-/* Whether the input is the certificate of a quorum, and where its parts are. */
-static void try_check(uint32_t k, uint32_t members, const uint8_t *input, size_t length) {
-    struct parts parts = {NULL, 0, 0, room(length, sizeof(uint32_t))};
-    struct rest slot = {NULL, 0}, decision = {NULL, 0};
-    struct verdict wanted = {decode_whole((struct rest){input, length}, &parts), 1};
-    if (k < 2 || members == 0) {
-        wanted.status = k < 2 ? COMMONWARE_NO_MODEL : COMMONWARE_NO_MEMBERS;
-    } else if (wanted.status == COMMONWARE_OK) {
-        wanted = judge_signers(&parts, 1, k, members);
+/* Calls the library for one input. Where the members have no weights, each weighs 1. */
+static commonware_weighted_check_view call_check(struct committee it, const uint8_t *input,
+                                                 size_t length) {
+    if (it.weights != NULL) {
+        return commonware_weighted_check(it.k, it.weights, it.members, input, length);
     }
-    const commonware_check_view view = commonware_certificate_check(k, members, input, length);
-    REQUIRE(view.status == wanted.status);
+    const commonware_check_view counted =
+        commonware_certificate_check(it.k, it.members, input, length);
+    /* The fields of that view come first. */
+    commonware_weighted_check_view view = {.weight = counted.signers};
+    memcpy(&view, &counted, sizeof counted);
+    return view;
+}
+
+/* Whether the input is the certificate of a quorum, and where its parts are. */
+static void try_check(struct committee it, const uint8_t *input, size_t length) {
+    struct parts parts = {NULL, 0, 0, room(length, sizeof(uint32_t))};
+    struct rest slot = {NULL, 0}, decision = {NULL, 0}, rest = {input, length};
+    uint64_t total = 0;
+    struct verdict wanted = judge_committee(it, &total);
+    wanted = wanted.status == COMMONWARE_OK ? decode_whole(rest, &parts, 0) : wanted;
+    wanted = wanted.status == COMMONWARE_OK ? judge_signers(&parts, 1, it, total) : wanted;
+    const commonware_weighted_check_view view = call_check(it, input, length);
+    REQUIRE(view.status == wanted.status && view.number == wanted.number);
     if (view.status == COMMONWARE_OK) {
+        REQUIRE(view.weight == weight_of(it, parts.signers, parts.count));
         REQUIRE(view.signers == parts.count && input + view.value_start == parts.value);
         REQUIRE(view.value_length == parts.value_length);
         const bool has_slot = find_slot(&parts, &slot, &decision);
@@ -630,6 +596,40 @@ static void try_check(uint32_t k, uint32_t members, const uint8_t *input, size_t
         REQUIRE(view.slot_length == slot.length && view.decision_length == decision.length);
     }
     free(parts.signers);
+}
+
+/* The numbers of weights. */
+static void try_weights(struct committee it) {
+    uint64_t total = 0;
+    const struct verdict wanted = judge_committee(it, &total);
+    const commonware_weights_view view = commonware_weights_quorum(it.k, it.weights, it.members);
+    REQUIRE(view.status == wanted.status && view.number == wanted.number);
+    const bool is_ok = view.status == COMMONWARE_OK;
+    const uint64_t tolerated = is_ok ? (total - 1) / it.k : 0;
+    REQUIRE(view.total == (is_ok ? total : 0) && view.tolerated == tolerated);
+    REQUIRE(view.quorum == (is_ok ? total - tolerated : 0));
+    REQUIRE(view.smaller_quorum == (is_ok ? 2 * tolerated + 1 : 0));
+}
+
+/* All that is asked of a committee: without weights, and with the bytes of the input as weights, as
+ * they are, or with 1 added, and so many bits moved up that few or many sums overflow. */
+static void try_committees(uint32_t k, uint32_t members, const uint8_t *input, size_t length,
+                           size_t place) {
+    uint64_t *weights = room(members, sizeof(uint64_t));
+    for (unsigned form = 0; form < 5; form++) {
+        for (uint32_t i = 0; i < members; i++) {
+            const uint64_t byte = input[i % length];
+            weights[i] = form == 0 ? byte : (byte + 1) << (form - 1) * 18;
+        }
+        const struct committee it = {k, members, form < 4 ? weights : NULL};
+        try_both(it, input, length, place, false);
+        try_both(it, input, length, place, true);
+        try_check(it, input, length);
+        if (it.weights != NULL) {
+            try_weights(it);
+        }
+    }
+    free(weights);
 }
 
 int LLVMFuzzerTestOneInput(const uint8_t *data, size_t size) {
@@ -646,9 +646,9 @@ int LLVMFuzzerTestOneInput(const uint8_t *data, size_t size) {
     try_certificate(input, length, low, high);
     try_certificate(input, length, SIZE_MAX, SIZE_MAX);
     try_indices(input, length, low < length ? low : length);
-    try_both(k, (uint32_t)high, input, length, low < length ? low : length, false);
-    try_both(k, (uint32_t)high, input, length, low < length ? low : length, true);
-    try_check(k, (uint32_t)high, input, length);
+    try_committees(k, (uint32_t)high, input, length, low < length ? low : length);
+    /* Of few members few signers are a quorum. */
+    try_committees(k, (uint32_t)high % 5, input, length, low < length ? low : length);
     free(input);
     return 0;
 }

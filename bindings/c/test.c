@@ -41,15 +41,15 @@ void commonware_dealloc(unsigned char *block) {
     free(block);
 }
 
-#if COMMONWARE_VERSION != 1000000 || COMMONWARE_VERSION_MAJOR != 1
+#if COMMONWARE_VERSION != 1001000 || COMMONWARE_VERSION_MAJOR != 1
 #error "commonware.h has another version than these tests"
 #endif
 
-/* The version is 1.0.0, of the header and of the library. */
+/* The version is 1.1.0, of the header and of the library. */
 static void test_version(void) {
-    CHECK(commonware_version() == 1000000);
-    CHECK(COMMONWARE_VERSION == 1000000 && COMMONWARE_VERSION_MAJOR == 1);
-    CHECK(COMMONWARE_VERSION_MINOR == 0 && COMMONWARE_VERSION_PATCH == 0);
+    CHECK(commonware_version() == 1001000);
+    CHECK(COMMONWARE_VERSION == 1001000 && COMMONWARE_VERSION_MAJOR == 1);
+    CHECK(COMMONWARE_VERSION_MINOR == 1 && COMMONWARE_VERSION_PATCH == 0);
 }
 
 static void test_status_text(void) {
@@ -77,12 +77,15 @@ static void test_status_text(void) {
         {COMMONWARE_NOT_WHOLE, "bytes follow the last whole key, or the last whole pair"},
         {COMMONWARE_REPEATED_VALUE, "two pairs have the same value"},
         {COMMONWARE_REPEATED_KEY, "a pair has the key of an earlier one"},
-        {20, "no status of this version"},
+        {COMMONWARE_ZERO_WEIGHT, "a weight is 0"},
+        {COMMONWARE_WEIGHT_OVERFLOW, "the sum of the weights is past 18446744073709551615"},
+        {COMMONWARE_TOO_LIGHT, "the signers weigh less than a quorum"},
+        {23, "no status of this version"},
         {UINT32_MAX, "no status of this version"},
     };
     for (size_t i = 0; i < sizeof told / sizeof *told; i++) {
         CHECK(strcmp(commonware_status_text(told[i].status), told[i].text) == 0);
-        CHECK(told[i].status == (i < 21 ? i : UINT32_MAX));
+        CHECK(told[i].status == (i < 24 ? i : UINT32_MAX));
     }
 }
 
@@ -644,7 +647,8 @@ static void test_memory(void) {
     uint8_t committee[COMMONWARE_COMMITTEE_SIZE(5)];
     const uint8_t empty[] = {0, 0};
     uint32_t out[4];
-    for (int call = 0; call < 12; call++) {
+    const uint64_t weights[] = {10, 20, 30, 40};
+    for (int call = 0; call < 15; call++) {
         for (allowed = 0;; allowed++) {
             requests = 0;
             memset(out, 0xee, sizeof out);
@@ -663,7 +667,13 @@ static void test_memory(void) {
                 : call == 9 ? commonware_set_write(32, keys[0], 160, OF(committee)).status
                 : call == 10
                     ? commonware_map_write(20, 12, keys[0], 160, OF(committee)).status
-                    : commonware_map_write_unique(20, 12, keys[0], 160, OF(committee)).status;
+                : call == 11
+                    ? commonware_map_write_unique(20, 12, keys[0], 160, OF(committee)).status
+                : call == 12 ? commonware_weights_quorum(3, OF(weights)).status
+                : call == 13 ? commonware_weighted_check(2, OF(weights), OF(first)).status
+                             : commonware_weighted_conflict(2, OF(weights), OF(first), OF(second),
+                                                            OF(out))
+                                   .status;
             CHECK(live == 0);
             if (status == COMMONWARE_OK) {
                 break;
@@ -673,7 +683,7 @@ static void test_memory(void) {
                 break;
             }
         }
-        CHECK(allowed == requests && (allowed > 0) == (call == 0 || call > 8));
+        CHECK(allowed == requests && (allowed > 0) == (call == 0 || (call > 8 && call < 12)));
         printf("call %d: each of %zu requests refused\n", call, allowed);
     }
     allowed = SIZE_MAX;

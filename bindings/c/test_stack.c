@@ -87,6 +87,10 @@ static void *conflict(void *argument) {
     uint32_t both[4];
     CHECK(commonware_conflict(3, 4, OF(first), OF(second), OF(both)).status == COMMONWARE_OK);
     CHECK(commonware_certificate_check(3, 4, OF(first)).status == COMMONWARE_OK);
+    const uint64_t weights[] = {40, 30, 20, 10};
+    CHECK(commonware_weighted_check(3, OF(weights), OF(first)).status == COMMONWARE_OK);
+    CHECK(commonware_weighted_conflict(2, OF(weights), OF(first), OF(second), OF(both)).status ==
+          COMMONWARE_OK);
     return argument;
 }
 
