@@ -97,7 +97,11 @@ type Checked struct {
 // Else the error is the first of these: [ErrNoModel], [ErrNoMembers], a fault of the input ([ErrEndOfInput],
 // [ErrInvalidVarint], [ErrNotStrict], [LeftOverError]), [ErrOutside], [ErrTooFew].
 func Check(model FaultModel, members uint32, input []byte) (Checked, error) {
-	view := nativeCertificateCheck(uint32(model), members, input)
+	return checkedOf(nativeCertificateCheck(uint32(model), members, input), input)
+}
+
+// checkedOf returns what was found in an input, where it is a certificate of a quorum.
+func checkedOf(view foundChecked, input []byte) (Checked, error) {
 	if err := errorOf(view.status, view.number); err != nil {
 		return Checked{}, err
 	}
@@ -152,9 +156,14 @@ func named(call namer, model FaultModel, members uint32, first, second []byte) (
 		named = make([]uint32, view.count)
 		view = call(uint32(model), members, first, second, named)
 	}
+	return named, errorAbout(view)
+}
+
+// errorAbout returns the error of what was found, with the certificate that it is about, or nil.
+func errorAbout(view foundConflict) error {
 	err := errorOf(view.status, view.number)
 	if err != nil && view.which > 0 {
-		return nil, CertificateError{Which: int(view.which), Err: err}
+		return CertificateError{Which: int(view.which), Err: err}
 	}
-	return named, err
+	return err
 }

@@ -1,6 +1,6 @@
 // Package commonware has what a consensus node needs to know of its committee: how many of n participants may be
 // faulty, the encodings of committees and of certificates, and of sets, maps and bimaps of keys of any size, and which
-// members signed both of two different values.
+// members signed both of two different values; all by the number of members or by what they weigh.
 //
 // Each call is one or two calls of the static library libcommonware.a, whose contracts are proved; nothing is decided
 // here, but that a key of another size than the keys of a set isn't there, and where one of no bytes is. This package
@@ -20,6 +20,6 @@
 //
 //	CGO_LDFLAGS=-L/folder/of/the/archive go build
 //
-// The archive is for Linux on x86-64-v2 processors. [Version] returns which version it is. A program that was linked with another major version
-// panics at its start.
+// The archive is for Linux on x86-64-v2 processors. [Version] returns which version it is. A program that was linked
+// with another major version panics at its start.
 package commonware

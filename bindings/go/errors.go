@@ -3,6 +3,7 @@ package commonware
 import (
 	"errors"
 	"fmt"
+	"math"
 )
 
 // What is wrong with an input, with what is to be written or with two certificates, where no number tells more.
@@ -28,6 +29,8 @@ var (
 	ErrOutside = errors.New("commonware: a signer is no member of the committee")
 	// ErrTooFew means that all signers are members, and that they are fewer than a quorum.
 	ErrTooFew = errors.New("commonware: fewer signers than a quorum")
+	// ErrTooLight means that all signers are members, and that they weigh less than a quorum.
+	ErrTooLight = errors.New("commonware: the signers weigh less than a quorum")
 	// ErrSameValue means that both certificates are for the same value.
 	ErrSameValue = errors.New("commonware: both certificates are for the same value")
 	// ErrNoSlot means that a value is no decision for a slot.
@@ -36,8 +39,8 @@ var (
 	ErrOtherSlot = errors.New("commonware: two different slots")
 )
 
-// InvalidLengthError is a length that is out of range: of an input the range that is allowed, of what is written
-// 4294967295.
+// InvalidLengthError is a length that is out of range: of an input the range that is allowed, of what is written, and
+// of weights, 4294967295.
 type InvalidLengthError struct {
 	// Length is that length.
 	Length int
@@ -100,6 +103,26 @@ type RepeatedValueError struct {
 
 func (e RepeatedValueError) Error() string {
 	return fmt.Sprintf("commonware: pairs %d and %d have the same value", e.First, e.Second)
+}
+
+// ZeroWeightError means that a weight is 0.
+type ZeroWeightError struct {
+	// Index is that of the first such weight.
+	Index int
+}
+
+func (e ZeroWeightError) Error() string {
+	return fmt.Sprintf("commonware: weight %d is 0", e.Index)
+}
+
+// WeightOverflowError means that the sum of weights is past 18446744073709551615.
+type WeightOverflowError struct {
+	// Index is that of the weight with which it is.
+	Index int
+}
+
+func (e WeightOverflowError) Error() string {
+	return fmt.Sprintf("commonware: with weight %d the sum is past %d", e.Index, uint64(math.MaxUint64))
 }
 
 // CertificateError is what is wrong with one of two certificates.

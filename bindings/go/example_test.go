@@ -33,7 +33,7 @@ func Example() {
 
 func ExampleVersion() {
 	fmt.Println(commonware.Version())
-	// Output: 1 0 0
+	// Output: 1 1 0
 }
 
 func ExampleFaultModel_MaxFaults() {
@@ -165,4 +165,37 @@ func ExampleConflict() {
 	// Output:
 	// [1 2] <nil>
 	// true true 2
+}
+
+func ExampleFaultModel_OfWeights() {
+	numbers, err := commonware.N3F1.OfWeights([]uint64{40, 30, 20, 10})
+	fmt.Println(numbers.Total, numbers.MaxFaultyWeight, numbers.QuorumWeight, err)
+	_, err = commonware.N3F1.OfWeights([]uint64{40, 0, 20, 10})
+	fmt.Println(err)
+	// Output:
+	// 100 33 67 <nil>
+	// commonware: weight 1 is 0
+}
+
+func ExampleWeightedCheck() {
+	weights := []uint64{40, 30, 20, 10}
+	checked, err := commonware.WeightedCheck(commonware.N3F1, weights, certificate("A", 0, 1))
+	fmt.Printf("%q %q %d %v\n", checked.Slot, checked.Decision, checked.Weight, err)
+	_, err = commonware.WeightedCheck(commonware.N3F1, weights, certificate("A", 1, 2, 3))
+	fmt.Println(err)
+	// Output:
+	// "view 7" "A" 70 <nil>
+	// commonware: the signers weigh less than a quorum
+}
+
+func ExampleWeightedEquivocation() {
+	weights := []uint64{40, 30, 20, 10}
+	first, second := certificate("A", 0, 1), certificate("B", 0, 2, 3)
+	named, err := commonware.WeightedEquivocation(commonware.N3F1, weights, first, second)
+	fmt.Println(named.Members, named.Weight, err)
+	_, err = commonware.WeightedEquivocation(commonware.N3F1, weights, first, certificate("B", 1, 2, 3))
+	fmt.Println(err)
+	// Output:
+	// [0] 40 <nil>
+	// certificate 2: commonware: the signers weigh less than a quorum
 }

@@ -5,6 +5,8 @@ package commonware
 // #include "commonware.h"
 // #if COMMONWARE_VERSION_MAJOR != 1
 // #error "commonware.h has another major version than 1, which this module needs"
+// #elif COMMONWARE_VERSION_MINOR < 1
+// #error "commonware.h has an earlier version than 1.1, which this module needs"
 // #endif
 import "C"
 
@@ -38,6 +40,7 @@ var plain = map[uint32]error{
 	C.COMMONWARE_NO_SLOT:        ErrNoSlot,
 	C.COMMONWARE_OTHER_SLOT:     ErrOtherSlot,
 	C.COMMONWARE_NO_SIZE:        ErrNoSize,
+	C.COMMONWARE_TOO_LIGHT:      ErrTooLight,
 }
 
 // errorOf returns the error of a status with its number, or nil where it is OK.
@@ -53,6 +56,10 @@ func errorOf(status uint32, number int) error {
 		return NotWholeError{Count: number}
 	case C.COMMONWARE_REPEATED_KEY:
 		return RepeatedKeyError{Index: number}
+	case C.COMMONWARE_ZERO_WEIGHT:
+		return ZeroWeightError{Index: number}
+	case C.COMMONWARE_WEIGHT_OVERFLOW:
+		return WeightOverflowError{Index: number}
 	}
 	if err, isThere := plain[status]; isThere {
 		return err
@@ -74,6 +81,13 @@ func indexPointer(indices []uint32) *C.uint32_t {
 		return nil
 	}
 	return (*C.uint32_t)(unsafe.Pointer(&indices[0]))
+}
+
+func weightPointer(weights []uint64) *C.uint64_t {
+	if len(weights) == 0 {
+		return nil
+	}
+	return (*C.uint64_t)(unsafe.Pointer(&weights[0]))
 }
 
 // flat returns the bytes of members, one after another, where they are.
@@ -258,4 +272,46 @@ func nativeEquivocation(k, members uint32, first, second []byte, room []uint32) 
 		bytePointer(first), C.size_t(len(first)), bytePointer(second), C.size_t(len(second)),
 		indexPointer(room), C.size_t(len(room)))
 	return foundConflict{uint32(view.status), uint32(view.which), int(view.number), int(view.count)}
+}
+
+func nativeWeightsQuorum(k uint32, weights []uint64) (WeightNumbers, error) {
+	view := C.commonware_weights_quorum(C.uint32_t(k), weightPointer(weights), C.size_t(len(weights)))
+	if err := errorOf(uint32(view.status), int(view.number)); err != nil {
+		return WeightNumbers{}, err
+	}
+	return WeightNumbers{
+		Total: uint64(view.total), MaxFaultyWeight: uint64(view.tolerated),
+		QuorumWeight: uint64(view.quorum), SmallerQuorumWeight: uint64(view.smaller_quorum),
+	}, nil
+}
+
+func nativeWeightedCheck(k uint32, weights []uint64, input []byte) (foundChecked, uint64) {
+	view := C.commonware_weighted_check(C.uint32_t(k), weightPointer(weights), C.size_t(len(weights)),
+		bytePointer(input), C.size_t(len(input)))
+	return foundChecked{
+		status: uint32(view.status), signers: uint32(view.signers), number: int(view.number),
+		valueStart: int(view.value_start), valueLength: int(view.value_length),
+		slotStart: int(view.slot_start), slotLength: int(view.slot_length),
+		decisionStart: int(view.decision_start), decisionLength: int(view.decision_length),
+	}, uint64(view.weight)
+}
+
+func nativeWeightedConflict(
+	k uint32, weights []uint64, first, second []byte, room []uint32,
+) (foundConflict, uint64) {
+	view := C.commonware_weighted_conflict(C.uint32_t(k), weightPointer(weights), C.size_t(len(weights)),
+		bytePointer(first), C.size_t(len(first)), bytePointer(second), C.size_t(len(second)),
+		indexPointer(room), C.size_t(len(room)))
+	found := foundConflict{uint32(view.status), uint32(view.which), int(view.number), int(view.count)}
+	return found, uint64(view.weight)
+}
+
+func nativeWeightedEquivocation(
+	k uint32, weights []uint64, first, second []byte, room []uint32,
+) (foundConflict, uint64) {
+	view := C.commonware_weighted_equivocation(C.uint32_t(k), weightPointer(weights), C.size_t(len(weights)),
+		bytePointer(first), C.size_t(len(first)), bytePointer(second), C.size_t(len(second)),
+		indexPointer(room), C.size_t(len(room)))
+	found := foundConflict{uint32(view.status), uint32(view.which), int(view.number), int(view.count)}
+	return found, uint64(view.weight)
 }

@@ -64,11 +64,15 @@ func TestALaterMinorVersionRuns(t *testing.T) {
 func TestAnotherHeaderDoesNotCompile(t *testing.T) {
 	text, err := os.ReadFile(header)
 	same(t, err, nil)
-	other := strings.Replace(string(text), "VERSION_MAJOR 1\n", "VERSION_MAJOR 2\n", 1)
-	folder := t.TempDir()
-	same(t, os.WriteFile(filepath.Join(folder, "commonware.h"), []byte(other), 0o600), nil)
-	prints, isWell := tell([]string{"CGO_CFLAGS=-I" + folder}, "go", "build", ".")
-	same(t, isWell, false)
-	wanted := "commonware.h has another major version than 1, which this module needs"
-	same(t, strings.Contains(prints, wanted), true, prints)
+	for _, row := range [][3]string{
+		{"MAJOR 1", "MAJOR 2", "commonware.h has another major version than 1, which this module needs"},
+		{"MINOR 1", "MINOR 0", "commonware.h has an earlier version than 1.1, which this module needs"},
+	} {
+		other := strings.Replace(string(text), "VERSION_"+row[0]+"\n", "VERSION_"+row[1]+"\n", 1)
+		folder := t.TempDir()
+		same(t, os.WriteFile(filepath.Join(folder, "commonware.h"), []byte(other), 0o600), nil)
+		prints, isWell := tell([]string{"CGO_CFLAGS=-I" + folder}, "go", "build", ".")
+		same(t, isWell, false)
+		same(t, strings.Contains(prints, row[2]), true, prints)
+	}
 }

@@ -1,0 +1,101 @@
+package commonware
+
+// Where the members of a committee have weights, as stake or voting power, a call takes them as a slice: the weight at
+// an index is that of the member there. There are 1 to 4294967295 of them, each is positive, and their sum fits 64
+// bits.
+
+// WeightNumbers are what weights come to in a fault model.
+type WeightNumbers struct {
+	// Total is what all members weigh together.
+	Total uint64
+	// MaxFaultyWeight is what faulty members may weigh together: f, the greatest number with kf + 1 at most the total.
+	MaxFaultyWeight uint64
+	// QuorumWeight is what the members of a quorum weigh together at least: all but f.
+	QuorumWeight uint64
+	// SmallerQuorumWeight is the least weight whose subsets share members that weigh at least f + 1 with each quorum,
+	// for all weights of this total: 2f + 1.
+	SmallerQuorumWeight uint64
+}
+
+// OfWeights returns what weights come to in a model. The f of it is the greatest number that is safe for all weights of
+// their total: for which any two subsets that weigh all but f share members that weigh at least (k - 2)f + 1.
+//
+// Else the error is the first of these: [ErrNoModel], [ErrNoMembers] where there are no weights, [InvalidLengthError]
+// where they are more than 4294967295, and [ZeroWeightError] or [WeightOverflowError], whose index comes first.
+func (k FaultModel) OfWeights(weights []uint64) (WeightNumbers, error) {
+	return nativeWeightsQuorum(uint32(k), weights)
+}
+
+// A WeightedChecked certificate is one whose signers are members of a committee and weigh at least a quorum.
+type WeightedChecked struct {
+	Checked
+	// Weight is what those that signed weigh together.
+	Weight uint64
+}
+
+// WeightedCheck returns what the input says, where it is exactly one certificate whose signers are members with these
+// weights, and weigh at least a quorum of the model.
+//
+// Warning: no signature is looked at. Whoever doesn't verify them knows nothing of who signed.
+//
+// Else the error is the first of these: one of [FaultModel.OfWeights], a fault of the input ([ErrEndOfInput],
+// [ErrInvalidVarint], [ErrNotStrict], [LeftOverError]), [ErrOutside], [ErrTooLight].
+func WeightedCheck(model FaultModel, weights []uint64, input []byte) (WeightedChecked, error) {
+	view, weight := nativeWeightedCheck(uint32(model), weights, input)
+	checked, err := checkedOf(view, input)
+	return WeightedChecked{checked, weight}, err
+}
+
+// Named are the members that a call names.
+type Named struct {
+	// Members are their indices, in order.
+	Members []uint32
+	// Weight is what they weigh together.
+	Weight uint64
+}
+
+// WeightedConflict returns the members that signed both of two certificates for different values, where quorums are by
+// these weights, and what they weigh. Where those that are faulty weigh at most f, the MaxFaultyWeight of the weights,
+// they weigh at least (k - 2)f + 1; where the model's k is 3 or more, at least one of them is outside every subset that
+// weighs at most f. Each input is exactly one certificate.
+//
+// To sign two values is a fault only where both are for one slot (a height and a view, say), which
+// [WeightedEquivocation] asks: honest members sign many values, one a slot.
+//
+// Warning: no signature is looked at. Whoever doesn't verify them first may accuse an innocent member.
+//
+// Else the error is the first of these: one of [FaultModel.OfWeights], a fault of the first input ([ErrEndOfInput],
+// [ErrInvalidVarint], [ErrNotStrict], [LeftOverError]), one of the second, [ErrSameValue], [ErrOutside] of the first,
+// of the second, [ErrTooLight] of the first, of the second. One that is about the first or the second is in a
+// [CertificateError].
+func WeightedConflict(model FaultModel, weights []uint64, first, second []byte) (Named, error) {
+	return namedByWeight(nativeWeightedConflict, model, weights, first, second)
+}
+
+// WeightedEquivocation returns the members that equivocated, and what they weigh: those that signed both of two
+// certificates for different decisions for one slot. All is as [WeightedConflict] has it, and no honest member is named
+// where honest members sign at most one decision a slot.
+//
+// Warning: no signature is looked at. Whoever doesn't verify them first may accuse an innocent member.
+//
+// Else the error is the first of these: one of [FaultModel.OfWeights], a fault of the first input, one of the second,
+// [ErrNoSlot] of the first value, of the second, [ErrOtherSlot], [ErrSameValue] for one decision, [ErrOutside] of the
+// first, of the second, [ErrTooLight] of the first, of the second. One that is about the first or the second is in a
+// [CertificateError].
+func WeightedEquivocation(model FaultModel, weights []uint64, first, second []byte) (Named, error) {
+	return namedByWeight(nativeWeightedEquivocation, model, weights, first, second)
+}
+
+type weighedNamer func(k uint32, weights []uint64, first, second []byte, room []uint32) (foundConflict, uint64)
+
+// namedByWeight returns the members that a call names, and what they weigh.
+func namedByWeight(call weighedNamer, model FaultModel, weights []uint64, first, second []byte) (Named, error) {
+	// The first call tells how many indices it takes.
+	var members []uint32
+	view, weight := call(uint32(model), weights, first, second, nil)
+	if view.status == statusRoom {
+		members = make([]uint32, view.count)
+		view, weight = call(uint32(model), weights, first, second, members)
+	}
+	return Named{members, weight}, errorAbout(view)
+}
