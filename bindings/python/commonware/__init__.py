@@ -1,6 +1,6 @@
 r"""Committees, certificates and quorums of consensus nodes: how many of n participants may be faulty, the encodings
 of committees and of certificates, and of sets, maps and bimaps of keys of any size, and which members signed both
-of two different values.
+of two different values; all by the number of members or by what they weigh.
 
 Each call is one or two calls of the shared library `libcommonware.so.1`, whose contracts are proved; nothing is
 decided here, but that a key of another size than the keys of a set isn't there, and where one of no bytes is.
@@ -56,11 +56,22 @@ from .errors import (
     RepeatedValue,
     SameValue,
     TooFew,
+    TooLight,
+    WeightOverflow,
     WrongSize,
+    ZeroWeight,
 )
 from .faults import N3F1, N5F1, max_faults, quorum, smaller_quorum
 from .maps import BiMapView, MapView
 from .sets import MEMBER_SIZE, Committee, SetView
+from .weights import (
+    Named,
+    WeightedChecked,
+    Weights,
+    weighted_check,
+    weighted_conflict,
+    weighted_equivocation,
+)
 
 __all__ = [
     "BiMapView",
@@ -77,6 +88,7 @@ __all__ = [
     "MapView",
     "N3F1",
     "N5F1",
+    "Named",
     "NoMembers",
     "NoModel",
     "NoSize",
@@ -92,7 +104,12 @@ __all__ = [
     "SameValue",
     "SetView",
     "TooFew",
+    "TooLight",
+    "WeightOverflow",
+    "WeightedChecked",
+    "Weights",
     "WrongSize",
+    "ZeroWeight",
     "check",
     "conflict",
     "equivocation",
@@ -101,4 +118,7 @@ __all__ = [
     "slot_value",
     "smaller_quorum",
     "version",
+    "weighted_check",
+    "weighted_conflict",
+    "weighted_equivocation",
 ]

@@ -4,20 +4,20 @@ from Python. The other modules call them by this one alone."""
 import array
 import ctypes
 import operator
-from ctypes import c_char, c_size_t, c_uint32, c_void_p
+from ctypes import c_char, c_size_t, c_uint32, c_uint64, c_void_p
 from typing import Any, Callable, Iterable, NamedTuple, Optional, Tuple, Type, Union
 
 from . import errors
 from ._library import declare
 
 U32_MAX = 2**32 - 1
-SIZE_MAX = 2**64 - 1
+U64_MAX = SIZE_MAX = 2**64 - 1
 
 BytesLike = Union[bytes, bytearray, memoryview]
 """What has bytes. Every other object with the buffer protocol is taken too."""
 
-Indices = array.array
-"""Numbers of 32 bits, as the library has them on the one machine that it is for."""
+Numbers = array.array
+"""Indices of 32 bits or weights of 64, as the library has them on the one machine that it is for."""
 
 OK, NOT_STRICT, ROOM, REPEATED_VALUE = 0, 4, 11, 18
 
@@ -41,13 +41,21 @@ _WRITTEN = _view("Written", *_sizes("count", "number", "size"))
 _CERTIFICATE = _view(
     "Certificate", ("signers", c_uint32), *_sizes("number", "value_start", "value_length", "left")
 )
-_CHECK = _view(
-    "Check",
+_CHECKED = (
     ("signers", c_uint32),
     *_sizes("number", "value_start", "value_length", "slot_start", "slot_length"),
     *_sizes("decision_start", "decision_length"),
 )
-_CONFLICT = _view("Conflict", ("which", c_uint32), *_sizes("number", "count"))
+_CHECK = _view("Check", *_CHECKED)
+_NAMED = (("which", c_uint32), *_sizes("number", "count"))
+_CONFLICT = _view("Conflict", *_NAMED)
+_WEIGHTS = _view(
+    "WeightNumbers",
+    *_sizes("number"),
+    *((name, c_uint64) for name in ("total", "tolerated", "quorum", "smaller_quorum")),
+)
+_WEIGHTED_CHECK = _view("WeightedCheck", *_CHECKED, ("weight", c_uint64))
+_WEIGHTED_CONFLICT = _view("WeightedConflict", *_NAMED, ("weight", c_uint64))
 
 _INPUT = (c_void_p, c_size_t)
 
@@ -75,6 +83,14 @@ certificate_check = declare("certificate_check", _CHECK, c_uint32, c_uint32, *_I
 conflict = declare("conflict", _CONFLICT, c_uint32, c_uint32, *_INPUT, *_INPUT, *_INPUT)
 equivocation = declare(
     "equivocation", _CONFLICT, c_uint32, c_uint32, *_INPUT, *_INPUT, *_INPUT
+)
+weights_quorum = declare("weights_quorum", _WEIGHTS, c_uint32, *_INPUT)
+weighted_check = declare("weighted_check", _WEIGHTED_CHECK, c_uint32, *_INPUT, *_INPUT)
+weighted_conflict = declare(
+    "weighted_conflict", _WEIGHTED_CONFLICT, c_uint32, *_INPUT, *_INPUT, *_INPUT, *_INPUT
+)
+weighted_equivocation = declare(
+    "weighted_equivocation", _WEIGHTED_CONFLICT, c_uint32, *_INPUT, *_INPUT, *_INPUT, *_INPUT
 )
 
 
@@ -170,14 +186,14 @@ def written(call: Callable[..., Any], most: int, *arguments: Any) -> bytes:
         return bytes(whole[: view.size])
 
 
-def pointed(indices: Indices) -> Tuple[Any, int]:
-    """Returns the pointer and the length of indices that the library gets."""
-    if len(indices) == 0:
+def pointed(numbers: Numbers) -> Tuple[Any, int]:
+    """Returns the pointer and the length of indices or weights that the library gets."""
+    if len(numbers) == 0:
         return None, 0
-    return ctypes.byref(c_uint32.from_buffer(indices)), len(indices)
+    return ctypes.byref(c_char.from_buffer(numbers)), len(numbers)
 
 
-def room_for(length: int) -> Tuple[Indices, Tuple[Any, int]]:
+def room_for(length: int) -> Tuple[Numbers, Tuple[Any, int]]:
     """Returns room for some indices, and the pointer and the length that the library gets."""
     try:
         room = array.array("I", [0]) * length
@@ -186,9 +202,14 @@ def room_for(length: int) -> Tuple[Indices, Tuple[Any, int]]:
     return room, pointed(room)
 
 
-def indices_of(name: str, numbers: Iterable[int]) -> Indices:
+def indices_of(name: str, numbers: Iterable[int]) -> Numbers:
     """Returns the indices that an argument lists."""
     return array.array("I", (number_of(name, number, U32_MAX) for number in numbers))
+
+
+def weights_of(numbers: Iterable[int]) -> Numbers:
+    """Returns the weights that an argument lists."""
+    return array.array("Q", (number_of("weight", number, U64_MAX) for number in numbers))
 
 
 _PLAIN = {
@@ -204,12 +225,15 @@ _PLAIN = {
     14: errors.NoSlot,
     15: errors.OtherSlot,
     16: errors.NoSize,
+    22: errors.TooLight,
 }
 _NUMBERED = {
     3: errors.InvalidLength,
     6: errors.LeftOver,
     17: errors.NotWhole,
     19: errors.RepeatedKey,
+    20: errors.ZeroWeight,
+    21: errors.WeightOverflow,
 }
 
 

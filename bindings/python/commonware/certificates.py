@@ -201,6 +201,11 @@ def check(k: int, members: int, certificate: _Given) -> Checked:
     given = _certificate_of(certificate)
     view = _native.certificate_check(k_of(k), members_of(members), *given.arguments)
     check_status(view.status, view.number)
+    return found_in(given, view)
+
+
+def found_in(given: Input, view: Any) -> Checked:
+    """Returns what was found in an input, which is a certificate of a quorum."""
 
     def part(start: int, length: int) -> bytes:
         return bytes(given.data[start : start + length])

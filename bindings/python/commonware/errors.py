@@ -33,7 +33,10 @@ __all__ = [
     "RepeatedValue",
     "SameValue",
     "TooFew",
+    "TooLight",
+    "WeightOverflow",
     "WrongSize",
+    "ZeroWeight",
 ]
 
 
@@ -65,7 +68,8 @@ class InvalidVarint(CommonwareError, ValueError):
 
 
 class InvalidLength(CommonwareError, ValueError):
-    """This length is out of range: of an input the range that is allowed, of what is written 4294967295."""
+    """This length is out of range: of an input the range that is allowed, of what is written, and of weights,
+    4294967295."""
 
     def __init__(self, length: int) -> None:
         super().__init__(length)
@@ -178,6 +182,35 @@ class TooFew(CommonwareError, ValueError):
 
     def _words(self) -> str:
         return "fewer signers than a quorum"
+
+
+class TooLight(CommonwareError, ValueError):
+    """All signers are members, and they weigh less than a quorum."""
+
+    def _words(self) -> str:
+        return "the signers weigh less than a quorum"
+
+
+class ZeroWeight(CommonwareError, ValueError):
+    """The weight at this index is 0."""
+
+    def __init__(self, index: int) -> None:
+        super().__init__(index)
+        self.index = index
+
+    def _words(self) -> str:
+        return f"weight {self.index} is 0"
+
+
+class WeightOverflow(CommonwareError, ValueError):
+    """With the weight at this index the sum is past 18446744073709551615."""
+
+    def __init__(self, index: int) -> None:
+        super().__init__(index)
+        self.index = index
+
+    def _words(self) -> str:
+        return f"with weight {self.index} the sum is past {2**64 - 1}"
 
 
 class SameValue(CommonwareError, ValueError):

@@ -236,7 +236,7 @@ class BiMapView(_Pairs):
     """
 
     __slots__ = ("_by_value",)
-    _by_value: _native.Indices
+    _by_value: _native.Numbers
 
     @classmethod
     def read(

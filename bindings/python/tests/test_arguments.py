@@ -455,9 +455,11 @@ class Errors(unittest.TestCase):
             commonware.NotWhole: (7,),
             commonware.WrongSize: (1, 7, 2),
             commonware.OutOfRange: ("k", 7, 2),
+            commonware.ZeroWeight: (7,),
+            commonware.WeightOverflow: (7,),
         }
         kinds = [it for it in vars(commonware).values() if isinstance(it, type) and issubclass(it, CommonwareError)]
-        self.assertEqual(len(kinds), 20)
+        self.assertEqual(len(kinds), 23)
         for kind in set(kinds) - {CommonwareError}:
             error = kind(*made.get(kind, ()))
             self.assertEqual(("7" in str(error), len(str(error)) > 5), (kind in made, True), kind)

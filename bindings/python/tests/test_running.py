@@ -54,12 +54,13 @@ def python(*words, **environment):
 
 
 class Examples(unittest.TestCase):
-    def test_the_program_of_the_page(self):
+    def test_the_programs_of_the_page(self):
         page = PAGE.read_text()
-        program = re.search(r"```python\n(.*?)```", page, re.DOTALL)[1]
-        self.assertEqual((HERE / "examples/committee.py").read_text(), program)
-        prints = re.search(r"```text\n(.*?)```", page, re.DOTALL)[1]
-        self.assertEqual(python(str(HERE / "examples/committee.py")), (prints, 0))
+        blocks = [re.findall(rf"```{word}\n(.*?)```", page, re.DOTALL) for word in ("python", "text")]
+        for name, program, prints in zip(("committee", "stakes"), *blocks):
+            path = HERE / f"examples/{name}.py"
+            self.assertEqual(path.read_text(), program)
+            self.assertEqual(python(str(path)), (prints, 0))
 
     def test_every_name_is_documented(self):
         for name in commonware.__all__:
@@ -128,9 +129,10 @@ print(list(commonware.SetView.decode(1, memoryview(b"-\\2ab")[1:])))
     def test_every_result_of_the_header_is_declared(self):
         text = re.sub(r"/\*.*?\*/", "", (HERE.parent / "c/commonware.h").read_text(), flags=re.DOTALL)
         results = dict((name, body) for body, name in re.findall(r"typedef struct \{(.*?)\} (\w+);", text, re.DOTALL))
-        kinds = {"uint32_t": _native.c_uint32, "size_t": _native.c_size_t}
+        kinds = {"uint32_t": _native.c_uint32, "size_t": _native.c_size_t, "uint64_t": _native.c_uint64}
         for result, name in re.findall(r"\b(commonware_\w+_view) commonware_(\w+)\(", text):
-            fields = [(field, kinds[kind]) for kind, field in re.findall(r"(\w+) (\w+);", results[result])]
+            lines = re.findall(r"(\w+) ([\w, ]+);", results[result])
+            fields = [(field, kinds[kind]) for kind, names in lines for field in names.split(", ")]
             self.assertEqual(getattr(_native, name).restype._fields_, fields, name)
 
     def test_every_status_of_the_header_has_an_error(self):
@@ -179,7 +181,7 @@ class Version(unittest.TestCase):
             self.assertEqual(self.refusal(source), f"ImportError: {sentence}")
         sentence = (
             "ImportError: LIBRARY is another version of the library, without commonware_{}: "
-            "this package needs version 1.0.0."
+            "this package needs version 1.1.0."
         )
         self.assertEqual(self.refusal("int nothing;"), sentence.format("version"))
         source = "unsigned commonware_version(void) { return 1000000; }"
