@@ -241,21 +241,23 @@ func TestNoMemoryIsLost(t *testing.T) {
 	}
 }
 
-func block(t *testing.T, page, language string) string {
-	found := regexp.MustCompile("(?s)```" + language + "\n(.*?)```").FindStringSubmatch(page)
-	if found == nil {
-		t.Fatalf("the page has no program in %s", language)
+func block(t *testing.T, page, language string, number int) string {
+	found := regexp.MustCompile("(?s)```"+language+"\n(.*?)```").FindAllStringSubmatch(page, -1)
+	if len(found) <= number {
+		t.Fatalf("the page has no program %d in %s", number, language)
 	}
-	return found[1]
+	return found[number][1]
 }
 
-func TestTheProgramOfThePage(t *testing.T) {
+func TestTheProgramsOfThePage(t *testing.T) {
 	page, err := os.ReadFile("../README.md")
 	same(t, err, nil)
-	program, err := os.ReadFile("examples/committee/main.go")
-	same(t, err, nil)
-	same(t, string(program), block(t, string(page), "go"))
-	prints, err := exec.Command("go", "run", "./examples/committee").CombinedOutput()
-	same(t, err, nil, string(prints))
-	same(t, string(prints), block(t, string(page), "text"))
+	for number, name := range []string{"committee", "stakes"} {
+		program, err := os.ReadFile("examples/" + name + "/main.go")
+		same(t, err, nil)
+		same(t, string(program), block(t, string(page), "go", number))
+		prints, err := exec.Command("go", "run", "./examples/"+name).CombinedOutput()
+		same(t, err, nil, string(prints))
+		same(t, string(prints), block(t, string(page), "text", number))
+	}
 }
