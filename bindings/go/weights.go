@@ -1,9 +1,5 @@
 package commonware
 
-// Where the members of a committee have weights, as stake or voting power, a call takes them as a slice: the weight at
-// an index is that of the member there. There are 1 to 4294967295 of them, each is positive, and their sum fits 64
-// bits.
-
 // WeightNumbers are what weights come to in a fault model.
 type WeightNumbers struct {
 	// Total is what all members weigh together.
@@ -17,8 +13,10 @@ type WeightNumbers struct {
 	SmallerQuorumWeight uint64
 }
 
-// OfWeights returns what weights come to in a model. The f of it is the greatest number that is safe for all weights of
-// their total: for which any two subsets that weigh all but f share members that weigh at least (k - 2)f + 1.
+// OfWeights returns what the weights of a committee's members come to in a model, as their stake or voting power: the
+// weight at an index is that of the member there. There are 1 to 4294967295 of them, each is positive, and their sum
+// fits 64 bits. The f of it is the greatest number that is safe for all weights of their total: for which any two
+// subsets that weigh all but f share members that weigh at least (k - 2)f + 1.
 //
 // Else the error is the first of these: [ErrNoModel], [ErrNoMembers] where there are no weights, [InvalidLengthError]
 // where they are more than 4294967295, and [ZeroWeightError] or [WeightOverflowError], whose index comes first.

@@ -5,6 +5,8 @@ import (
 	"errors"
 	"math"
 	"math/big"
+	"reflect"
+	"sync"
 	"testing"
 
 	. "commonware.example/commonware"
@@ -305,4 +307,31 @@ func TestManyWeights(t *testing.T) {
 	weights[69_999] = math.MaxUint64
 	_, err = WeightedConflict(N3F1, weights, first, second)
 	same(t, errors.Is(err, WeightOverflowError{Index: 69_999}), true)
+}
+
+func TestManyGoroutinesWeigh(t *testing.T) {
+	weights := make([]uint64, 300)
+	first, second := []uint32{}, []uint32{}
+	for i := range weights {
+		weights[i] = 7
+		if i < 201 {
+			first = append(first, uint32(i))
+			second = append(second, uint32(i+99))
+		}
+	}
+	one, two := certificate("A", first...), certificate("B", second...)
+	var group sync.WaitGroup
+	for worker := 0; worker < 8; worker++ {
+		group.Add(1)
+		go func() {
+			defer group.Done()
+			for i := 0; i < 500; i++ {
+				named, err := WeightedEquivocation(N3F1, weights, one, two)
+				if err != nil || named.Weight != 7*102 || !reflect.DeepEqual(named.Members, first[99:]) {
+					t.Errorf("%v %v", named, err)
+				}
+			}
+		}()
+	}
+	group.Wait()
 }

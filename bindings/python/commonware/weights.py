@@ -128,10 +128,9 @@ class Weights(Sequence[int]):
 _Weights = Union[Weights, Iterable[int]]
 
 
-def _pointed(weights: _Weights) -> Tuple[_native.Numbers, Tuple[Any, int]]:
-    """Returns weights, and the pointer and the length that the library gets."""
-    items = weights._items if isinstance(weights, Weights) else _native.weights_of(weights)
-    return items, _native.pointed(items)
+def _pointed(weights: _Weights) -> Tuple[Any, int]:
+    """Returns the pointer, which keeps the weights alive, and the length that the library gets."""
+    return _native.pointed(weights._items if isinstance(weights, Weights) else _native.weights_of(weights))
 
 
 class WeightedChecked(NamedTuple):
@@ -181,8 +180,7 @@ def weighted_check(k: int, weights: _Weights, certificate: _Given) -> WeightedCh
     commonware.errors.TooLight: the signers weigh less than a quorum
     """
     given = _certificate_of(certificate)
-    _, pointed = _pointed(weights)
-    view = _native.weighted_check(k_of(k), *pointed, *given.arguments)
+    view = _native.weighted_check(k_of(k), *_pointed(weights), *given.arguments)
     check_status(view.status, view.number)
     return WeightedChecked(*found_in(given, view), view.weight)
 
@@ -190,8 +188,7 @@ def weighted_check(k: int, weights: _Weights, certificate: _Given) -> WeightedCh
 def _named(call: Callable[..., Any], k: int, weights: _Weights, first: _Given, second: _Given) -> Named:
     """Returns the members that a call names, and what they weigh."""
     inputs = _certificate_of(first), _certificate_of(second)
-    _, pointed = _pointed(weights)
-    asked = (k_of(k), *pointed, *inputs[0].arguments, *inputs[1].arguments)
+    asked = (k_of(k), *_pointed(weights), *inputs[0].arguments, *inputs[1].arguments)
     # The first call tells how many indices it takes.
     members, room = _native.room_for(0)
     view = call(*asked, *room)

@@ -24,12 +24,16 @@ from commonware import (
     CommonwareError,
     MapView,
     SetView,
+    Weights,
     _library,
     _native,
     check,
     conflict,
     equivocation,
     slot_value,
+    weighted_check,
+    weighted_conflict,
+    weighted_equivocation,
 )
 
 HERE = pathlib.Path(__file__).resolve().parents[1]
@@ -193,6 +197,7 @@ SET = SetView.encode(48, KEYS)
 MAP = MapView.encode(48, 48, zip(KEYS, KEYS))
 FIRST = Certificate.encode(slot_value(b"view 7", b"A"), range(201))
 SECOND = Certificate.encode(slot_value(b"view 7", b"B"), range(99, 300))
+WEIGHTS = Weights([7] * 300)
 
 
 def each_call():
@@ -206,12 +211,16 @@ def each_call():
     assert Certificate.encode(Certificate.decode(FIRST).value, range(201)) == FIRST
     assert check(3, 300, FIRST).slot == Certificate.decode(FIRST).slot == b"view 7"
     assert conflict(3, 300, FIRST, SECOND) == equivocation(3, 300, FIRST, SECOND) == tuple(range(99, 201))
+    assert weighted_check(3, [7] * 300, FIRST).weight == 7 * 201
+    for call in (weighted_conflict, weighted_equivocation):
+        assert call(3, WEIGHTS, FIRST, SECOND) == (tuple(range(99, 201)), 7 * 102)
     for call in (
         lambda: SetView.decode(48, SET[:-1]),
         lambda: BiMapView.decode(48, 0, MAP),
         lambda: MapView.encode_unique(1, 1, b"abab"),
         lambda: Certificate.encode(b"", [3, 3]),
         lambda: conflict(3, 300, FIRST, FIRST),
+        lambda: weighted_conflict(3, [*WEIGHTS, 0], FIRST, SECOND),
     ):
         try:
             call()
