@@ -53,9 +53,9 @@ type Named struct {
 }
 
 // WeightedConflict returns the members that signed both of two certificates for different values, where quorums are by
-// these weights, and what they weigh. Where those that are faulty weigh at most f, the MaxFaultyWeight of the weights,
-// they weigh at least (k - 2)f + 1; where the model's k is 3 or more, at least one of them is outside every subset that
-// weighs at most f. Each input is exactly one certificate.
+// these weights, and what they weigh. With f the MaxFaultyWeight of the weights they weigh at least (k - 2)f + 1; where
+// the model's k is 3 or more, at least one of them is outside every subset that weighs at most f. Each input is exactly
+// one certificate.
 //
 // To sign two values is a fault only where both are for one slot (a height and a view, say), which
 // [WeightedEquivocation] asks: honest members sign many values, one a slot.

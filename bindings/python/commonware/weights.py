@@ -201,9 +201,9 @@ def _named(call: Callable[..., Any], k: int, weights: _Weights, first: _Given, s
 
 def weighted_conflict(k: int, weights: _Weights, first: _Given, second: _Given) -> Named:
     r"""Returns the members that signed both of two certificates for different values, where quorums are by these
-    weights at a resilience k, and what they weigh. Where those that are faulty weigh at most f, the
-    `max_faulty_weight` of the weights, they weigh at least (k - 2)f + 1; where k is 3 or more, at least one of them is
-    outside every subset that weighs at most f. Each input is exactly one certificate, encoded, or a `Certificate`.
+    weights at a resilience k, and what they weigh. With f the `max_faulty_weight` of the weights they weigh at least
+    (k - 2)f + 1; where k is 3 or more, at least one of them is outside every subset that weighs at most f. Each input
+    is exactly one certificate, encoded, or a `Certificate`.
 
     To sign two values is a fault only where both are for one slot (a height and a view, say), which
     `weighted_equivocation` asks: honest members sign many values, one a slot.
