@@ -551,6 +551,8 @@ static void try_both(struct committee it, const uint8_t *input, size_t length, s
     if (view.status == COMMONWARE_OK) {
         REQUIRE(out[both] == 0xeeeeeeee && view.weight == weight_of(it, out, both));
         REQUIRE(view.weight >= (it.k - 2) * ((total - 1) / it.k) + 1);
+        view = call_both(it, rests, by_slot, out, both);
+        REQUIRE(view.status == COMMONWARE_OK && view.count == both);
         out[0] = 0xeeeeeeee;
         view = call_both(it, rests, by_slot, out, both - 1);
         REQUIRE(view.status == COMMONWARE_ROOM && view.count == both);

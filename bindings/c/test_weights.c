@@ -103,6 +103,21 @@ static void test_check(void) {
     CHECK(is_unchecked(view, COMMONWARE_LEFT_OVER, 2));
 }
 
+/* One signer that weighs a quorum of 100, and one that weighs one less. */
+static void test_exactly(void) {
+    const uint64_t enough[] = {67, 33}, less[] = {66, 34};
+    const uint8_t alone[] = {3, 1, 7, 0xaa, 1, 0}, both[] = {3, 1, 7, 0xbb, 2, 0, 1};
+    uint32_t out[1] = {9};
+    const commonware_weighted_check_view view = commonware_weighted_check(3, OF(enough), OF(alone));
+    CHECK(view.status == COMMONWARE_OK && view.signers == 1 && view.weight == 67);
+    CHECK(is_unchecked(commonware_weighted_check(3, OF(less), OF(alone)), COMMONWARE_TOO_LIGHT, 0));
+    commonware_weighted_conflict_view named =
+        commonware_weighted_conflict(3, OF(less), OF(both), OF(alone), OF(out));
+    CHECK(named.status == COMMONWARE_TOO_LIGHT && named.which == 2 && out[0] == 9);
+    named = commonware_weighted_equivocation(3, OF(enough), OF(both), OF(alone), OF(out));
+    CHECK(named.status == COMMONWARE_OK && named.weight == 67 && out[0] == 0);
+}
+
 /* What is wrong with the weights comes before what is wrong with an input. */
 static void test_weights_first(void) {
     const uint64_t zero[] = {5, 0}, more[] = {5, UINT64_MAX};
@@ -289,6 +304,7 @@ int main(void) {
     test_numbers();
     test_sums();
     test_check();
+    test_exactly();
     test_weights_first();
     try_namer(commonware_weighted_conflict);
     try_namer(commonware_weighted_equivocation);
