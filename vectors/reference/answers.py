@@ -3,7 +3,7 @@
 import models
 from builders import Refusal, build, position, read_listed
 from certificates import Certificate, check_quorum, conflict, equivocation
-from containers import ANY, Set
+from containers import ANY, List, Set
 from questions import (
     Unreadable,
     finish,
@@ -13,7 +13,8 @@ from questions import (
     read_number,
     read_type,
 )
-from varints import DecodingError, Source, Varint
+from varints import DecodingError, Long, Source, Varint
+from weights import total_of, weighted_conflict, weighted_equivocation, weighted_quorum
 
 
 def whole(read, data):
@@ -94,12 +95,17 @@ def read_certificates(words, count):
     return resilience, members, *[whole(Certificate().read, data) for data in inputs]
 
 
+def said_of_slot(parts):
+    """Says the slot and the decision of a value, or that it has no slot."""
+    if parts is None:
+        return "no slot"
+    return f"slot {written(parts[0])} decision {written(parts[1])}"
+
+
 def answer_quorum(words, verb):
     """Says whether a quorum signed a certificate, and what."""
     signers, parts = check_quorum(*read_certificates(words, 1))
-    if parts is None:
-        return f"quorum {signers} no slot"
-    return f"quorum {signers} slot {written(parts[0])} decision {written(parts[1])}"
+    return f"quorum {signers} {said_of_slot(parts)}"
 
 
 def answer_conflict(words, verb):
@@ -112,6 +118,38 @@ def answer_equivocation(words, verb):
     return f"members {written(Set(Varint()).write(equivocation(*read_certificates(words, 2))))}"
 
 
+def read_weighted(words, count):
+    """Returns the model, the weights, and so many certificates."""
+    resilience = read_model(next(words, ""))
+    listed, *inputs = [read_bytes(next(words, "")) for _ in range(1 + count)]
+    finish(words, "bytes")
+    weights = whole(List(Long()).read, listed)
+    total_of(weights)
+    return resilience, weights, *[whole(Certificate().read, data) for data in inputs]
+
+
+def answer_weights(words, verb):
+    """Says the numbers of a fault model for the weights of participants."""
+    resilience, weights = read_weighted(words, 0)
+    total = total_of(weights)
+    tolerated = models.faults_of(resilience, total)
+    quorum, small = models.quorum_of(resilience, total), models.small_quorum_of(resilience, total)
+    return f"total {total} tolerated {tolerated} quorum {quorum} m-quorum {small}"
+
+
+def answer_weighted_quorum(words, verb):
+    """Says whether those who signed a certificate weigh a quorum, and what they signed."""
+    signers, weight, parts = weighted_quorum(*read_weighted(words, 1))
+    return f"quorum {signers} weight {weight} {said_of_slot(parts)}"
+
+
+def answer_weighted_conflict(words, verb):
+    """Says who signed both of two certificates, and what they weigh."""
+    find = weighted_conflict if verb == "weighted-conflict" else weighted_equivocation
+    both, weight = find(*read_weighted(words, 2))
+    return f"members {written(Set(Varint()).write(both))} weight {weight}"
+
+
 VERBS = {
     "build": answer_build,
     "build-unique": answer_build,
@@ -121,6 +159,10 @@ VERBS = {
     "quorum": answer_quorum,
     "conflict": answer_conflict,
     "equivocation": answer_equivocation,
+    "weights": answer_weights,
+    "weighted-quorum": answer_weighted_quorum,
+    "weighted-conflict": answer_weighted_conflict,
+    "weighted-equivocation": answer_weighted_conflict,
 }
 
 

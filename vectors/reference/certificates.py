@@ -31,14 +31,36 @@ def slot_of(value):
     return slot, source.take(source.left())
 
 
-def check_signers(resilience, members, certificates):
-    """Finds a signer who is no member, or else a certificate that no quorum signed."""
+def check_members(members, certificates):
+    """Finds a signer who is no member."""
     for _, signers in certificates:
         if signers and signers[-1] >= members:
             raise Refusal("Outside")
+
+
+def check_signers(resilience, members, certificates):
+    """Finds a signer who is no member, or else a certificate that no quorum signed."""
+    check_members(members, certificates)
     for _, signers in certificates:
         if len(signers) < quorum_of(resilience, members):
             raise Refusal("TooFew")
+
+
+def check_values(first, second):
+    """Finds that two certificates are for one value."""
+    if first[0] == second[0]:
+        raise Refusal("EqualValues")
+
+
+def check_decisions(first, second):
+    """Finds why two certificates are not for different decisions of one slot."""
+    one, other = slot_of(first[0]), slot_of(second[0])
+    if one is None or other is None:
+        raise Refusal("NoSlot")
+    if one[0] != other[0]:
+        raise Refusal("OtherSlot")
+    if one[1] == other[1]:
+        raise Refusal("SameDecision")
 
 
 def signers_of_both(first, second):
@@ -55,20 +77,13 @@ def check_quorum(resilience, members, certificate):
 
 def conflict(resilience, members, first, second):
     """Returns who signed both of two certificates for different values."""
-    if first[0] == second[0]:
-        raise Refusal("EqualValues")
+    check_values(first, second)
     check_signers(resilience, members, [first, second])
     return signers_of_both(first, second)
 
 
 def equivocation(resilience, members, first, second):
     """Returns who signed both of two certificates for different decisions of one slot."""
-    one, other = slot_of(first[0]), slot_of(second[0])
-    if one is None or other is None:
-        raise Refusal("NoSlot")
-    if one[0] != other[0]:
-        raise Refusal("OtherSlot")
-    if one[1] == other[1]:
-        raise Refusal("SameDecision")
+    check_decisions(first, second)
     check_signers(resilience, members, [first, second])
     return signers_of_both(first, second)

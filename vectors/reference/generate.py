@@ -12,6 +12,8 @@ from varints import write_varint
 NUMBERS = [0, 1, 2, 3, 5, 7, 16, 100, 126, 127, 128, 129, 254, 255, 256, 257, 300, 16383, 16384]
 NUMBERS += [32767, 32768, 65535, 65536, 65537, 2**21 - 1, 2**21, 2**24, 2**24 + 1, 2**28 - 1]
 NUMBERS += [2**28, 2**31 - 1, 2**31, 2**32 - 2, 2**32 - 1]
+LONGS = NUMBERS + [2**32, 2**32 + 1, 2**53 - 1, 2**53, 2**53 + 1, 2**56, 2**62, 2**63 - 1, 2**63]
+LONGS += [2**63 + 1, 2**64 - 2, 2**64 - 1]
 BYTES = [0, 1, 2, 3, 5, 127, 128, 129, 254, 255]
 LENGTHS = [20, 40, 127, 128, 129, 255, 256, 257, 300, 1025]
 SMALL_BOUNDS = [0, 0, 1, 1, 2, 3, 4, 5, 127]
@@ -30,7 +32,7 @@ def some(maker):
 
     def make(dice):
         many = dice.choice([0, 1, 1, 2, 2, 3, 4, dice.randrange(1, 12)])
-        if maker in (byte, word, varint) and dice.random() < 0.01:
+        if maker in (byte, word, long, varint, MEMBER) and dice.random() < 0.01:
             many = dice.choice(LENGTHS)
         return [maker(dice) for _ in range(many)]
 
@@ -44,6 +46,29 @@ def byte(dice):
 def word(dice):
     number = dice.choice(NUMBERS) if dice.random() < 0.8 else dice.randrange(2**32)
     return number.to_bytes(4, "big")
+
+
+def long(dice):
+    number = dice.choice(LONGS) if dice.random() < 0.8 else dice.randrange(2**64)
+    return number.to_bytes(8, "big")
+
+
+def fixed(size):
+    """Returns a maker of so many bytes: mostly near others, so that a byte or two decide."""
+    places = [it for it in range(size) if it % 8 in (0, 7)] + [size - 1]
+
+    def make(dice):
+        if dice.random() < 0.1:
+            return dice.randbytes(size)
+        data = bytearray([dice.choice([0, 0xAA, 0xAA, 0xFF])] * size)
+        for place in dice.sample(places, dice.choice([0, 1, 1, 1, 2])):
+            data[place] = byte(dice)[0]
+        return bytes(data)
+
+    return make
+
+
+MEMBER = fixed(32)
 
 
 def varint(dice):
@@ -121,6 +146,47 @@ def certificate(dice, members=4, decided=None):
     return write_varint(len(decided)) + decided + signers(dice, members)
 
 
+def weights(dice):
+    """Returns weights: small ones, great ones, or some that are nearly 2^64 together."""
+    many = dice.choice([1, 1, 2, 2, 3, 3, 4, 4, 5, 7, dice.randrange(8, 40)])
+    kind = dice.random()
+    if kind < 0.5:
+        found = [dice.choice([1, 1, 1, 2, 3, 5, 10, 33, 34, 66, 67, 100]) for _ in range(many)]
+    elif kind < 0.65:
+        found = [dice.choice(LONGS) for _ in range(many)]
+    else:
+        total = dice.choice([2**32, 2**53, 2**63, 2**64 - 1]) + dice.choice([-2, -1, 0, 1])
+        found = [dice.randrange(1, total // many) for _ in range(many - 1)]
+        found.insert(dice.randrange(many), total - sum(found))
+    if dice.random() < 0.04:
+        found[dice.randrange(len(found))] = 0
+    if dice.random() < 0.04:
+        found.insert(dice.randrange(len(found) + 1), 2**64 - 1)
+    if dice.random() < 0.02:
+        found = []
+    return [min(it, 2**64 - 1) for it in found]
+
+
+def longs(numbers):
+    """Returns the encoding of a list of numbers of eight bytes."""
+    return listed([it.to_bytes(8, "big") for it in numbers])
+
+
+def heavy_certificate(dice, weighed, decided):
+    """Returns a certificate whose signers weigh about a quorum."""
+    count, total = len(weighed), sum(weighed)
+    order, chosen = dice.sample(range(count), count), []
+    quorum = total - max(total - 1, 0) // dice.choice([2, 3, 3, 3, 5])
+    while order and sum(weighed[it] for it in chosen) < quorum:
+        chosen.append(order.pop())
+    if dice.random() < 0.2:
+        chosen = chosen[:-1]
+    if dice.random() < 0.05:
+        chosen.append(dice.choice([count, count + 256, 2**31, 2**32 - 1]))
+    indices = [write_varint(it) for it in sorted(chosen)]
+    return write_varint(len(decided)) + decided + listed(indices)
+
+
 def body(encoded):
     """Returns an encoded list of bytes without its length: such lists are ordered by that."""
     return encoded[1:]
@@ -151,6 +217,17 @@ TYPES = {
     "non-empty<u8>": (1, filled(byte)),
     "non-empty<non-empty<u8>>": (2, filled(filled(byte))),
     "certificate": (2, certificate),
+    "u64": (0, long),
+    "vec<u64>": (1, list_of(long)),
+    "member": (0, MEMBER),
+    "set<member>": (1, set_of(MEMBER)),
+    "map<member,u8>": (1, pairs_of(MEMBER, byte)),
+    "map<member,u64>": (1, pairs_of(MEMBER, long)),
+    "bimap<member,member>": (1, pairs_of(MEMBER, MEMBER)),
+    "set<bytes20>": (1, set_of(fixed(20))),
+    "set<bytes33>": (1, set_of(fixed(33))),
+    "set<bytes48>": (1, set_of(fixed(48))),
+    "set<bytes96>": (1, set_of(fixed(96))),
 }
 # For each set what makes an item's bytes, and the key by which these are ordered.
 SETS = {
@@ -159,10 +236,16 @@ SETS = {
     "set<participant>": (varint, number_of),
     "set<set<u8>>": (SET_U8, body),
     "set<non-empty<u8>>": (filled(byte), body),
+    "set<member>": (MEMBER, bytes),
+    "set<bytes20>": (fixed(20), bytes),
+    "set<bytes33>": (fixed(33), bytes),
+    "set<bytes48>": (fixed(48), bytes),
+    "set<bytes96>": (fixed(96), bytes),
 }
 # For each type that is built what makes the bytes of its listed items.
 BUILT = {name: list_of(maker) for name, (maker, _) in SETS.items()}
 BUILT.update({"map<u8,u8>": MAP, "map<u8,set<u8>>": pairs_of(byte, SET_U8), "bimap<u8,u8>": MAP})
+BUILT.update({it: TYPES[it][1] for it in TYPES if it.startswith(("map<member", "bimap<member"))})
 
 
 def spoiled(dice, data):
@@ -260,13 +343,35 @@ def checking(dice):
     return ["quorum", model(dice), str(members), text(dice, certificate(dice, members))]
 
 
-def comparing(dice):
-    """Returns a question about two certificates: at times for one value, or for one slot."""
-    members = count(dice)
+def two_values(dice):
+    """Returns two values: at times one twice, or two for one slot."""
     one = value(dice)
-    other = dice.choice([one, one + b"\1", one[:-1], value(dice), one[:-1] + byte(dice)])
+    return one, dice.choice([one, one + b"\1", one[:-1], value(dice), one[:-1] + byte(dice)])
+
+
+def comparing(dice):
+    """Returns a question about two certificates."""
+    members = count(dice)
+    one, other = two_values(dice)
     pair = [text(dice, certificate(dice, members, it)) for it in (one, other)]
     return [dice.choice(["conflict", "equivocation"]), model(dice), str(members), *pair]
+
+
+def weighing(dice):
+    """Returns a question about weights alone, or about one certificate."""
+    weighed = weights(dice)
+    if dice.random() < 0.5:
+        return ["weights", model(dice), text(dice, longs(weighed))]
+    signed = heavy_certificate(dice, weighed, value(dice))
+    return ["weighted-quorum", model(dice), text(dice, longs(weighed)), text(dice, signed)]
+
+
+def outweighing(dice):
+    """Returns a question about two certificates that are counted by weight."""
+    weighed, values = weights(dice), two_values(dice)
+    pair = [text(dice, heavy_certificate(dice, weighed, it)) for it in values]
+    verb = dice.choice(["weighted-conflict", "weighted-equivocation"])
+    return [verb, model(dice), text(dice, longs(weighed)), *pair]
 
 
 def worded(dice, words):
@@ -284,7 +389,7 @@ def questions(seed, many):
     """Returns so many questions, and some comments and empty lines between them."""
     dice = random.Random(seed)
     kinds = [reading] * 5 + [building] * 2 + [comparing] * 2
-    kinds += [finding, numbers, refuting, checking]
+    kinds += [finding, numbers, refuting, checking, weighing, outweighing, outweighing]
     lines = []
     for _ in range(many):
         lines += dice.choices(["", "# set<u8> .. 00"]) if dice.random() < 0.01 else []

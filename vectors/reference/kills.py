@@ -7,6 +7,7 @@ otherwise. The long vectors are tried where no other one kills, up to the first 
 """
 
 import collections
+import multiprocessing
 import pathlib
 import re
 import resource
@@ -21,6 +22,7 @@ KILLED = ROOT / "vectors/KILLED.md"
 DOCUMENTS = ("docs/FORMAT.md", "docs/JUDGE.md", "vectors/README.md")
 # How many vectors are named for a mutation that more kill.
 NAMED = 3
+VECTORS, LONG_VECTORS = read_vectors(), read_long_vectors()
 # How many bytes of memory there are: a wrong implementation that asks for more fails.
 MEMORY = 2**31
 HEAD = """# Wrong implementations that the vectors kill
@@ -37,15 +39,23 @@ def wrong(answer_to, vectors):
     return (it for it in vectors if answer_to(it.question) != it.answer)
 
 
-def killers(mutations, vectors, long_vectors):
-    """Returns the ids of the vectors that kill each mutation."""
-    found = {}
-    for name, mutation in mutations.items():
-        answer_to = mutant(mutation)
-        ids = [it.id for it in wrong(answer_to, vectors)]
-        first_long = next(wrong(answer_to, long_vectors), None) if not ids else None
-        found[name] = ids or ([first_long.id] if first_long else [])
-    return found
+def killers_of(mutation):
+    """Returns the ids of the vectors that kill a mutation."""
+    answer_to = mutant(mutation)
+    ids = [it.id for it in wrong(answer_to, VECTORS)]
+    first_long = next(wrong(answer_to, LONG_VECTORS), None) if not ids else None
+    return ids or ([first_long.id] if first_long else [])
+
+
+def limit_memory():
+    resource.setrlimit(resource.RLIMIT_AS, (MEMORY, MEMORY))
+
+
+def killers(mutations):
+    """Returns the ids of the vectors that kill each mutation, which are tried side by side."""
+    with multiprocessing.Pool(initializer=limit_memory) as pool:
+        ids = pool.map(killers_of, mutations.values(), chunksize=8)
+    return dict(zip(mutations, ids))
 
 
 def unquoted(mutations):
@@ -89,10 +99,9 @@ def complaints(mutations, found, vectors):
 
 def main():
     """Returns whether something is wrong."""
-    resource.setrlimit(resource.RLIMIT_AS, (MEMORY, MEMORY))
-    mutations, vectors, long_vectors = read_mutations(), read_vectors(), read_long_vectors()
-    found = killers(mutations, vectors, long_vectors)
-    failed = complaints(mutations, found, vectors + long_vectors)
+    mutations = read_mutations()
+    found = killers(mutations)
+    failed = complaints(mutations, found, VECTORS + LONG_VECTORS)
     document = table(mutations, found)
     if sys.argv[1:] == ["--update"]:
         KILLED.write_text(document)

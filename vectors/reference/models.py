@@ -1,5 +1,5 @@
 """The numbers of a fault model: n >= kf + 1 for n members, f of them faulty, at a resilience k of 2
-or more."""
+or more. By weight n is what all weigh together, and f what those weigh that are faulty."""
 
 
 def faults_of(resilience, members):

@@ -7,7 +7,8 @@ import types
 
 HERE = pathlib.Path(__file__).resolve().parent
 # The modules of the reference, each after those that it imports.
-MODULES = ["varints", "containers", "builders", "models", "certificates", "questions", "answers"]
+MODULES = ["varints", "containers", "builders", "models", "certificates", "weights"]
+MODULES += ["questions", "answers"]
 SOURCES = {name: (HERE / f"{name}.py").read_text() for name in MODULES}
 BLOCK = re.compile(
     r"== (?P<name>.+)\nfile: (?P<module>\w+)\.py\nbreaks: (?P<sentence>.+(?:\n  .+)*)\n"

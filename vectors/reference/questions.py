@@ -5,7 +5,7 @@ import re
 
 from certificates import Certificate
 from containers import BiMap, List, Map, NonEmpty, Set
-from varints import Byte, Size, Varint, Word
+from varints import Byte, Fixed, Long, Size, Varint, Word
 
 RANGE = re.compile(r"([0-9]*)\.\.(=?)([0-9]*)")
 DIGITS = re.compile(r"[0-9]+")
@@ -73,6 +73,17 @@ TYPES = {
     "non-empty<u8>": (FILLED, lambda a: NonEmpty(Byte(), a)),
     "non-empty<non-empty<u8>>": (FILLED * 2, lambda a, b: NonEmpty(NonEmpty(Byte(), b), a)),
     "certificate": (TWO, lambda a, b: Certificate(a, b)),
+    "u64": ([], lambda: Long()),
+    "vec<u64>": (ONE, lambda a: List(Long(), a)),
+    "member": ([], lambda: Fixed(32)),
+    "set<member>": (ONE, lambda a: Set(Fixed(32), a)),
+    "map<member,u8>": (ONE, lambda a: Map(Fixed(32), Byte(), a)),
+    "map<member,u64>": (ONE, lambda a: Map(Fixed(32), Long(), a)),
+    "bimap<member,member>": (ONE, lambda a: BiMap(Fixed(32), Fixed(32), a)),
+    "set<bytes20>": (ONE, lambda a: Set(Fixed(20), a)),
+    "set<bytes33>": (ONE, lambda a: Set(Fixed(33), a)),
+    "set<bytes48>": (ONE, lambda a: Set(Fixed(48), a)),
+    "set<bytes96>": (ONE, lambda a: Set(Fixed(96), a)),
 }
 MODELS = {"n3f1": 3, "n5f1": 5}
 

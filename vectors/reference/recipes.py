@@ -6,15 +6,16 @@ bytes in hexadecimal:
 
     {length N}      the number N as a varint
     {N times HEX}   the bytes HEX, N times
-    {KIND A to B}   the numbers from A to B, both included, up or down, as u8, u32 or varint
+    {KIND A to B}   the numbers from A to B, both included, up or down, as u8, u32, u64, varint,
+                    member or bytesN: the last two have the highest byte first too
 """
 
 import re
 import sys
 
-from varints import Byte, Varint, Word, write_varint
+from varints import write_varint
 
-KINDS = {"u8": Byte(), "u32": Word(), "varint": Varint()}
+SIZES = {"u8": 1, "u32": 4, "u64": 8, "member": 32, **{f"bytes{it}": it for it in (20, 33, 48, 96)}}
 LENGTH = re.compile(r"\{length (\d+)\}")
 TIMES = re.compile(r"\{(\d+) times ([0-9a-f]+)\}")
 NUMBERS = re.compile(r"\{(\w+) (\d+) to (\d+)\}")
@@ -23,7 +24,9 @@ NUMBERS = re.compile(r"\{(\w+) (\d+) to (\d+)\}")
 def numbers(kind, first, last):
     """Returns the bytes of the numbers from the first to the last, up or down."""
     step = 1 if first <= last else -1
-    return b"".join(map(KINDS[kind].write, range(first, last + step, step))).hex()
+    fixed = lambda number: number.to_bytes(SIZES[kind], "big")
+    write = write_varint if kind == "varint" else fixed
+    return b"".join(map(write, range(first, last + step, step))).hex()
 
 
 def expand(text):

@@ -1,7 +1,8 @@
 """Numbers, and the bytes that they are read from.
 
 A kind of value has three methods: `read` takes a value off a source, `write` returns its
-encoding, and `count` says how many items it has. Kinds without items count as one.
+encoding, and `count` says how many items it has. Kinds without items count as one. Values of a
+kind compare as Python compares them: numbers by size, bytes by the first that differs.
 """
 
 
@@ -86,6 +87,29 @@ class Word(Number):
 
     def write(self, value):
         return value.to_bytes(4, "big")
+
+
+class Long(Number):
+    """A `u64`: eight bytes, the highest first."""
+
+    def read(self, source):
+        return int.from_bytes(source.take(8), "big")
+
+    def write(self, value):
+        return value.to_bytes(8, "big")
+
+
+class Fixed(Number):
+    """So many bytes as they are: a `member` has 32."""
+
+    def __init__(self, size):
+        self.size = size
+
+    def read(self, source):
+        return source.take(self.size)
+
+    def write(self, value):
+        return value
 
 
 class Varint(Number):
