@@ -2,8 +2,8 @@ package commonware_test
 
 import (
 	"encoding/hex"
+	"encoding/json"
 	"errors"
-	"fmt"
 	"math"
 	"os"
 	"path/filepath"
@@ -19,20 +19,41 @@ import (
 // errSkipped is returned for a question that the library has no call for.
 var errSkipped = errors.New("skipped")
 
-func bytesOf(word string) []byte {
-	decoded, err := hex.DecodeString(strings.Trim(word, "-"))
-	if err != nil {
-		panic(err)
-	}
-	return decoded
+// sizes are how many bytes an item of each type of a fixed length has.
+var sizes = map[string]int{"u8": 1, "u32": 4, "u64": 8, "member": 32, "bytes20": 20, "bytes33": 33, "bytes48": 48, "bytes96": 96}
+
+// hexBytes are bytes that JSON has in hexadecimal.
+type hexBytes []byte
+
+func (b *hexBytes) UnmarshalText(text []byte) (err error) {
+	*b, err = hex.DecodeString(string(text))
+	return err
 }
 
-func wordOf(bytes []byte) string {
-	if len(bytes) == 0 {
-		return "-"
-	}
-	return hex.EncodeToString(bytes)
+func (b hexBytes) MarshalText() ([]byte, error) {
+	return []byte(hex.EncodeToString(b)), nil
 }
+
+// A question of the vectors: those of its parts that it has.
+type question struct {
+	Ask, Type, Model                                     string
+	Ranges                                               []string
+	Members                                              uint32
+	Bytes, Listed, Set, Item, Certificate, First, Second hexBytes
+}
+
+// sizesOf returns how many bytes the items of the type have, or its keys and its values; 0 stands for any number.
+func (q question) sizesOf() []int {
+	_, items, _ := strings.Cut(strings.TrimSuffix(q.Type, ">"), "<")
+	var found []int
+	for _, item := range strings.Split(items, ",") {
+		found = append(found, sizes[item])
+	}
+	return found
+}
+
+// An answer of the vectors, by its parts.
+type answer map[string]any
 
 // numberOf returns a number of up to 64 bits, or the greatest int where it is past that.
 func numberOf(word string) int {
@@ -74,183 +95,220 @@ func modelOf(word string) FaultModel {
 	return FaultModel(numberOf(strings.TrimPrefix(word, "k=")))
 }
 
+// invalid returns the answer for items that break the rule of a collection.
+func invalid(collection, rule string) answer {
+	return answer{"error": "Invalid", "collection": collection, "rule": rule}
+}
+
 // answerOf returns the answer of the vectors to an error.
-func answerOf(err error, sameValue string) string {
+func answerOf(err error, sameValue string) answer {
 	var length InvalidLengthError
 	var left LeftOverError
 	var key RepeatedKeyError
 	var value RepeatedValueError
 	switch {
 	case errors.As(err, &length):
-		return fmt.Sprintf("InvalidLength %d", length.Length)
+		return answer{"error": "InvalidLength", "length": length.Length}
 	case errors.As(err, &left):
-		return fmt.Sprintf("LeftOver %d", left.Count)
+		return answer{"error": "LeftOver", "left": left.Count}
 	case errors.As(err, &key):
-		return "DuplicateKey"
+		return answer{"error": "DuplicateKey"}
 	case errors.As(err, &value):
-		return "Invalid BiMap: duplicate value detected during deserialization"
+		return invalid("BiMap", "duplicate value detected during deserialization")
+	case errors.Is(err, ErrNotStrict):
+		return invalid("Set", "items must be sorted and unique")
 	}
-	for known, answer := range map[error]string{
+	for known, name := range map[error]string{
 		ErrEndOfInput: "EndOfBuffer", ErrInvalidVarint: "InvalidVarint", ErrOutside: "Outside", ErrTooFew: "TooFew",
-		ErrNotStrict: "Invalid Set: items must be sorted and unique", ErrSameValue: sameValue, ErrNoSlot: "NoSlot",
-		ErrOtherSlot: "OtherSlot",
+		ErrSameValue: sameValue, ErrNoSlot: "NoSlot", ErrOtherSlot: "OtherSlot",
 	} {
 		if errors.Is(err, known) {
-			return answer
+			return answer{"error": name}
 		}
 	}
-	return err.Error()
+	return answer{"error": err.Error()}
 }
 
-func lines(t *testing.T, name string) []string {
-	text, err := os.ReadFile(filepath.Join("..", "..", "vectors", name))
+// A test of the vectors. Its question has no ask where it can't be read.
+type test struct {
+	ID       int `json:"tcId"`
+	Question question
+	Answer   json.RawMessage
+}
+
+func testsOf(t *testing.T, name string) []test {
+	text, err := os.ReadFile(filepath.Join("..", "..", "vectors", name+".json"))
 	if err != nil {
 		t.Fatal(err)
 	}
-	return strings.Split(strings.TrimSuffix(string(text), "\n"), "\n")
+	var file struct{ Tests []test }
+	if err := json.Unmarshal(text, &file); err != nil {
+		t.Fatal(err)
+	}
+	return file.Tests
 }
 
-// areAnswered compares the answer to each question of a file, from the words after the first.
-func areAnswered(t *testing.T, name string, least int, ask func(words []string) (string, error)) {
+// isSame tells whether an answer is the one that JSON has, whatever the order of its parts.
+func isSame(got answer, expected json.RawMessage) bool {
+	var other any
+	if err := json.Unmarshal(expected, &other); err != nil {
+		panic(err)
+	}
+	ours, err := json.Marshal(got)
+	if err != nil {
+		panic(err)
+	}
+	theirs, err := json.Marshal(other)
+	return err == nil && string(ours) == string(theirs)
+}
+
+// areAnswered compares the answer to each question of a file that can be read.
+func areAnswered(t *testing.T, name string, least int, ask func(asked question) (answer, error)) {
 	t.Run(name, func(t *testing.T) {
-		answers, tried := lines(t, name+".answers"), 0
-		for _, question := range lines(t, name+".questions") {
-			if question == "" || question[0] == '#' {
+		tried := 0
+		for _, it := range testsOf(t, name) {
+			if it.Question.Ask == "" {
 				continue
 			}
-			expected := answers[0]
-			answers = answers[1:]
-			if strings.HasPrefix(expected, "unreadable") {
-				continue
-			}
-			got, err := ask(strings.Fields(question)[1:])
+			got, err := ask(it.Question)
 			if err == errSkipped {
 				continue
 			}
 			if err != nil {
 				got = answerOf(err, map[bool]string{true: "SameDecision", false: "EqualValues"}[name == "equivocation"])
 			}
-			if got != expected {
-				t.Errorf("%s, and not %s: %s", got, expected, question)
+			if !isSame(got, it.Answer) {
+				t.Errorf("%v, and not %s: test %d", got, it.Answer, it.ID)
 			}
 			tried++
 		}
-		if tried < least || len(answers) > 0 {
-			t.Errorf("%d were tried, and %d are left", tried, len(answers))
+		if tried < least {
+			t.Errorf("%d were tried", tried)
 		}
 	})
 }
 
-func accepted(count int, rest []byte, err error) (string, error) {
-	return fmt.Sprintf("accepted %d %d", count, len(rest)), err
+func accepted(count int, rest []byte, err error) (answer, error) {
+	return answer{"items": count, "left": len(rest)}, err
 }
 
-func TestVectorsOfSetsAndMaps(t *testing.T) {
-	for name, size := range map[string]int{"set_u8": 1, "set_u32": 4} {
-		size := size
-		areAnswered(t, name, 11, func(words []string) (string, error) {
-			least, most := limitsOf(words[0])
-			set, rest, err := ReadSet(size, bytesOf(words[1]), least, most)
+func TestVectorsOfSets(t *testing.T) {
+	for _, item := range []string{"u8", "u32", "member", "bytes20", "bytes33", "bytes48", "bytes96"} {
+		areAnswered(t, "set_"+item, 60, func(asked question) (answer, error) {
+			least, most := limitsOf(asked.Ranges[0])
+			set, rest, err := ReadSet(asked.sizesOf()[0], asked.Bytes, least, most)
 			return accepted(set.Len(), rest, err)
 		})
 	}
-	areAnswered(t, "map_u8_u8", 20, func(words []string) (string, error) {
-		least, most := limitsOf(words[0])
-		pairs, rest, err := ReadMap(1, 1, bytesOf(words[1]), least, most)
-		return accepted(pairs.Len(), rest, err)
-	})
-	areAnswered(t, "bimap_u8_u8", 11, func(words []string) (string, error) {
-		least, most := limitsOf(words[0])
-		pairs, rest, err := ReadBiMap(1, 1, bytesOf(words[1]), least, most)
-		return accepted(pairs.Len(), rest, err)
-	})
-	areAnswered(t, "position", 10, func(words []string) (string, error) {
-		size, key := map[string]int{"set<u8>": 1, "set<u32>": 4}[words[0]], bytesOf(words[2])
-		if size == 0 || size != len(key) {
-			return "", errSkipped
+	areAnswered(t, "position", 40, func(asked question) (answer, error) {
+		size := asked.sizesOf()[0]
+		if size == 0 || size != len(asked.Item) {
+			return nil, errSkipped
 		}
-		set, err := DecodeSet(size, bytesOf(words[1]))
-		index, isThere := set.IndexOf(key)
+		set, err := DecodeSet(size, asked.Set)
+		index, isThere := set.IndexOf(asked.Item)
 		if !isThere {
-			return "none", err
+			return answer{"position": nil}, err
 		}
-		return fmt.Sprintf("position %d", index), err
+		return answer{"position": index}, err
 	})
 }
 
-// built returns what is built of a list of keys and of one of as many values, each of a byte.
-func built(words []string, encode func(keySize, valueSize int, pairs []byte) ([]byte, error)) (string, error) {
-	count, rest, err := plainVarint(bytesOf(words[1]))
-	if words[0] != "map<u8,u8>" || err != nil {
-		return "", errSkipped
+func TestVectorsOfMaps(t *testing.T) {
+	for _, name := range []string{"map_u8_u8", "map_member_u8", "map_member_u64"} {
+		areAnswered(t, name, 60, func(asked question) (answer, error) {
+			sizes := asked.sizesOf()
+			least, most := limitsOf(asked.Ranges[0])
+			pairs, rest, err := ReadMap(sizes[0], sizes[1], asked.Bytes, least, most)
+			return accepted(pairs.Len(), rest, err)
+		})
 	}
-	keys, rest, err := plainItems(1, count, rest)
-	if err != nil || len(rest) != 1+count || int(rest[0]) != count {
-		return "", errSkipped
+	for _, name := range []string{"bimap_u8_u8", "bimap_member_member"} {
+		areAnswered(t, name, 60, func(asked question) (answer, error) {
+			sizes := asked.sizesOf()
+			least, most := limitsOf(asked.Ranges[0])
+			pairs, rest, err := ReadBiMap(sizes[0], sizes[1], asked.Bytes, least, most)
+			return accepted(pairs.Len(), rest, err)
+		})
+	}
+}
+
+// built returns what is built of a list of keys and of one of as many values, of one size each.
+func built(asked question, encode func(keySize, valueSize int, pairs []byte) ([]byte, error)) (answer, error) {
+	sizes := asked.sizesOf()
+	count, rest, err := plainVarint(asked.Listed)
+	if !strings.HasPrefix(asked.Type, "map") || sizes[1] == 0 || err != nil {
+		return nil, errSkipped
+	}
+	keys, rest, err := plainItems(sizes[0], count, rest)
+	if err != nil {
+		return nil, errSkipped
+	}
+	again, rest, err := plainVarint(rest)
+	if err != nil || again != count || len(rest) != count*sizes[1] {
+		return nil, errSkipped
 	}
 	var pairs []byte
 	for index, key := range keys {
-		pairs = append(pairs, key[0], rest[1+index])
+		pairs = append(append(pairs, key...), rest[index*sizes[1]:][:sizes[1]]...)
 	}
-	written, err := encode(1, 1, pairs)
-	return "built " + wordOf(written), err
+	written, err := encode(sizes[0], sizes[1], pairs)
+	return answer{"built": hexBytes(written)}, err
 }
 
 func TestVectorsOfBuilders(t *testing.T) {
-	areAnswered(t, "build", 5, func(words []string) (string, error) {
-		size := map[string]int{"set<u8>": 1, "set<u32>": 4}[words[0]]
-		count, rest, err := plainVarint(bytesOf(words[1]))
-		if err == nil && size > 0 && len(rest) == size*count {
+	areAnswered(t, "build", 50, func(asked question) (answer, error) {
+		size := asked.sizesOf()[0]
+		count, rest, err := plainVarint(asked.Listed)
+		if err == nil && size > 0 && strings.HasPrefix(asked.Type, "set") && len(rest) == size*count {
 			written, err := EncodeSet(size, rest)
-			return "built " + wordOf(written), err
+			return answer{"built": hexBytes(written)}, err
 		}
-		return built(words, EncodeMap)
+		return built(asked, EncodeMap)
 	})
-	areAnswered(t, "build_unique", 2, func(words []string) (string, error) {
-		return built(words, EncodeUniqueMap)
+	areAnswered(t, "build_unique", 10, func(asked question) (answer, error) {
+		return built(asked, EncodeUniqueMap)
 	})
 }
 
 func TestVectorsOfCertificates(t *testing.T) {
-	areAnswered(t, "certificate", 20, func(words []string) (string, error) {
-		leastBytes, mostBytes := limitsOf(words[0])
-		leastSigners, mostSigners := limitsOf(words[1])
+	areAnswered(t, "certificate", 20, func(asked question) (answer, error) {
+		leastBytes, mostBytes := limitsOf(asked.Ranges[0])
+		leastSigners, mostSigners := limitsOf(asked.Ranges[1])
 		if leastBytes > 0 || leastSigners > 0 {
 			// The call takes no lower bounds.
-			return "", errSkipped
+			return nil, errSkipped
 		}
-		certificate, rest, err := ReadCertificate(bytesOf(words[2]), mostBytes, mostSigners)
+		certificate, rest, err := ReadCertificate(asked.Bytes, mostBytes, mostSigners)
 		return accepted(len(certificate.Signers), rest, err)
 	})
-	areAnswered(t, "quorum", 30, func(words []string) (string, error) {
-		checked, err := Check(modelOf(words[0]), uint32(numberOf(words[1])), bytesOf(words[2]))
-		parts := "no slot"
+	areAnswered(t, "quorum", 30, func(asked question) (answer, error) {
+		checked, err := Check(modelOf(asked.Model), asked.Members, asked.Certificate)
+		said := answer{"signers": checked.Signers, "slot": nil, "decision": nil}
 		if checked.HasSlot {
-			parts = fmt.Sprintf("slot %s decision %s", wordOf(checked.Slot), wordOf(checked.Decision))
+			said["slot"], said["decision"] = hexBytes(checked.Slot), hexBytes(checked.Decision)
 		}
-		return fmt.Sprintf("quorum %d %s", checked.Signers, parts), err
+		return said, err
 	})
 	for name, call := range map[string]func(FaultModel, uint32, []byte, []byte) ([]uint32, error){
 		"conflict": Conflict, "equivocation": Equivocation,
 	} {
-		call := call
-		areAnswered(t, name, 20, func(words []string) (string, error) {
-			members := uint32(numberOf(words[1]))
-			both, err := call(modelOf(words[0]), members, bytesOf(words[2]), bytesOf(words[3]))
-			return "members " + wordOf(certificateBytes(nil, both)[1:]), err
+		areAnswered(t, name, 20, func(asked question) (answer, error) {
+			both, err := call(modelOf(asked.Model), asked.Members, asked.First, asked.Second)
+			return answer{"both": hexBytes(certificateBytes(nil, both)[1:])}, err
 		})
 	}
 }
 
 func TestVectorsOfFaults(t *testing.T) {
-	areAnswered(t, "faults", 20, func(words []string) (string, error) {
-		model, n := modelOf(words[0]), uint32(numberOf(words[1]))
-		faults, err := model.MaxFaults(n)
+	areAnswered(t, "faults", 20, func(asked question) (answer, error) {
+		model := modelOf(asked.Model)
+		faults, err := model.MaxFaults(asked.Members)
 		if err != nil {
-			return "", err
+			return nil, err
 		}
-		quorum, _ := model.Quorum(n)
-		smaller, _ := model.SmallerQuorum(n)
-		return fmt.Sprintf("faults %d quorum %d m-quorum %d", faults, quorum, smaller), nil
+		quorum, _ := model.Quorum(asked.Members)
+		smaller, _ := model.SmallerQuorum(asked.Members)
+		return answer{"faults": faults, "quorum": quorum, "mQuorum": smaller}, nil
 	})
 }

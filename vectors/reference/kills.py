@@ -14,8 +14,8 @@ import resource
 import sys
 import textwrap
 
+from known import read_long_vectors, read_vectors
 from mutations import mutant, read_mutations, reference
-from vectors import read_long_vectors, read_vectors
 
 ROOT = pathlib.Path(__file__).resolve().parent.parent.parent
 KILLED = ROOT / "vectors/KILLED.md"

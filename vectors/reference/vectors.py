@@ -1,33 +1,26 @@
-"""The vectors, as the files have them."""
+"""The files of vectors: JSON, one for each type and verb."""
 
+import json
 import pathlib
-from collections import namedtuple
-
-from recipes import read_recipes
 
 FOLDER = pathlib.Path(__file__).resolve().parent.parent
-Vector = namedtuple("Vector", "id question answer")
+# What isn't a file of vectors.
+SCHEMA = FOLDER / "schema.json"
 
 
-def questions_of(text):
-    """Returns the lines that are questions."""
-    return [line for line in text.splitlines() if line and not line.startswith("#")]
+def paths():
+    """Returns the paths of the files, in the order of their names."""
+    return sorted(it for it in FOLDER.glob("*.json") if it != SCHEMA)
 
 
-def read_vectors():
-    """Returns the vectors of all types and verbs, in the order of the files' names."""
-    found = []
-    for path in sorted(FOLDER.glob("*.questions")):
-        questions = questions_of(path.read_text())
-        answers = path.with_suffix(".answers").read_text().splitlines()
-        if len(questions) != len(answers):
-            raise ValueError(f"{path.name}: as many answers as questions are needed")
-        for number, (question, answer) in enumerate(zip(questions, answers), 1):
-            found.append(Vector(f"{path.stem}/{number}", question, answer))
-    return found
+def read_file(path):
+    """Returns what a file of vectors, or the schema, says."""
+    return json.loads(path.read_text(encoding="utf-8"))
 
 
-def read_long_vectors():
-    """Returns the vectors that are recipes, written out."""
-    recipes = read_recipes((FOLDER / "long.recipes").read_text())
-    return [Vector(f"long/{number}", *recipe) for number, recipe in enumerate(recipes, 1)]
+def text_of(file):
+    """Returns the text of a file of vectors: a line for each test."""
+    said = lambda value: json.dumps(value, ensure_ascii=False)
+    lines = [f"  {said(key)}: {said(value)}," for key, value in file.items() if key != "tests"]
+    tests = ",\n".join(f"    {said(test)}" for test in file["tests"])
+    return "\n".join(["{", *lines, '  "tests": [', tests, "  ]", "}"]) + "\n"

@@ -1,5 +1,6 @@
 """The vectors at the repository's root that are about what the library has: their answers were worked out by hand."""
 
+import json
 import pathlib
 import unittest
 
@@ -20,28 +21,27 @@ from commonware import (
 
 VECTORS = pathlib.Path(__file__).resolve().parents[3] / "vectors"
 
-ANSWERS = {
+# What a result of the library is called in the vectors.
+ERRORS = {
     "EndOfInput": "EndOfBuffer",
-    "NotStrict": "Invalid Set: items must be sorted and unique",
-    "RepeatedValue": "Invalid BiMap: duplicate value detected during deserialization",
+    "NotStrict": ("Invalid", "Set"),
+    "RepeatedValue": ("Invalid", "BiMap"),
     "RepeatedKey": "DuplicateKey",
     "SameValue": "EqualValues",
 }
+# How many bytes an item of each type of a fixed length has.
+SIZES = {"u8": 1, "u32": 4, "u64": 8, "member": 32, "bytes20": 20, "bytes33": 33, "bytes48": 48, "bytes96": 96}
 
 
 def asked(name):
-    """Returns the questions of a file, each as its words, and the answers to them."""
-    questions = (VECTORS / f"{name}.questions").read_text().splitlines()
-    questions = [it.split() for it in questions if it and not it.startswith("#")]
-    return zip(questions, (VECTORS / f"{name}.answers").read_text().splitlines())
+    """Returns the tests of a file whose question can be read."""
+    tests = json.loads((VECTORS / f"{name}.json").read_text())["tests"]
+    return [it for it in tests if "ask" in it["question"]]
 
 
-def bytes_of(word):
-    return bytes.fromhex(word.strip("-"))
-
-
-def word_of(data):
-    return data.hex() or "-"
+def sizes_of(kind):
+    """Returns how many bytes the items of a type have, or its keys and its values; None stands for any number."""
+    return [SIZES.get(it) for it in kind[kind.find("<") + 1 : -1].split(",")]
 
 
 def limits(word):
@@ -55,123 +55,139 @@ def k_of(word):
     return {"n3f1": 3, "n5f1": 5}.get(word) or int(word.removeprefix("k="))
 
 
-def answer(result, words):
-    """Returns the answer of the vectors to a result, which words say where it isn't an error."""
+def answer(result, parts):
+    """Returns the answer of the vectors to a result, whose parts are returned where it isn't an error."""
     if not isinstance(result, tuple) or not result or not isinstance(result[0], str):
-        return words(result)
+        return parts(result)
     name, number, *_ = result
-    name = ANSWERS.get(name, name)
-    return f"{name} {number}" if name in ("InvalidLength", "LeftOver") else name
+    name = ERRORS.get(name, name)
+    if isinstance(name, tuple):
+        return {"error": name[0], "collection": name[1]}
+    return {"error": name, **{"InvalidLength": {"length": number}, "LeftOver": {"left": number}}.get(name, {})}
 
 
 class Vectors(unittest.TestCase):
-    def are_answered(self, name, call, words, least):
+    def are_answered(self, name, call, parts, least):
+        """Compares what a call says of each question, which it has as names, or NotImplemented."""
         tried = 0
-        for question, expected in asked(name):
-            if "unreadable" in expected:
-                continue
-            result = cases.outcome(call, *question[1:])
+        for test in asked(name):
+            question, expected = test["question"], {**test["answer"]}
+            expected.pop("rule", None)
+            result = cases.outcome(call, question)
             if result is not NotImplemented:
-                self.assertEqual(answer(result, words), expected, question)
+                self.assertEqual(answer(result, parts), expected, test)
                 tried += 1
         self.assertGreaterEqual(tried, least)
 
     def items(self, result):
         value, rest = result
-        return f"accepted {len(value)} {len(rest)}"
+        return {"items": len(value), "left": len(rest)}
 
     def test_sets(self):
-        def read(size):
-            return lambda length, data: SetView.read(size, bytes_of(data), *limits(length))
+        def read(question):
+            [size], [length] = sizes_of(question["type"]), question["ranges"]
+            return SetView.read(size, bytes.fromhex(question["bytes"]), *limits(length))
 
-        self.are_answered("set_u8", read(1), self.items, 13)
-        self.are_answered("set_u32", read(4), self.items, 11)
+        for name in ("u8", "u32", "member", "bytes20", "bytes33", "bytes48", "bytes96"):
+            self.are_answered(f"set_{name}", read, self.items, 60)
+
+    def pairs(self, view):
+        def read(question):
+            [length] = question["ranges"]
+            return view.read(*sizes_of(question["type"]), bytes.fromhex(question["bytes"]), *limits(length))
+
+        return read
 
     def test_maps(self):
-        def read(length, data):
-            return MapView.read(1, 1, bytes_of(data), *limits(length))
-
-        self.are_answered("map_u8_u8", read, self.items, 20)
+        for name in ("map_u8_u8", "map_member_u8", "map_member_u64"):
+            self.are_answered(name, self.pairs(MapView), self.items, 60)
 
     def test_bimaps(self):
-        def read(length, data):
-            return BiMapView.read(1, 1, bytes_of(data), *limits(length))
-
-        self.are_answered("bimap_u8_u8", read, self.items, 11)
+        for name in ("bimap_u8_u8", "bimap_member_member"):
+            self.are_answered(name, self.pairs(BiMapView), self.items, 60)
 
     def test_certificates(self):
-        def read(value, signers, data):
-            limit = limits(value), limits(signers)
-            if limit[0][0] > 0 or limit[1][0] > 0:
+        def read(question):
+            value, signers = map(limits, question["ranges"])
+            if value[0] > 0 or signers[0] > 0:
                 # The call takes no lower bounds.
                 return NotImplemented
-            return Certificate.read(bytes_of(data), limit[0][1], limit[1][1])
+            return Certificate.read(bytes.fromhex(question["bytes"]), value[1], signers[1])
 
-        self.are_answered("certificate", read, lambda it: f"accepted {len(it[0].signers)} {len(it[1])}", 20)
+        self.are_answered("certificate", read, lambda it: {"items": len(it[0].signers), "left": len(it[1])}, 20)
 
     def test_positions(self):
-        def position(kind, data, item):
-            size = {"set<u8>": 1, "set<u32>": 4}.get(kind)
-            if size != len(bytes_of(item)):
+        def position(question):
+            [size], item = sizes_of(question["type"]), bytes.fromhex(question["item"])
+            if size != len(item):
                 # The call takes whole items.
                 return NotImplemented
-            return SetView.decode(size, bytes_of(data)).index_of(bytes_of(item))
+            return SetView.decode(size, bytes.fromhex(question["set"])).index_of(item)
 
-        self.are_answered("position", position, lambda at: "none" if at is None else f"position {at}", 10)
+        self.are_answered("position", position, lambda at: {"position": at}, 40)
 
     def built(self, name, encode, least):
-        """Tries what is built of whole sets and maps of numbers, which the bytes list one after another."""
+        """Tries what is built of whole sets and maps, whose items the bytes list one after another."""
 
-        def build(kind, data):
-            listed, size = bytes_of(data), 4 if "u32" in kind else 1
-            count, at = plain.read_varint(listed, 0)
-            keys, at = plain.read_items(size, count, listed, at)
-            if kind in ("set<u8>", "set<u32>") and encode is MapView.encode and at == len(listed):
-                return SetView.encode(size, keys)
-            if kind != "map<u8,u8>":
+        def build(question):
+            kind, listed = question["type"], bytes.fromhex(question["listed"])
+            sizes = sizes_of(kind)
+            if None in sizes or kind.startswith("bimap"):
                 return NotImplemented
+            count, at = plain.read_varint(listed, 0)
+            keys, at = plain.read_items(sizes[0], count, listed, at)
+            if kind.startswith("set"):
+                is_tried = encode is MapView.encode and at == len(listed)
+                return SetView.encode(sizes[0], keys) if is_tried else NotImplemented
             again, at = plain.read_varint(listed, at)
-            values, at = plain.read_items(1, count, listed, at)
-            return encode(1, 1, zip(keys, values)) if again == count and at == len(listed) else NotImplemented
+            values, at = plain.read_items(sizes[1], count, listed, at)
+            return encode(*sizes, zip(keys, values)) if again == count and at == len(listed) else NotImplemented
 
-        def tried(*words):
+        def tried(question):
             try:
-                return build(*words)
+                return build(question)
             except plain.Fault:
                 return NotImplemented
 
-        self.are_answered(name, tried, lambda it: f"built {word_of(it)}", least)
+        self.are_answered(name, tried, lambda it: {"built": it.hex()}, least)
 
     def test_builders(self):
-        self.built("build", MapView.encode, 5)
-        self.built("build_unique", MapView.encode_unique, 2)
+        self.built("build", MapView.encode, 50)
+        self.built("build_unique", MapView.encode_unique, 10)
 
     def test_numbers_of_faults(self):
-        def numbers(model, members):
-            ours = k_of(model), int(members)
+        def numbers(question):
+            ours = k_of(question["model"]), question["members"]
             return max_faults(*ours), quorum(*ours), smaller_quorum(*ours)
 
-        self.are_answered("faults", numbers, lambda it: "faults %d quorum %d m-quorum %d" % it, 10)
+        self.are_answered("faults", numbers, lambda it: dict(zip(("faults", "quorum", "mQuorum"), it)), 10)
 
     def test_quorums(self):
-        def words(it):
-            parts = "no slot" if it[1] is None else f"slot {word_of(it[1])} decision {word_of(it[2])}"
-            return f"quorum {it[3]} {parts}"
+        def checked(question):
+            return list(check(k_of(question["model"]), question["members"], bytes.fromhex(question["certificate"])))
 
-        self.are_answered("quorum", lambda k, n, it: list(check(k_of(k), int(n), bytes_of(it))), words, 30)
+        def parts(it):
+            slot, decision = (None if part is None else part.hex() for part in it[1:3])
+            return {"signers": it[3], "slot": slot, "decision": None if slot is None else decision}
+
+        self.are_answered("quorum", checked, parts, 30)
 
     def named(self, call):
-        return lambda k, n, *both: call(k_of(k), int(n), *map(bytes_of, both))
+        def name(question):
+            both = (bytes.fromhex(question[it]) for it in ("first", "second"))
+            return call(k_of(question["model"]), question["members"], *both)
+
+        return name
 
     def members(self, named):
-        return f"members {word_of(cases.list_bytes([plain.varint(it) for it in named]))}"
+        return {"both": cases.list_bytes([plain.varint(it) for it in named]).hex()}
 
     def test_conflicts(self):
         self.are_answered("conflict", self.named(conflict), self.members, 20)
 
     def test_equivocations(self):
-        ANSWERS["SameValue"] = "SameDecision"
-        self.addCleanup(ANSWERS.update, SameValue="EqualValues")
+        ERRORS["SameValue"] = "SameDecision"
+        self.addCleanup(ERRORS.update, SameValue="EqualValues")
         self.are_answered("equivocation", self.named(equivocation), self.members, 20)
 
 

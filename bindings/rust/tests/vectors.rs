@@ -1,13 +1,17 @@
-//! The vectors of certificates, and of sets and maps of bytes, at the repository's root: their
-//! results were worked out by hand.
+//! The vectors of certificates, and of sets, maps and bimaps of items of one size, as the stored
+//! run of the judge has them: their results were worked out by hand.
 
-use commonware_proved::{Certificate, CertificateLimits, MapView, Refusal, SetView};
+use commonware_proved::{
+    BiMapError, BiMapView, Certificate, CertificateLimits, MapView, Refusal, SetView,
+};
 use std::fs;
 use std::path::{Path, PathBuf};
 
-fn vectors(name: &str) -> String {
-    let folder: PathBuf = Path::new(env!("CARGO_MANIFEST_DIR")).join("../../vectors");
-    fs::read_to_string(folder.join(name)).expect("the vectors are at the root")
+/// Returns the lines of a file of the stored run.
+fn stored(name: &str) -> Vec<String> {
+    let folder: PathBuf = Path::new(env!("CARGO_MANIFEST_DIR")).join("../../crates/judge");
+    let text = fs::read_to_string(folder.join(name)).expect("the stored run is there");
+    text.lines().map(str::to_string).collect()
 }
 
 /// Returns the greatest number of a range without a lower bound: `..`, `..N` or `..=N`.
@@ -54,57 +58,85 @@ fn answer(result: Result<(usize, &[u8]), Refusal>) -> String {
     }
 }
 
-/// Returns the questions of a file that can be read, each as its words, and the answers to them.
-fn asked(name: &str) -> Vec<(Vec<String>, String)> {
-    let questions = vectors(&format!("{name}.questions"));
-    let answers = vectors(&format!("{name}.answers"));
-    let questions = questions
-        .lines()
-        .filter(|it| !it.is_empty() && !it.starts_with('#'));
-    let words = questions.map(|it| it.split_whitespace().map(str::to_string).collect());
-    let asked = words.zip(answers.lines().map(str::to_string));
-    asked
-        .filter(|(_, answer)| !answer.starts_with("unreadable"))
-        .collect()
+/// Returns the questions about a type, each as its words after that, and the answers to them.
+fn asked(kind: &str) -> Vec<(Vec<String>, String)> {
+    let questions = stored("stdin").into_iter().zip(stored("stdout"));
+    let asked = questions.filter_map(|(question, answer)| {
+        let mut words = question.split(' ').map(str::to_string);
+        (words.next()? == kind).then(|| (words.collect(), answer))
+    });
+    asked.collect()
+}
+
+/// Compares the answers to the questions about a type with one range, of which there are more than
+/// so many.
+fn are_answered(kind: &str, least: usize, ask: impl Fn(&[u8], usize, usize) -> String) {
+    let asked = asked(kind);
+    for (words, expected) in &asked {
+        let [range, input] = &words[..] else {
+            panic!("{kind} {words:?}");
+        };
+        let (from, to) = limits(range);
+        let answer = ask(&bytes(input), from, to);
+        assert_eq!(answer, *expected, "{kind} {words:?}");
+    }
+    assert!(asked.len() > least, "{kind}: {}", asked.len());
 }
 
 #[test]
-fn sets_of_bytes_are_decoded_as_the_vectors_say() {
-    let asked = asked("set_u8");
-    for (words, expected) in &asked {
-        let [_, range, input] = &words[..] else {
-            panic!("{words:?}");
-        };
-        let (least, most) = limits(range);
-        let input = bytes(input);
-        let result = SetView::read(1, &input, least..=most);
-        let result = result.map(|(set, rest)| (set.len(), rest));
-        assert_eq!(answer(result), *expected, "{words:?}");
+fn sets_are_decoded_as_the_vectors_say() {
+    let kinds = [
+        ("set<u8>", 1, 60),
+        ("set<u32>", 4, 60),
+        ("set<member>", 32, 80),
+        ("set<bytes20>", 20, 80),
+        ("set<bytes33>", 33, 80),
+        ("set<bytes48>", 48, 80),
+        ("set<bytes96>", 96, 100),
+    ];
+    for (kind, size, least) in kinds {
+        are_answered(kind, least, |input, from, to| {
+            let result = SetView::read(size, input, from..=to);
+            answer(result.map(|(set, rest)| (set.len(), rest)))
+        });
     }
-    assert!(asked.len() > 10, "{}", asked.len());
 }
 
 #[test]
-fn maps_of_bytes_are_decoded_as_the_vectors_say() {
-    let asked = asked("map_u8_u8");
-    for (words, expected) in &asked {
-        let [_, range, input] = &words[..] else {
-            panic!("{words:?}");
-        };
-        let (least, most) = limits(range);
-        let input = bytes(input);
-        let result = MapView::read(1, 1, &input, least..=most);
-        let result = result.map(|(map, rest)| (map.len(), rest));
-        assert_eq!(answer(result), *expected, "{words:?}");
+fn maps_are_decoded_as_the_vectors_say() {
+    let kinds = [
+        ("map<u8,u8>", 1, 1),
+        ("map<member,u8>", 32, 1),
+        ("map<member,u64>", 32, 8),
+    ];
+    for (kind, key_size, value_size) in kinds {
+        are_answered(kind, 60, |input, from, to| {
+            let result = MapView::read(key_size, value_size, input, from..=to);
+            answer(result.map(|(map, rest)| (map.len(), rest)))
+        });
     }
-    assert!(asked.len() > 15, "{}", asked.len());
+}
+
+#[test]
+fn bimaps_are_decoded_as_the_vectors_say() {
+    for (kind, size) in [("bimap<u8,u8>", 1), ("bimap<member,member>", 32)] {
+        are_answered(kind, 60, |input, from, to| {
+            match BiMapView::read(size, size, input, from..=to) {
+                Ok((bimap, rest)) => answer(Ok((bimap.len(), rest))),
+                Err(BiMapError::Refused(refusal)) => answer(Err(refusal)),
+                Err(_) => {
+                    "Invalid BiMap: duplicate value detected during deserialization".to_string()
+                }
+            }
+        });
+    }
 }
 
 #[test]
 fn certificates_are_decoded_as_the_vectors_say() {
     let mut tried = 0;
     for (words, expected) in asked("certificate") {
-        let [_, value, signers, input] = &words[..] else {
+        let [value, signers, input] = &words[..] else {
             panic!("{words:?}");
         };
         // The call takes no lower bounds.
