@@ -8,6 +8,7 @@ use Rattle.judge_questions.specs.declared.collection.SetForm.{SetForm}
 use Rattle.judge_questions.specs.declared.task.Task.TheVariants as tasks
 use Rattle.judge_questions.specs.declared.verb.Verb.TheVariants.{Build, BuildUnique, Position, Faults, Refute}
 use Rattle.judge_questions.specs.declared.verb.Verb.TheVariants.{Quorum, Conflict, Equivocation}
+use Rattle.judge_questions.specs.declared.verb.Verb.TheVariants.{Weights, WeightedQuorum, WeightedConflict, WeightedEquivocation}
 use Rattle.judge_core.specs.Answered.{AsksBy}
 
 -- words that ask to build, where equal ones count once or none may be equal
@@ -24,6 +25,10 @@ module _ {A : Type 0} (line : List ℕ) where
   asked_build c unique text (Quorum, rest, is, h) = absurd h
   asked_build c unique text (Conflict, rest, is, h) = absurd h
   asked_build c unique text (Equivocation, rest, is, h) = absurd h
+  asked_build c unique text (Weights, rest, is, h) = absurd h
+  asked_build c unique text (WeightedQuorum, rest, is, h) = absurd h
+  asked_build c unique text (WeightedConflict, rest, is, h) = absurd h
+  asked_build c unique text (WeightedEquivocation, rest, is, h) = absurd h
 
   pub asked_position : (set : SetForm) (text item : List ℕ) → IsTask {A = A} line (tasks.Position set text item) → AsksBy line Position (λ words. AsksForPosition words set text item)
   asked_position set text item (Build, rest, is, h) = absurd h
@@ -34,6 +39,10 @@ module _ {A : Type 0} (line : List ℕ) where
   asked_position set text item (Quorum, rest, is, h) = absurd h
   asked_position set text item (Conflict, rest, is, h) = absurd h
   asked_position set text item (Equivocation, rest, is, h) = absurd h
+  asked_position set text item (Weights, rest, is, h) = absurd h
+  asked_position set text item (WeightedQuorum, rest, is, h) = absurd h
+  asked_position set text item (WeightedConflict, rest, is, h) = absurd h
+  asked_position set text item (WeightedEquivocation, rest, is, h) = absurd h
 
   pub asked_faults : (k n : ℕ) → IsTask {A = A} line (tasks.Faults k n) → AsksBy line Faults (λ words. AsksForFaults words k n)
   asked_faults k n (Build, rest, is, h) = absurd h
@@ -44,6 +53,10 @@ module _ {A : Type 0} (line : List ℕ) where
   asked_faults k n (Quorum, rest, is, h) = absurd h
   asked_faults k n (Conflict, rest, is, h) = absurd h
   asked_faults k n (Equivocation, rest, is, h) = absurd h
+  asked_faults k n (Weights, rest, is, h) = absurd h
+  asked_faults k n (WeightedQuorum, rest, is, h) = absurd h
+  asked_faults k n (WeightedConflict, rest, is, h) = absurd h
+  asked_faults k n (WeightedEquivocation, rest, is, h) = absurd h
 
   pub asked_refute : (k n f : ℕ) → IsTask {A = A} line (tasks.Refute k n f) → AsksBy line Refute (λ words. AsksToRefute words k n f)
   asked_refute k n f (Build, rest, is, h) = absurd h
@@ -54,6 +67,10 @@ module _ {A : Type 0} (line : List ℕ) where
   asked_refute k n f (Quorum, rest, is, h) = absurd h
   asked_refute k n f (Conflict, rest, is, h) = absurd h
   asked_refute k n f (Equivocation, rest, is, h) = absurd h
+  asked_refute k n f (Weights, rest, is, h) = absurd h
+  asked_refute k n f (WeightedQuorum, rest, is, h) = absurd h
+  asked_refute k n f (WeightedConflict, rest, is, h) = absurd h
+  asked_refute k n f (WeightedEquivocation, rest, is, h) = absurd h
 
   pub asked_quorum : (k n : ℕ) (text : List ℕ) → IsTask {A = A} line (tasks.Quorum k n text) → AsksBy line Quorum (λ words. AsksForQuorum words k n text)
   asked_quorum k n text (Build, rest, is, h) = absurd h
@@ -64,6 +81,10 @@ module _ {A : Type 0} (line : List ℕ) where
   asked_quorum k n text (Quorum, rest, is, h) = (rest, is, h)
   asked_quorum k n text (Conflict, rest, is, h) = absurd h
   asked_quorum k n text (Equivocation, rest, is, h) = absurd h
+  asked_quorum k n text (Weights, rest, is, h) = absurd h
+  asked_quorum k n text (WeightedQuorum, rest, is, h) = absurd h
+  asked_quorum k n text (WeightedConflict, rest, is, h) = absurd h
+  asked_quorum k n text (WeightedEquivocation, rest, is, h) = absurd h
 
   pub asked_conflict : (k n : ℕ) (one other : List ℕ) → IsTask {A = A} line (tasks.Conflict k n one other) → AsksBy line Conflict (λ words. AsksForConflict words k n one other)
   asked_conflict k n one other (Build, rest, is, h) = absurd h
@@ -74,6 +95,10 @@ module _ {A : Type 0} (line : List ℕ) where
   asked_conflict k n one other (Quorum, rest, is, h) = absurd h
   asked_conflict k n one other (Conflict, rest, is, h) = (rest, is, h)
   asked_conflict k n one other (Equivocation, rest, is, h) = absurd h
+  asked_conflict k n one other (Weights, rest, is, h) = absurd h
+  asked_conflict k n one other (WeightedQuorum, rest, is, h) = absurd h
+  asked_conflict k n one other (WeightedConflict, rest, is, h) = absurd h
+  asked_conflict k n one other (WeightedEquivocation, rest, is, h) = absurd h
 
   pub asked_equivocation : (k n : ℕ) (one other : List ℕ) → IsTask {A = A} line (tasks.Equivocation k n one other) → AsksBy line Equivocation (λ words. AsksForConflict words k n one other)
   asked_equivocation k n one other (Build, rest, is, h) = absurd h
@@ -84,3 +109,7 @@ module _ {A : Type 0} (line : List ℕ) where
   asked_equivocation k n one other (Quorum, rest, is, h) = absurd h
   asked_equivocation k n one other (Conflict, rest, is, h) = absurd h
   asked_equivocation k n one other (Equivocation, rest, is, h) = (rest, is, h)
+  asked_equivocation k n one other (Weights, rest, is, h) = absurd h
+  asked_equivocation k n one other (WeightedQuorum, rest, is, h) = absurd h
+  asked_equivocation k n one other (WeightedConflict, rest, is, h) = absurd h
+  asked_equivocation k n one other (WeightedEquivocation, rest, is, h) = absurd h

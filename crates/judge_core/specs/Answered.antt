@@ -10,7 +10,7 @@ use Rattle.judge_questions.specs.declared.form.Form.{Form}
 use Rattle.judge_questions.specs.declared.limits.Limits.{Limits}
 use Rattle.judge_questions.specs.declared.question.Unreadable.TheVariants.{Bytes, Model, Name, Number, Ranges}
 use Rattle.judge_questions.specs.Tasks.{AsksForConflict, AsksForFaults, AsksForPosition, AsksForQuorum, AsksToBuild}
-use Rattle.judge_questions.specs.Tasks.{AsksToRefute}
+use Rattle.judge_questions.specs.Tasks.{AsksForWeightedConflict, AsksForWeightedQuorum, AsksForWeights, AsksToRefute}
 use Rattle.judge_questions.specs.Tasks.{HasNoVerb, IsUnreadableTask, build_verb, verb_name}
 use Rattle.judge_questions.specs.Words.{words_of}
 use Rattle.judge_questions.specs.declared.collection.Collection.{Collection}
@@ -18,13 +18,18 @@ use Rattle.judge_questions.specs.declared.collection.SetForm.{SetForm}
 use Rattle.judge_questions.specs.declared.question.Unreadable.{Unreadable}
 use Rattle.judge_questions.specs.declared.verb.Verb.{Verb}
 use Rattle.judge_questions.specs.declared.verb.Verb.TheVariants.{Conflict, Equivocation, Faults, Position, Quorum}
-use Rattle.judge_questions.specs.declared.verb.Verb.TheVariants.{Refute}
+use Rattle.judge_questions.specs.declared.verb.Verb.TheVariants.{Refute, WeightedConflict, WeightedEquivocation}
+use Rattle.judge_questions.specs.declared.verb.Verb.TheVariants.{WeightedQuorum, Weights}
 use Rattle.judge_verdicts.specs.Collections.{IsBuilt, IsFoundIn}
 use Rattle.judge_verdicts.specs.Conflicts.{IsConflict}
 use Rattle.judge_verdicts.specs.Equivocations.{IsEquivocation}
 use Rattle.judge_verdicts.specs.Numbers.{AreNumbers}
 use Rattle.judge_verdicts.specs.Quorums.{Certified, IsChecked}
 use Rattle.judge_verdicts.specs.Readings.{IsVerdict, reading_of}
+use Rattle.judge_verdicts.specs.WeightedConflicts.{IsWeightedConflict, Weighed}
+use Rattle.judge_verdicts.specs.WeightedEquivocations.{IsWeightedEquivocation}
+use Rattle.judge_verdicts.specs.WeightedQuorums.{IsWeightChecked, WeightCertified}
+use Rattle.judge_verdicts.specs.Weights.{AreNumbersOfWeights}
 use Rattle.judge_core.specs.declared.answer.Answer.{Answer}
 use Rattle.judge_core.specs.declared.answer.Answer.TheVariants.{Judged, Unread}
 use Rattle.judge_verdicts.specs.declared.conflict.NoConflict.{NoConflict}
@@ -35,9 +40,16 @@ use Rattle.judge_verdicts.specs.declared.places.Found.{Found}
 use Rattle.judge_verdicts.specs.declared.quorum.NoQuorum.{NoQuorum}
 use Rattle.judge_verdicts.specs.declared.sets.NotBuilt.{NotBuilt}
 use Rattle.judge_verdicts.specs.declared.verdict.Verdict.TheVariants.{Accepted, Refused}
+use Rattle.judge_verdicts.specs.declared.weighted_conflict.NoWeightedConflict.{NoWeightedConflict}
+use Rattle.judge_verdicts.specs.declared.weighted_equivocation.NoWeightedEquivocation.{NoWeightedEquivocation}
+use Rattle.judge_verdicts.specs.declared.weighted_quorum.NoWeightedQuorum.{NoWeightedQuorum}
+use Rattle.judge_verdicts.specs.declared.weights.NoWeights.{NoWeights}
+use Rattle.judge_verdicts.specs.declared.weights.WeightNumbers.{WeightNumbers}
 use Rattle.judge_core.specs.Faults.{error_text}
 use Rattle.judge_core.specs.Tasks.{IsRefuted, built_line, conflict_line, equivocation_line, found_line, numbers_line}
 use Rattle.judge_core.specs.Tasks.{quorum_line, refuted_line}
+use Rattle.judge_core.specs.Weighted.{weighted_conflict_line, weighted_equivocation_line, weighted_quorum_line}
+use Rattle.judge_core.specs.Weighted.{weights_line}
 
 -- the answer is right: the line asks a question and the verdict on its input is right, or what is named of it can't be
 -- read
@@ -107,6 +119,22 @@ pub data IsTold (line : List ℕ) (told : Told) : Type 0 where
       → AsksBy line Equivocation (λ words. AsksForConflict words k n one other)
       → IsEquivocation k n one other members → told.text ≡ equivocation_line members → told.judged ≡ true
       → IsTold line told
+  weighed : (k : ℕ) (list : List ℕ) (numbers : Result WeightNumbers NoWeights)
+      → AsksBy line Weights (λ words. AsksForWeights words k list)
+      → AreNumbersOfWeights k list numbers → told.text ≡ weights_line numbers → told.judged ≡ true
+      → IsTold line told
+  weight_checked : (k : ℕ) (list text : List ℕ) (found : Result WeightCertified NoWeightedQuorum)
+      → AsksBy line WeightedQuorum (λ words. AsksForWeightedQuorum words k list text)
+      → IsWeightChecked k list text found → told.text ≡ weighted_quorum_line found → told.judged ≡ true
+      → IsTold line told
+  weight_named : (k : ℕ) (list one other : List ℕ) (members : Result Weighed NoWeightedConflict)
+      → AsksBy line WeightedConflict (λ words. AsksForWeightedConflict words k list one other)
+      → IsWeightedConflict k list one other members → told.text ≡ weighted_conflict_line members
+      → told.judged ≡ true → IsTold line told
+  weight_accused : (k : ℕ) (list one other : List ℕ) (members : Result Weighed NoWeightedEquivocation)
+      → AsksBy line WeightedEquivocation (λ words. AsksForWeightedConflict words k list one other)
+      → IsWeightedEquivocation k list one other members → told.text ≡ weighted_equivocation_line members
+      → told.judged ≡ true → IsTold line told
   unread : (what : Unreadable) → IsUnreadableTask line what → told.text ≡ answer_line (Unread what)
       → told.judged ≡ false → IsTold line told
   answered : HasNoVerb line → (answer : Answer) → IsAnswer line answer → told.text ≡ answer_line answer

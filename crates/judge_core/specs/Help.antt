@@ -23,6 +23,11 @@ help_lines =
     ∷ codes "conflict MODEL N BYTES BYTES      who signed both certificates, for different values"
     ∷ codes "equivocation MODEL N BYTES BYTES  who signed both, for different decisions of one slot"
     ∷ []
+    ∷ codes "weights MODEL WEIGHTS                            the numbers of the weights that are listed"
+    ∷ codes "weighted-quorum MODEL WEIGHTS BYTES              whether signers that weigh a quorum signed it"
+    ∷ codes "weighted-conflict MODEL WEIGHTS BYTES BYTES      who signed both, where quorums are by weight"
+    ∷ codes "weighted-equivocation MODEL WEIGHTS BYTES BYTES  the same, for different decisions of one slot"
+    ∷ []
 
 -- each line of them
 abbrev pub help_text : List ℕ

@@ -8,3 +8,4 @@ pub mod Replies
 pub mod Said
 pub mod Session
 pub mod Tasks
+pub mod Weighted

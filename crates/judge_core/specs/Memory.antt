@@ -3,17 +3,19 @@ use Rattle.std.specs.Prelude.{ℕ, ◌<◌, List, Bool, length}
 use Rattle.std.specs.List.{AllByRecursion}
 use Rattle.std.specs.Str.Lines.{lines}
 use Rattle.judge_questions.specs.Questions.{IsQuestion}
-use Rattle.judge_questions.specs.Tasks.{AsksForConflict, AsksForPosition, AsksForQuorum, AsksToBuild, both_verb}
-use Rattle.judge_questions.specs.Tasks.{build_verb}
+use Rattle.judge_questions.specs.Tasks.{AsksForConflict, AsksForPosition, AsksForQuorum, AsksForWeightedConflict}
+use Rattle.judge_questions.specs.Tasks.{AsksForWeightedQuorum, AsksForWeights, AsksToBuild, both_verb, build_verb}
+use Rattle.judge_questions.specs.Tasks.{weighted_both_verb}
 use Rattle.judge_questions.specs.Words.{AreShort, words_of}
 use Rattle.judge_questions.specs.declared.collection.Collection.{Collection}
 use Rattle.judge_questions.specs.declared.collection.SetForm.{SetForm}
 use Rattle.judge_questions.specs.declared.form.Form.{Form}
 use Rattle.judge_questions.specs.declared.limits.Limits.{Limits}
-use Rattle.judge_questions.specs.declared.verb.Verb.TheVariants.{Position, Quorum}
+use Rattle.judge_questions.specs.declared.verb.Verb.TheVariants.{Position, Quorum, WeightedQuorum, Weights}
 use Rattle.judge_verdicts.specs.Builds.{MayFailToAllocateToBuild}
 use Rattle.judge_verdicts.specs.Collections.{MayFailToAllocateToFindIn, lists_of}
 use Rattle.judge_verdicts.specs.Readings.{reading_of}
+use Rattle.judge_verdicts.specs.Weights.{listed_numbers}
 use Rattle.judge_core.specs.Answered.{AsksBy, asked_from}
 
 -- no word of the line is long, and where it asks for a reading, that is memory-free
@@ -23,7 +25,7 @@ pub record IsReadingMemoryFree (line : List ℕ) : Type 0 where
       → (reading_of form limits).MemoryFree text
 
 -- No allocation fails as the line is answered: none of its words is long; what is read or built or looked up takes no
--- memory; and it asks nothing of certificates, since these are read with memory.
+-- memory, as weights that are listed do; and it asks nothing of certificates, since these are read with memory.
 pub record IsLineMemoryFree (line : List ℕ) : Type 0 where
   pub readings : IsReadingMemoryFree line
   pub builds : (unique : Bool) (collection : Collection) (text : List ℕ)
@@ -34,6 +36,12 @@ pub record IsLineMemoryFree (line : List ℕ) : Type 0 where
   pub quorums : (k n : ℕ) (text : List ℕ) → ¬ AsksBy line Quorum (λ words. AsksForQuorum words k n text)
   pub conflicts : (by_slot : Bool) (k n : ℕ) (one other : List ℕ)
       → ¬ AsksBy line (both_verb by_slot) (λ words. AsksForConflict words k n one other)
+  pub weights : (k : ℕ) (list : List ℕ) → AsksBy line Weights (λ words. AsksForWeights words k list)
+      → ¬ MayFailToAllocateToBuild listed_numbers list
+  pub weighted_quorums : (k : ℕ) (list text : List ℕ)
+      → ¬ AsksBy line WeightedQuorum (λ words. AsksForWeightedQuorum words k list text)
+  pub weighted_conflicts : (by_slot : Bool) (k : ℕ) (list one other : List ℕ)
+      → ¬ AsksBy line (weighted_both_verb by_slot) (λ words. AsksForWeightedConflict words k list one other)
 
 -- each of the numbered lines has fewer than 4096 bytes and is answered without an allocation
 abbrev pub AreMemoryFree : List (ℕ × List ℕ) → Type 0

@@ -26,6 +26,11 @@ refute MODEL N F                  why F of N members can't be faulty
 quorum MODEL N BYTES              whether a quorum of N members signed the certificate
 conflict MODEL N BYTES BYTES      who signed both certificates, for different values
 equivocation MODEL N BYTES BYTES  who signed both, for different decisions of one slot
+
+weights MODEL WEIGHTS                            the numbers of the weights that are listed
+weighted-quorum MODEL WEIGHTS BYTES              whether signers that weigh a quorum signed it
+weighted-conflict MODEL WEIGHTS BYTES BYTES      who signed both, where quorums are by weight
+weighted-equivocation MODEL WEIGHTS BYTES BYTES  the same, for different decisions of one slot
 ";
 
 /// What `--version` says.

@@ -21,6 +21,8 @@ mod room;
 mod runs;
 mod sessions;
 mod stream;
+mod weighted_reply;
+mod weighted_report;
 
 pub use answer::{Answer, answer_to};
 pub use command::{Command, parse_args};
@@ -29,15 +31,18 @@ pub use help::{say_help, say_version};
 pub use host::{on_host, start};
 pub use judge_questions::{
     Bytes, Collection, FORMS, Form, Limit, Limits, Question, SetForm, Task, Unreadable, VERBS,
-    Verb, read_form, read_limit, read_model, read_question, read_size, read_task, read_text,
-    read_verb,
+    Verb, WeightedTask, read_form, read_limit, read_model, read_question, read_size, read_task,
+    read_text, read_verb,
 };
 pub use judge_verdicts::{
     Checked, CountItems, FaultNumbers, Found, Misread, NoConflict, NoEquivocation, NoQuorum,
-    NotBuilt, Refutation, SlotAndDecision, Verdict, build, conflict_of, equivocation_of,
-    fault_numbers, judge, judge_as, position, quorum_of, refute,
+    NoWeightedConflict, NoWeightedEquivocation, NoWeightedQuorum, NoWeights, NotBuilt, Refutation,
+    SlotAndDecision, Verdict, WeightChecked, WeightNumbers, WeightedMembers, build, conflict_of,
+    equivocation_of, fault_numbers, judge, judge_as, position, quorum_of, refute, weight_numbers,
+    weighted_conflict_of, weighted_equivocation_of, weighted_quorum_of,
 };
 pub use reply::{Reply, reply_to};
 pub use runs::run;
 pub use sessions::session;
 pub use stream::{answer_all, say_types};
+pub use weighted_reply::WeightedReply;

@@ -6,6 +6,7 @@ ghost use Rattle.judge_core.specs.Replies.{is_verdict, told_of};
 ghost use Rattle.judge_questions.specs.Tasks.{IsTask};
 
 use crate::answer::{Answer, answer_to};
+use crate::weighted_reply::{WeightedReply, reply_by_weight};
 use judge_questions::{Task, read_task};
 use judge_verdicts::{
     Checked, FaultNumbers, Found, NoConflict, NoEquivocation, NoQuorum, NotBuilt, Refutation,
@@ -34,6 +35,8 @@ pub enum Reply<A: Allocator> {
     /// The bytes of the members that signed two different decisions for one slot, or why there are
     /// none.
     Equivocated(Result<Vec<u8, A>, NoEquivocation>),
+    /// The reply to a line that asks of participants with weights.
+    Weighted(WeightedReply<A>),
     /// The answer to a line that asks for a reading, or what of a line can't be read.
     Answered(Answer),
 }
@@ -105,5 +108,6 @@ fn reply_to_task<A: Allocator + Copy>(alloc: A, task: &Task<A>) -> Result<Reply<
             first.as_slice(),
             second.as_slice(),
         )?)),
+        Task::Weighted(task) => Ok(Reply::Weighted(reply_by_weight(alloc, task)?)),
     }
 }

@@ -18,6 +18,7 @@ ghost use Rattle.judge_verdicts.specs.Whole.{items_of};
 use crate::answer::{Answer, unreadable_text};
 use crate::reply::Reply;
 use crate::room::Room;
+use crate::weighted_report::weighted_line;
 use commonware_utils::codec::Error;
 use itoa::Buffer;
 use judge_questions::Unreadable;
@@ -45,7 +46,7 @@ const PARTS: usize = 12;
 
 /// A line of parts and a line feed, which is seen as its bytes.
 #[derive(Drop)]
-struct Line<'a> {
+pub(crate) struct Line<'a> {
     parts: [Part<'a>; PARTS],
     /// How many of them are in use.
     count: usize,
@@ -168,7 +169,7 @@ pub(crate) fn say_reply<A: Allocator, W: Write>(
 }
 
 /// The line of these parts, and of a line feed.
-fn line_of<'a>(parts: &[Part<'a>]) -> Line<'a>
+pub(crate) fn line_of<'a>(parts: &[Part<'a>]) -> Line<'a>
     requires { length parts.now ≤ 12 }
     ensures { result ≡ line_text parts.now }
 {
@@ -181,7 +182,7 @@ fn line_of<'a>(parts: &[Part<'a>]) -> Line<'a>
 }
 
 /// The line of this text.
-fn text_line(text: &str) -> Line<'_>
+pub(crate) fn text_line(text: &str) -> Line<'_>
     ensures { result ≡ text.now ++ 10 ∷ [] }
 {
     line_of(&[Part::Text(text)])
@@ -200,6 +201,7 @@ fn reply_line<A: Allocator>(reply: &Reply<A>) -> Line<'_>
         Reply::Checked(checked) => quorum_line(checked),
         Reply::Members(members) => conflict_line(members),
         Reply::Equivocated(members) => equivocation_line(members),
+        Reply::Weighted(reply) => weighted_line(reply),
         Reply::Answered(answer) => answer_line(answer),
     }
 }
@@ -252,7 +254,7 @@ fn fault_line(error: &Error) -> Line<'_>
 
 /// Why an input is not the encoding of one value.
 #[tactic(auto, unfolding(crate::specs::Tasks::misread_line))]
-fn misread_line(what: &Misread) -> Line<'_>
+pub(crate) fn misread_line(what: &Misread) -> Line<'_>
     ensures { result ≡ misread_line what.now }
 {
     match what {
@@ -358,7 +360,7 @@ fn certificate_line<A: Allocator>(certificate: &Checked<A>) -> Line<'_>
 }
 
 /// Bytes as a word, which is `-` where there are none.
-fn word_part(bytes: &[u8]) -> Part<'_>
+pub(crate) fn word_part(bytes: &[u8]) -> Part<'_>
     ensures { part_text result ≡ word_text bytes.now }
 {
     if bytes.is_empty() {

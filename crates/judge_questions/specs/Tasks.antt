@@ -12,9 +12,12 @@ use Rattle.judge_questions.specs.declared.question.Unreadable.{Unreadable}
 use Rattle.judge_questions.specs.declared.question.Unreadable.TheVariants.{Name, Bytes, Model, Number}
 use Rattle.judge_questions.specs.declared.task.Task.{Task}
 use Rattle.judge_questions.specs.declared.task.Task.TheVariants as tasks
+use Rattle.judge_questions.specs.declared.weighted.WeightedTask.TheVariants as weighted
 use Rattle.judge_questions.specs.declared.verb.Verb.{Verb}
 use Rattle.judge_questions.specs.declared.verb.Verb.TheVariants.{Build, BuildUnique, Position, Faults, Refute}
 use Rattle.judge_questions.specs.declared.verb.Verb.TheVariants.{Quorum, Conflict, Equivocation}
+use Rattle.judge_questions.specs.declared.verb.Verb.TheVariants.{Weights, WeightedQuorum, WeightedConflict}
+use Rattle.judge_questions.specs.declared.verb.Verb.TheVariants.{WeightedEquivocation}
 
 -- the word by which a line asks
 abbrev pub verb_name : Verb → List ℕ
@@ -26,6 +29,10 @@ verb_name Refute = codes "refute"
 verb_name Quorum = codes "quorum"
 verb_name Conflict = codes "conflict"
 verb_name Equivocation = codes "equivocation"
+verb_name Weights = codes "weights"
+verb_name WeightedQuorum = codes "weighted-quorum"
+verb_name WeightedConflict = codes "weighted-conflict"
+verb_name WeightedEquivocation = codes "weighted-equivocation"
 
 -- the verb that asks to build, where no two may be equal or where equal ones count once
 abbrev pub build_verb : Bool → Verb
@@ -36,6 +43,11 @@ build_verb false = Build
 abbrev pub both_verb : Bool → Verb
 both_verb true = Equivocation
 both_verb false = Conflict
+
+-- the same where quorums are by weight
+abbrev pub weighted_both_verb : Bool → Verb
+weighted_both_verb true = WeightedEquivocation
+weighted_both_verb false = WeightedConflict
 
 -- the word names the fault model of a resilience k: `n3f1`, `n5f1`, or `k=` and a number from 2 to 4294967295
 abbrev pub IsModel : List ℕ → ℕ → Type 0
@@ -83,6 +95,24 @@ AsksForConflict words k n one other =
     × (words ≡ model ∷ size ∷ first ∷ second ∷ []) × IsModel model k × IsSize size n × IsText first one
     × IsText second other
 
+-- the words are a model, and what lists weights
+abbrev pub AsksForWeights : List (List ℕ) → ℕ → List ℕ → Type 0
+AsksForWeights words k weights =
+    (model : List ℕ) × (list : List ℕ) × (words ≡ model ∷ list ∷ []) × IsModel model k × IsText list weights
+
+-- the words are a model, what lists weights, and the encoding of a certificate
+abbrev pub AsksForWeightedQuorum : List (List ℕ) → ℕ → List ℕ → List ℕ → Type 0
+AsksForWeightedQuorum words k weights text =
+    (model : List ℕ) × (list : List ℕ) × (word : List ℕ) × (words ≡ model ∷ list ∷ word ∷ []) × IsModel model k
+    × IsText list weights × IsText word text
+
+-- the words are a model, what lists weights, and the encodings of two certificates
+abbrev pub AsksForWeightedConflict : List (List ℕ) → ℕ → List ℕ → List ℕ → List ℕ → Type 0
+AsksForWeightedConflict words k weights one other =
+    (model : List ℕ) × (list : List ℕ) × (first : List ℕ) × (second : List ℕ)
+    × (words ≡ model ∷ list ∷ first ∷ second ∷ []) × IsModel model k × IsText list weights × IsText first one
+    × IsText second other
+
 -- the words after a verb ask for the task
 abbrev pub AsksFor : {A : Type 0} → Verb → List (List ℕ) → Task A → Type 0
 AsksFor Build words (tasks.Build collection unique text) = (unique ≡ false) × AsksToBuild words collection text
@@ -94,6 +124,13 @@ AsksFor Refute words (tasks.Refute k n f) = AsksToRefute words k n f
 AsksFor Quorum words (tasks.Quorum k n text) = AsksForQuorum words k n text
 AsksFor Conflict words (tasks.Conflict k n one other) = AsksForConflict words k n one other
 AsksFor Equivocation words (tasks.Equivocation k n one other) = AsksForConflict words k n one other
+AsksFor Weights words (tasks.Weighted (weighted.Numbers k weights)) = AsksForWeights words k weights
+AsksFor WeightedQuorum words (tasks.Weighted (weighted.Quorum k weights text)) =
+    AsksForWeightedQuorum words k weights text
+AsksFor WeightedConflict words (tasks.Weighted (weighted.Conflict k weights one other)) =
+    AsksForWeightedConflict words k weights one other
+AsksFor WeightedEquivocation words (tasks.Weighted (weighted.Equivocation k weights one other)) =
+    AsksForWeightedConflict words k weights one other
 AsksFor _ words _ = ⊥
 
 -- the words don't begin with a model
@@ -109,6 +146,11 @@ LackAfterModel words Lacks =
 abbrev pub LackTwoTexts : List (List ℕ) → Type 0
 LackTwoTexts words = (first second one other : List ℕ) → words ≡ first ∷ second ∷ [] → IsText first one
     → ¬ IsText second other
+
+-- the words aren't the bytes of three inputs
+abbrev pub LackThreeTexts : List (List ℕ) → Type 0
+LackThreeTexts words = (list first second weights one other : List ℕ) → words ≡ list ∷ first ∷ second ∷ []
+    → IsText list weights → IsText first one → ¬ IsText second other
 
 -- the words aren't a number of members and one that is no greater
 abbrev pub LackTwoNumbers : List (List ℕ) → Type 0
@@ -172,6 +214,24 @@ LackConflict words Number = LackSize words
 LackConflict words Bytes = LackAfterSize words LackTwoTexts
 LackConflict words _ = ⊥
 
+-- What is wrong with words that should ask for the numbers of weights.
+abbrev pub LackWeights : List (List ℕ) → Unreadable → Type 0
+LackWeights words Model = LackModel words
+LackWeights words Bytes = LackAfterModel words (λ more. (word text : List ℕ) → more ≡ word ∷ [] → ¬ IsText word text)
+LackWeights words _ = ⊥
+
+-- What is wrong with words that should ask for a quorum by weight.
+abbrev pub LackWeightedQuorum : List (List ℕ) → Unreadable → Type 0
+LackWeightedQuorum words Model = LackModel words
+LackWeightedQuorum words Bytes = LackAfterModel words LackTwoTexts
+LackWeightedQuorum words _ = ⊥
+
+-- What is wrong with words that should ask who signed both of two certificates, where quorums are by weight.
+abbrev pub LackWeightedConflict : List (List ℕ) → Unreadable → Type 0
+LackWeightedConflict words Model = LackModel words
+LackWeightedConflict words Bytes = LackAfterModel words LackThreeTexts
+LackWeightedConflict words _ = ⊥
+
 -- what is wrong with the words after a verb
 abbrev pub Lack : Verb → List (List ℕ) → Unreadable → Type 0
 Lack Build words what = LackBuild words what
@@ -182,6 +242,10 @@ Lack Refute words what = LackRefute words what
 Lack Quorum words what = LackQuorum words what
 Lack Conflict words what = LackConflict words what
 Lack Equivocation words what = LackConflict words what
+Lack Weights words what = LackWeights words what
+Lack WeightedQuorum words what = LackWeightedQuorum words what
+Lack WeightedConflict words what = LackWeightedConflict words what
+Lack WeightedEquivocation words what = LackWeightedConflict words what
 
 -- the line begins with no verb
 abbrev pub HasNoVerb : List ℕ → Type 0

@@ -12,7 +12,9 @@ mod model;
 mod question;
 mod ranges;
 mod task;
+mod texts;
 mod verb;
+mod weighted;
 mod words;
 
 pub use bytes::Bytes;
@@ -25,4 +27,5 @@ pub use question::{Question, Unreadable, read_form, read_question};
 pub use ranges::read_limit;
 pub use task::{Task, read_task};
 pub use verb::{VERBS, Verb, read_verb};
+pub use weighted::WeightedTask;
 pub use words::place_of;

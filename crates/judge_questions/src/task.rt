@@ -2,11 +2,10 @@
 ghost use Rattle.std.specs.Prelude.{◌≡◌, ◌≢◌, ◌≤◌, ◌∷◌, [], ℕ, List, Some, IfErr, IfOk, MatchOption, MatchResult};
 ghost use Rattle.judge_questions.specs.Collections.{collection_of, set_form_of};
 ghost use Rattle.judge_questions.specs.Forms.{name_of};
-ghost use Rattle.judge_questions.specs.Hex.{IsText};
 ghost use Rattle.judge_questions.specs.Tasks.{AsksFor, HasNoVerb, IsTask, IsUnreadableTask, Lack};
 ghost use Rattle.judge_questions.specs.Tasks.{IsSize, LackTwoNumbers, both_verb, build_verb};
 ghost use Rattle.judge_questions.specs.Tasks.{LackBuild, LackConflict, LackFaults, LackPosition};
-ghost use Rattle.judge_questions.specs.Tasks.{LackQuorum, LackRefute, LackTwoTexts, verb_name};
+ghost use Rattle.judge_questions.specs.Tasks.{LackQuorum, LackRefute, verb_name};
 ghost use Rattle.judge_questions.specs.Ranges.{IsNumber};
 ghost use Rattle.judge_questions.specs.Words.{AreShort, words_of};
 ghost use Rattle.judge_questions.specs.declared.form.Form.{Form};
@@ -14,10 +13,11 @@ ghost use Rattle.judge_questions.specs.declared.verb.Verb.{Verb};
 
 use crate::bytes::Bytes;
 use crate::collection::{Collection, SetForm};
-use crate::hex::read_text;
 use crate::model::{next_model, next_size, read_u32};
 use crate::question::{Unreadable, last_text, next_form};
+use crate::texts::two_texts;
 use crate::verb::{Verb, read_verb};
+use crate::weighted::{WeightedTask, read_weighted_both, read_weighted_quorum, read_weights};
 use crate::words::Words;
 use std::alloc::{AllocError, Allocator};
 
@@ -70,6 +70,8 @@ pub enum Task<A: Allocator> {
         first: Bytes<A>,
         second: Bytes<A>,
     },
+    /// What it asks of participants with weights.
+    Weighted(WeightedTask<A>),
 }
 
 /// What a line asks for by a verb, or what of it can't be read; and `None` where it begins with no
@@ -117,6 +119,10 @@ fn read_words<A: Allocator + Copy>(
         Verb::Quorum => read_quorum(alloc, words),
         Verb::Conflict => read_both(alloc, words, false),
         Verb::Equivocation => read_both(alloc, words, true),
+        Verb::Weights => read_weights(alloc, words),
+        Verb::WeightedQuorum => read_weighted_quorum(alloc, words),
+        Verb::WeightedConflict => read_weighted_both(alloc, words, false),
+        Verb::WeightedEquivocation => read_weighted_both(alloc, words, true),
     }
 }
 
@@ -278,26 +284,4 @@ fn read_both<A: Allocator + Copy>(
             second,
         }
     }))
-}
-
-/// The bytes that the last two words write.
-fn two_texts<A: Allocator + Copy>(
-    alloc: A,
-    words: &mut Words<'_>,
-) -> Result<Option<(Bytes<A>, Bytes<A>)>, AllocError>
-    ensures read { IfOk result (λ read. MatchOption read (LackTwoTexts words.old)
-        (λ p. (first : List ℕ) × (second : List ℕ) × (words.old ≡ first ∷ second ∷ [])
-        × IsText first p.0 × IsText second p.1)) }
-    ensures memory { IfErr result (λ _. ¬ AreShort words.old) }
-{
-    let Some(word) = words.next() else {
-        return Ok(None);
-    };
-    let Some(first) = read_text(alloc, word)? else {
-        return Ok(None);
-    };
-    match last_text(alloc, words)? {
-        Some(second) => Ok(Some((first, second))),
-        None => Ok(None),
-    }
 }

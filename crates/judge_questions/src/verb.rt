@@ -26,10 +26,19 @@ pub enum Verb {
     Conflict,
     /// Accountability: who signed two different decisions for one slot.
     Equivocation,
+    /// The numbers of a fault model, where participants have weights.
+    Weights,
+    /// Whether signers that weigh a quorum signed a certificate.
+    WeightedQuorum,
+    /// Who signed both of two certificates, where quorums are by weight.
+    WeightedConflict,
+    /// Accountability: who signed two different decisions for one slot, where quorums are by
+    /// weight.
+    WeightedEquivocation,
 }
 
 /// Each of the words, once.
-pub const VERBS: [Verb; 8] = [
+pub const VERBS: [Verb; 12] = [
     Verb::Build,
     Verb::BuildUnique,
     Verb::Position,
@@ -38,6 +47,10 @@ pub const VERBS: [Verb; 8] = [
     Verb::Quorum,
     Verb::Conflict,
     Verb::Equivocation,
+    Verb::Weights,
+    Verb::WeightedQuorum,
+    Verb::WeightedConflict,
+    Verb::WeightedEquivocation,
 ];
 
 impl Verb {
@@ -54,6 +67,10 @@ impl Verb {
             Verb::Quorum => "quorum",
             Verb::Conflict => "conflict",
             Verb::Equivocation => "equivocation",
+            Verb::Weights => "weights",
+            Verb::WeightedQuorum => "weighted-quorum",
+            Verb::WeightedConflict => "weighted-conflict",
+            Verb::WeightedEquivocation => "weighted-equivocation",
         }
     }
 }

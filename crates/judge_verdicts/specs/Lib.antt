@@ -7,4 +7,8 @@ pub mod Numbers
 pub mod Places
 pub mod Quorums
 pub mod Readings
+pub mod WeightedConflicts
+pub mod WeightedEquivocations
+pub mod WeightedQuorums
+pub mod Weights
 pub mod Whole

@@ -6,6 +6,7 @@ use Rattle.std.specs.declared.cmp.Ordering.{Ordering}
 use Rattle.commonware_utils.specs.Codec.{Accepts, Bounds, Fault, Refuses, Within}
 use Rattle.commonware_utils.specs.Codec.{byte, byte_fault, IsByte, IsWord, word_bytes, word_fault, varint, varint_fault}
 use Rattle.commonware_utils.specs.Codec.{NumberFault}
+use Rattle.commonware_utils.specs.Sequence.{IsU64, u64_bytes, u64_fault}
 use Rattle.commonware_utils.specs.Codec.{list_enc, IsWritableList, IsAllowedList, IsListMemoryFree, ListFault}
 use Rattle.commonware_utils.specs.Ordered.{IsWritableSet, SetFault, map_enc, IsWritableMap, IsAllowedMap, MapFault}
 use Rattle.commonware_utils.specs.Ordered.{IsWritableBiMap, BiMapFault}
@@ -109,6 +110,18 @@ a_number range =
       MemoryFree = λ _. Unit {0};
       items = λ _. 1;
     }
+
+-- a number in eight bytes, the highest first
+abbrev pub a_u64 : Reading
+a_u64 = record {
+  Value = ℕ;
+  enc = u64_bytes;
+  Writable = IsU64;
+  Allowed = λ _. Unit {0};
+  HasFault = u64_fault;
+  MemoryFree = λ _. Unit {0};
+  items = λ _. 1;
+}
 
 -- a list
 abbrev pub list_of : Bounds ℕ → Reading → Reading

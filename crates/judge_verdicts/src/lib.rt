@@ -1,6 +1,7 @@
 //! What the oracle says: which value of a type an input begins with, what a builder makes of items
 //! in any order, the position of an item, the numbers of a fault model, whether a quorum signed a
-//! certificate, and who signed two of them. Each verdict is a theorem of the library's own clauses.
+//! certificate, and who signed two of them; and the same where participants have weights. Each
+//! verdict is a theorem of the library's own clauses.
 #![tactic(auto)]
 
 mod certificates;
@@ -16,6 +17,11 @@ mod places;
 mod quorum;
 mod sets;
 mod verdict;
+mod weighted_conflict;
+mod weighted_equivocation;
+mod weighted_members;
+mod weighted_quorum;
+mod weights;
 mod whole;
 
 pub use collections::{build, position};
@@ -29,4 +35,9 @@ pub use places::{Found, position_as};
 pub use quorum::{Checked, NoQuorum, SlotAndDecision, quorum_of};
 pub use sets::{NotBuilt, build_set};
 pub use verdict::Verdict;
+pub use weighted_conflict::{NoWeightedConflict, weighted_conflict_of};
+pub use weighted_equivocation::{NoWeightedEquivocation, weighted_equivocation_of};
+pub use weighted_members::WeightedMembers;
+pub use weighted_quorum::{NoWeightedQuorum, WeightChecked, weighted_quorum_of};
+pub use weights::{NoWeights, WeightNumbers, weight_numbers};
 pub use whole::{Misread, read_whole};

@@ -63,7 +63,7 @@ pub fn quorum_of<A: Allocator + Copy>(
 }
 
 /// The slot and the decision that the value is, or `None` where it has no slot.
-fn copied_slot<A: Allocator + Copy>(
+pub(crate) fn copied_slot<A: Allocator + Copy>(
     alloc: A,
     value: &[u8],
 ) -> Result<Option<SlotAndDecision<A>>, AllocError>

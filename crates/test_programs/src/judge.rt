@@ -23,21 +23,30 @@ const ANSWERS: &str = "accepted 2 2\nEndOfBuffer\naccepted 1 0\n";
 const TASKS: &str = "# verbs\nbuild set<u8> 03020102\nbuild-unique set<u8> 03020102\n\
 position set<u8> 0205c8 c8\nfaults n5f1 11\nrefute k=7 20 3\nrefute k=7 22 3\n\
 quorum n3f1 4 030107aa03000102\nconflict n3f1 4 01aa03000102 01bb03010203\n\
-equivocation n3f1 4 030107aa03000102 030107bb03010203\nfaults n4f1 7\nbuild u8 00\n";
+equivocation n3f1 4 030107aa03000102 030107bb03010203\n\
+weights n3f1 020000000000000028000000000000000a\n\
+weighted-quorum n3f1 020000000000000028000000000000000a 030107aa0100\n\
+weighted-conflict n3f1 020000000000000028000000000000000a 01aa020001 01bb0100\n\
+weighted-equivocation n3f1 020000000000000028000000000000000a 030107aa020001 030107bb0100\n\
+faults n4f1 7\nbuild u8 00\n";
 
 /// Their answers.
 const TASK_ANSWERS: &str = "built 020102\nDuplicateKey\nposition 1\nfaults 2 quorum 9 m-quorum 5\n\
 first 0..17 second 3..20 shared 14 needed 16\ntolerated\nquorum 3 slot 07 decision aa\n\
-members 020102\nmembers 020102\nunreadable model\nunreadable type\n";
+members 020102\nmembers 020102\ntotal 50 tolerated 16 quorum 34 m-quorum 33\n\
+quorum 1 weight 40 slot 07 decision aa\nmembers 0100 weight 40\nmembers 0100 weight 40\n\
+unreadable model\nunreadable type\n";
 
 /// The same after the number of each line.
 const NUMBERED_ANSWERS: &str = "2: built 020102\n3: DuplicateKey\n4: position 1\n\
 5: faults 2 quorum 9 m-quorum 5\n6: first 0..17 second 3..20 shared 14 needed 16\n7: tolerated\n\
 8: quorum 3 slot 07 decision aa\n9: members 020102\n10: members 020102\n\
-11: unreadable model\n12: unreadable type\n";
+11: total 50 tolerated 16 quorum 34 m-quorum 33\n12: quorum 1 weight 40 slot 07 decision aa\n\
+13: members 0100 weight 40\n14: members 0100 weight 40\n\
+15: unreadable model\n16: unreadable type\n";
 
 /// What is noted of them.
-const NOTES: &str = "line 11: unreadable model\nline 12: unreadable type\n";
+const NOTES: &str = "line 15: unreadable model\nline 16: unreadable type\n";
 
 /// What a session says that an allocation failure has stopped.
 const NO_MEMORY: &[u8] = b"failed: out of memory\n";

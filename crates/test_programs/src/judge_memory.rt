@@ -34,11 +34,12 @@ fn allocates(alloc: Global, text: &[u8]) -> Result<bool, AllocError> {
 fn short_lines_allocate_nothing(rt: HostRuntime) {
     let lines =
         b"u8 07\nu32 00000102\nvarint 8001\nusize ..=5 05\nset<u8> .. 00\nvec<u8> 5.. 0401\n\
-build set<u8> 80\nposition set<u8> 00 07\nfaults n3f1 7\nrefute n5f1 11 3\nrefute k=7 22 3\n"
+build set<u8> 80\nposition set<u8> 00 07\nfaults n3f1 7\nrefute n5f1 11 3\nrefute k=7 22 3\n\
+weights n3f1 80\n"
             .as_slice();
     let answers = b"accepted 1 0\naccepted 1 0\naccepted 1 0\naccepted 1 0\naccepted 0 0\n\
 InvalidLength 4\nEndOfBuffer\nnone\nfaults 2 quorum 5 m-quorum 5\n\
-first 0..8 second 3..11 shared 5 needed 10\ntolerated\n"
+first 0..8 second 3..11 shared 5 needed 10\ntolerated\nEndOfBuffer\n"
         .as_slice();
     assert!(rt; allocates_nothing(rt.alloc(), lines, answers, 0) == Ok(true));
     let unread = b"u9 00\nu8 0\n\nfaults n3f1\nfaults n4f1 7\nusize 5 05".as_slice();
@@ -83,6 +84,7 @@ fn the_first_lengths_that_allocate(rt: HostRuntime) {
     let more = padded(alloc, b"u8 ", b'0', 3 + 130).expect(&rt, "memory");
     assert!(rt; allocates(alloc, &more) == Ok(true));
     assert!(rt; allocates(alloc, b"vec<u8> .. 0107\n") == Ok(true));
+    assert!(rt; allocates(alloc, b"weights n3f1 010000000000000001\n") == Ok(true));
 }
 
 /// The words that ask for no lines.

@@ -112,3 +112,13 @@ returns-in_err-equivocation_of-in-Equivocation-clause-memory g c =
     let e = c.in-Equivocation in
     on_error ((line : List ℕ) → IsTask line c.args.task.now → ¬ IsLineMemoryFree line) c.from_residual-in_err-equivocation_of-in-Equivocation.result
     (λ line task free. free.conflicts true e.k e.n e.first e.second (asked_equivocation {A = g.row.A.Denot} line e.k e.n e.first e.second (subst (IsTask line) e.is task)))
+
+pub reply_by_weight-requires : goal.reply_by_weight-requires
+reply_by_weight-requires g c =
+    let w = c.in-Weighted in
+    let (line, task) = c.requires in
+    (line, subst (IsTask line) w.is task)
+
+pub returns-in_ok-reply_by_weight-in-Weighted-clause-told : goal.returns-in_ok-reply_by_weight-in-Weighted-clause-told
+returns-in_ok-reply_by_weight-in-Weighted-clause-told g c =
+    λ line task. c.in_ok-reply_by_weight-in-Weighted.ensures.told line (subst (IsTask line) c.in-Weighted.is task)

@@ -1,0 +1,32 @@
+-- What the certificates say of the weights is what their encodings say.
+use Rattle.std.proofs.Common.{List, ℕ}
+use Rattle.std.specs.Prelude.{Err, Ok, Result}
+use Rattle.committee_certificates.specs.Certificates.{parts}
+use Rattle.judge_verdicts.specs.Conflicts.{AreWhole}
+use Rattle.judge_verdicts.specs.WeightedConflicts.{Weighed, weighed_of}
+use Rattle.judge_verdicts.specs.WeightedEquivocations.{IsWeightedEquivocation, IsWeightedEquivocationOf}
+use Rattle.judge_verdicts.specs.Weights.{AreListed}
+use Rattle.judge_verdicts.specs.declared.weighted_equivocation.NoWeightedEquivocation.{NoWeightedEquivocation}
+use Rattle.judge_verdicts.specs.declared.weighted_equivocation.NoWeightedEquivocation.TheVariants.{NoSlot, OtherSlot, SameDecision, Outside, TooLight, Unlisted, Unread}
+use Rattle.judge_verdicts.proofs.Results.{if_ok_so}
+use Rattle.judge_verdicts.proofs.weighted_equivocation.weighted_equivocation_of.Goals as goal
+
+module _ (k : ℕ) (list first second weights : List ℕ) (one other : List ℕ × List ℕ) (listed : AreListed list weights) (whole : AreWhole first second one other) where
+  read : (said : Result Weighed NoWeightedEquivocation) → IsWeightedEquivocationOf k weights one other said → IsWeightedEquivocation k list first second said
+  read (Ok named) h = (weights, listed, (one, other, whole, h))
+  read (Err NoSlot) h = (weights, listed, (one, other, whole, h))
+  read (Err OtherSlot) h = (weights, listed, (one, other, whole, h))
+  read (Err SameDecision) h = (weights, listed, (one, other, whole, h))
+  read (Err Outside) h = (weights, listed, (one, other, whole, h))
+  read (Err TooLight) h = (weights, listed, (one, other, whole, h))
+  read (Err (Unlisted why)) h = absurd h
+  read (Err (Unread what)) h = absurd h
+
+pub returns-in-Ok-2 : goal.returns-in-Ok-2
+returns-in-Ok-2 g c =
+    let listed = rw c.in-Ok.is at c.in_ok-weights.ensures.listed in
+    let whole = rw c.in-Ok-2.is at c.in_ok-one.ensures in
+    let p = parts c.in-Ok-2.one in
+    let q = parts c.in-Ok-2.other in
+    if_ok_so (λ named. IsWeightedEquivocationOf c.args.k c.in-Ok.weights p q (weighed_of named)) (λ named. IsWeightedEquivocation c.args.k c.args.list.now c.args.first.now c.args.second.now (weighed_of named)) c.by_slot.result
+    (λ named. read c.args.k c.args.list.now c.args.first.now c.args.second.now c.in-Ok.weights p q listed whole (weighed_of named)) c.by_slot.ensures
