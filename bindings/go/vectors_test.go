@@ -1,6 +1,7 @@
 package commonware_test
 
 import (
+	"encoding/binary"
 	"encoding/hex"
 	"encoding/json"
 	"errors"
@@ -36,10 +37,10 @@ func (b hexBytes) MarshalText() ([]byte, error) {
 
 // A question of the vectors: those of its parts that it has.
 type question struct {
-	Ask, Type, Model                                     string
-	Ranges                                               []string
-	Members                                              uint32
-	Bytes, Listed, Set, Item, Certificate, First, Second hexBytes
+	Ask, Type, Model                                              string
+	Ranges                                                        []string
+	Members                                                       uint32
+	Bytes, Listed, Set, Item, Weights, Certificate, First, Second hexBytes
 }
 
 // sizesOf returns how many bytes the items of the type have, or its keys and its values; 0 stands for any number.
@@ -106,6 +107,8 @@ func answerOf(err error, sameValue string) answer {
 	var left LeftOverError
 	var key RepeatedKeyError
 	var value RepeatedValueError
+	var zero ZeroWeightError
+	var overflow WeightOverflowError
 	switch {
 	case errors.As(err, &length):
 		return answer{"error": "InvalidLength", "length": length.Length}
@@ -115,12 +118,17 @@ func answerOf(err error, sameValue string) answer {
 		return answer{"error": "DuplicateKey"}
 	case errors.As(err, &value):
 		return invalid("BiMap", "duplicate value detected during deserialization")
+	case errors.As(err, &zero):
+		return answer{"error": "ZeroWeight", "participant": zero.Index}
+	case errors.As(err, &overflow):
+		return answer{"error": "WeightOverflow", "participant": overflow.Index}
 	case errors.Is(err, ErrNotStrict):
 		return invalid("Set", "items must be sorted and unique")
 	}
 	for known, name := range map[error]string{
 		ErrEndOfInput: "EndOfBuffer", ErrInvalidVarint: "InvalidVarint", ErrOutside: "Outside", ErrTooFew: "TooFew",
-		ErrSameValue: sameValue, ErrNoSlot: "NoSlot", ErrOtherSlot: "OtherSlot",
+		ErrSameValue: sameValue, ErrNoSlot: "NoSlot", ErrOtherSlot: "OtherSlot", ErrNoMembers: "NoWeights",
+		ErrTooLight: "TooLight",
 	} {
 		if errors.Is(err, known) {
 			return answer{"error": name}
@@ -175,7 +183,7 @@ func areAnswered(t *testing.T, name string, least int, ask func(asked question) 
 				continue
 			}
 			if err != nil {
-				got = answerOf(err, map[bool]string{true: "SameDecision", false: "EqualValues"}[name == "equivocation"])
+				got = answerOf(err, map[bool]string{true: "SameDecision", false: "EqualValues"}[strings.HasSuffix(name, "equivocation")])
 			}
 			if !isSame(got, it.Answer) {
 				t.Errorf("%v, and not %s: test %d", got, it.Answer, it.ID)
@@ -311,4 +319,56 @@ func TestVectorsOfFaults(t *testing.T) {
 		smaller, _ := model.SmallerQuorum(asked.Members)
 		return answer{"faults": faults, "quorum": quorum, "mQuorum": smaller}, nil
 	})
+}
+
+// weightsOf returns the weights that the bytes of a question list, or errSkipped where they list none.
+func (q question) weightsOf() ([]uint64, error) {
+	count, rest, err := plainVarint(q.Weights)
+	if err != nil || len(rest) != 8*count {
+		return nil, errSkipped
+	}
+	weights := make([]uint64, count)
+	for index := range weights {
+		weights[index] = binary.BigEndian.Uint64(rest[8*index:])
+	}
+	return weights, nil
+}
+
+func TestVectorsOfWeights(t *testing.T) {
+	text := func(weight uint64) string { return strconv.FormatUint(weight, 10) }
+	areAnswered(t, "weights", 80, func(asked question) (answer, error) {
+		weights, err := asked.weightsOf()
+		if err != nil {
+			return nil, err
+		}
+		numbers, err := modelOf(asked.Model).OfWeights(weights)
+		return answer{
+			"totalWeight": text(numbers.Total), "toleratedWeight": text(numbers.MaxFaultyWeight),
+			"quorumWeight": text(numbers.QuorumWeight), "mQuorumWeight": text(numbers.SmallerQuorumWeight),
+		}, err
+	})
+	areAnswered(t, "weighted_quorum", 80, func(asked question) (answer, error) {
+		weights, err := asked.weightsOf()
+		if err != nil {
+			return nil, err
+		}
+		checked, err := WeightedCheck(modelOf(asked.Model), weights, asked.Certificate)
+		said := answer{"signers": checked.Signers, "weight": text(checked.Weight), "slot": nil, "decision": nil}
+		if checked.HasSlot {
+			said["slot"], said["decision"] = hexBytes(checked.Slot), hexBytes(checked.Decision)
+		}
+		return said, err
+	})
+	for name, call := range map[string]func(FaultModel, []uint64, []byte, []byte) (Named, error){
+		"weighted_conflict": WeightedConflict, "weighted_equivocation": WeightedEquivocation,
+	} {
+		areAnswered(t, name, 60, func(asked question) (answer, error) {
+			weights, err := asked.weightsOf()
+			if err != nil {
+				return nil, err
+			}
+			both, err := call(modelOf(asked.Model), weights, asked.First, asked.Second)
+			return answer{"both": hexBytes(certificateBytes(nil, both.Members)[1:]), "weight": text(both.Weight)}, err
+		})
+	}
 }

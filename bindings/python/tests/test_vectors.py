@@ -11,12 +11,16 @@ from commonware import (
     Certificate,
     MapView,
     SetView,
+    Weights,
     check,
     conflict,
     equivocation,
     max_faults,
     quorum,
     smaller_quorum,
+    weighted_check,
+    weighted_conflict,
+    weighted_equivocation,
 )
 
 VECTORS = pathlib.Path(__file__).resolve().parents[3] / "vectors"
@@ -28,7 +32,10 @@ ERRORS = {
     "RepeatedValue": ("Invalid", "BiMap"),
     "RepeatedKey": "DuplicateKey",
     "SameValue": "EqualValues",
+    "NoMembers": "NoWeights",
 }
+# The parts of the answer that have the number of an error.
+NUMBERS = {"InvalidLength": "length", "LeftOver": "left", "ZeroWeight": "participant", "WeightOverflow": "participant"}
 # How many bytes an item of each type of a fixed length has.
 SIZES = {"u8": 1, "u32": 4, "u64": 8, "member": 32, "bytes20": 20, "bytes33": 33, "bytes48": 48, "bytes96": 96}
 
@@ -63,7 +70,18 @@ def answer(result, parts):
     name = ERRORS.get(name, name)
     if isinstance(name, tuple):
         return {"error": name[0], "collection": name[1]}
-    return {"error": name, **{"InvalidLength": {"length": number}, "LeftOver": {"left": number}}.get(name, {})}
+    return {"error": name, **({NUMBERS[name]: number} if name in NUMBERS else {})}
+
+
+def weights_of(question):
+    """Returns the weights that the bytes of a question list, or None where they list none."""
+    data = bytes.fromhex(question["weights"])
+    try:
+        count, at = plain.read_varint(data, 0)
+        items, at = plain.read_items(8, count, data, at)
+    except plain.Fault:
+        return None
+    return [int.from_bytes(it, "big") for it in items] if at == len(data) else None
 
 
 class Vectors(unittest.TestCase):
@@ -189,6 +207,53 @@ class Vectors(unittest.TestCase):
         ERRORS["SameValue"] = "SameDecision"
         self.addCleanup(ERRORS.update, SameValue="EqualValues")
         self.are_answered("equivocation", self.named(equivocation), self.members, 20)
+
+    def weighed(self, call):
+        """Returns a call for a question that has a list of weights: it gets k, the weights, and the question."""
+
+        def weigh(question):
+            weights = weights_of(question)
+            return NotImplemented if weights is None else call(k_of(question["model"]), weights, question)
+
+        return weigh
+
+    def test_weights(self):
+        def numbers(k, weights, _):
+            it = Weights(weights)
+            return [it.total, it.max_faulty_weight(k), it.quorum_weight(k), it.smaller_quorum_weight(k)]
+
+        names = "totalWeight", "toleratedWeight", "quorumWeight", "mQuorumWeight"
+        self.are_answered("weights", self.weighed(numbers), lambda it: dict(zip(names, map(str, it))), 80)
+
+    def test_weighted_quorums(self):
+        def checked(k, weights, question):
+            return list(weighted_check(k, weights, bytes.fromhex(question["certificate"])))
+
+        def parts(it):
+            slot, decision = (None if part is None else part.hex() for part in it[1:3])
+            said = {"signers": it[3], "weight": str(it[4]), "slot": slot}
+            return {**said, "decision": None if slot is None else decision}
+
+        self.are_answered("weighted_quorum", self.weighed(checked), parts, 80)
+
+    def named_by_weight(self, call):
+        def name(k, weights, question):
+            return list(call(k, weights, *(bytes.fromhex(question[it]) for it in ("first", "second"))))
+
+        return self.weighed(name)
+
+    def heavy_members(self, named):
+        return {**self.members(named[0]), "weight": str(named[1])}
+
+    def test_weighted_conflicts(self):
+        call = self.named_by_weight(weighted_conflict)
+        self.are_answered("weighted_conflict", call, self.heavy_members, 60)
+
+    def test_weighted_equivocations(self):
+        ERRORS["SameValue"] = "SameDecision"
+        self.addCleanup(ERRORS.update, SameValue="EqualValues")
+        call = self.named_by_weight(weighted_equivocation)
+        self.are_answered("weighted_equivocation", call, self.heavy_members, 60)
 
 
 if __name__ == "__main__":

@@ -1,8 +1,10 @@
-//! The vectors of certificates, and of sets, maps and bimaps of items of one size, as the stored
-//! run of the judge has them: their results were worked out by hand.
+//! The vectors of certificates, of weights, and of sets, maps and bimaps of items of one size, as
+//! the stored run of the judge has them: their results were worked out by hand.
 
 use commonware_proved::{
-    BiMapError, BiMapView, Certificate, CertificateLimits, MapView, Refusal, SetView,
+    BiMapError, BiMapView, Certificate, CertificateLimits, FaultModel, MapView, Named, Refusal,
+    SetView, WeightedCheckError, WeightedConflictError, WeightedEquivocationError, Weights,
+    WeightsError, weighted_check_encoded, weighted_conflict_encoded, weighted_equivocation_encoded,
 };
 use std::fs;
 use std::path::{Path, PathBuf};
@@ -54,6 +56,7 @@ fn answer(result: Result<(usize, &[u8]), Refusal>) -> String {
         Err(Refusal::InvalidVarint) => "InvalidVarint".to_string(),
         Err(Refusal::InvalidLength(length)) => format!("InvalidLength {length}"),
         Err(Refusal::NotStrict) => "Invalid Set: items must be sorted and unique".to_string(),
+        Err(Refusal::LeftOver(count)) => format!("LeftOver {count}"),
         Err(other) => other.to_string(),
     }
 }
@@ -153,4 +156,165 @@ fn certificates_are_decoded_as_the_vectors_say() {
         }
     }
     assert!(tried > 20, "{tried}");
+}
+
+/// Returns the words for bytes: their digits, or a dash for none.
+fn digits(bytes: &[u8]) -> String {
+    let digits: String = bytes.iter().map(|byte| format!("{byte:02x}")).collect();
+    if digits.is_empty() {
+        "-".to_string()
+    } else {
+        digits
+    }
+}
+
+fn model(word: &str) -> FaultModel {
+    let k = match word {
+        "n3f1" => 3,
+        "n5f1" => 5,
+        word => word["k=".len()..].parse().expect("a number"),
+    };
+    FaultModel::new(k).expect("a k of 2 or more")
+}
+
+/// Returns the number that the bytes begin with as a varint, in the fewest bytes, and what follows.
+fn varint(bytes: &[u8]) -> Option<(usize, &[u8])> {
+    let last = bytes.iter().position(|byte| *byte < 128)?;
+    if last > 4 || last > 0 && bytes[last] == 0 {
+        return None;
+    }
+    let number = bytes[..=last]
+        .iter()
+        .rev()
+        .fold(0, |number, byte| number << 7 | usize::from(byte & 127));
+    Some((number, &bytes[last + 1..]))
+}
+
+/// Returns the weights that some bytes list, or `None` where they list none.
+fn weights(input: &[u8]) -> Option<Vec<u64>> {
+    let (count, rest) = varint(input)?;
+    let items = rest.chunks(8).map(|item| item.try_into().ok());
+    let items: Vec<u64> = items
+        .map(|item| item.map(u64::from_be_bytes))
+        .collect::<Option<_>>()?;
+    (items.len() == count).then_some(items)
+}
+
+fn weights_error(error: WeightsError) -> String {
+    match error {
+        WeightsError::Empty => "NoWeights".to_string(),
+        WeightsError::Zero(index) => format!("ZeroWeight {index}"),
+        WeightsError::Overflow(index) => format!("WeightOverflow {index}"),
+        other => other.to_string(),
+    }
+}
+
+/// Compares the answers to the questions of a verb with weights, of which so many list weights.
+fn are_weighed(
+    verb: &str,
+    least: usize,
+    ask: impl Fn(FaultModel, &Weights<'_>, &[Vec<u8>]) -> String,
+) {
+    let mut tried = 0;
+    for (words, expected) in asked(verb) {
+        let inputs: Vec<Vec<u8>> = words[1..].iter().map(|it| bytes(it)).collect();
+        let Some(listed) = weights(&inputs[0]) else {
+            continue;
+        };
+        let answer = match Weights::new(&listed) {
+            Ok(weights) => ask(model(&words[0]), &weights, &inputs[1..]),
+            Err(error) => weights_error(error),
+        };
+        assert_eq!(answer, expected, "{verb} {words:?}");
+        tried += 1;
+    }
+    assert!(tried > least, "{verb}: {tried}");
+}
+
+fn members(named: &Named) -> String {
+    let mut bytes = Vec::new();
+    let numbers = named.members.iter().copied();
+    for number in std::iter::once(u32::try_from(named.members.len()).expect("few")).chain(numbers) {
+        let mut left = number;
+        while left > 127 {
+            bytes.push(u8::try_from(left & 127).expect("seven bits") | 128);
+            left >>= 7;
+        }
+        bytes.push(u8::try_from(left).expect("seven bits"));
+    }
+    format!("members {} weight {}", digits(&bytes), named.weight)
+}
+
+fn refused(refusal: Refusal) -> String {
+    answer(Err(refusal))
+}
+
+#[test]
+fn weights_come_to_what_the_vectors_say() {
+    are_weighed("weights", 80, |model, weights, _| {
+        let (total, tolerated) = (weights.total(), weights.max_faulty_weight(model));
+        let (quorum, smaller) = (
+            weights.quorum_weight(model),
+            weights.smaller_quorum_weight(model),
+        );
+        format!("total {total} tolerated {tolerated} quorum {quorum} m-quorum {smaller}")
+    });
+}
+
+#[test]
+fn certificates_weigh_what_the_vectors_say() {
+    are_weighed(
+        "weighted-quorum",
+        80,
+        |model, weights, inputs| match weighted_check_encoded(model, weights, &inputs[0]) {
+            Ok(checked) => {
+                let parts = match (checked.slot(), checked.decision()) {
+                    (Some(slot), Some(decision)) => {
+                        format!("slot {} decision {}", digits(slot), digits(decision))
+                    }
+                    _ => "no slot".to_string(),
+                };
+                let (signers, weight) = (checked.signer_count(), checked.weight());
+                format!("quorum {signers} weight {weight} {parts}")
+            }
+            Err(WeightedCheckError::Input(refusal)) => refused(refusal),
+            Err(WeightedCheckError::Outside) => "Outside".to_string(),
+            Err(WeightedCheckError::TooLight) => "TooLight".to_string(),
+            Err(other) => other.to_string(),
+        },
+    );
+}
+
+#[test]
+fn conflicts_by_weight_are_what_the_vectors_say() {
+    are_weighed(
+        "weighted-conflict",
+        60,
+        |model, weights, inputs| match weighted_conflict_encoded(
+            model, weights, &inputs[0], &inputs[1],
+        ) {
+            Ok(named) => members(&named),
+            Err(WeightedConflictError::Input(_, refusal)) => refused(refusal),
+            Err(WeightedConflictError::SameValue) => "EqualValues".to_string(),
+            Err(WeightedConflictError::Outside(_)) => "Outside".to_string(),
+            Err(WeightedConflictError::TooLight(_)) => "TooLight".to_string(),
+            Err(other) => other.to_string(),
+        },
+    );
+}
+
+#[test]
+fn equivocations_by_weight_are_what_the_vectors_say() {
+    are_weighed("weighted-equivocation", 60, |model, weights, inputs| {
+        match weighted_equivocation_encoded(model, weights, &inputs[0], &inputs[1]) {
+            Ok(named) => members(&named),
+            Err(WeightedEquivocationError::Input(_, refusal)) => refused(refusal),
+            Err(WeightedEquivocationError::NoSlot(_)) => "NoSlot".to_string(),
+            Err(WeightedEquivocationError::OtherSlot) => "OtherSlot".to_string(),
+            Err(WeightedEquivocationError::SameDecision) => "SameDecision".to_string(),
+            Err(WeightedEquivocationError::Outside(_)) => "Outside".to_string(),
+            Err(WeightedEquivocationError::TooLight(_)) => "TooLight".to_string(),
+            Err(other) => other.to_string(),
+        }
+    });
 }
