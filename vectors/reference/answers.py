@@ -119,7 +119,7 @@ def answer_equivocation(words, verb):
 
 
 def read_weighted(words, count):
-    """Returns the model, the weights, and so many certificates."""
+    """Returns the model, the weights, and `count` certificates."""
     resilience = read_model(next(words, ""))
     listed, *inputs = [read_bytes(next(words, "")) for _ in range(1 + count)]
     finish(words, "bytes")

@@ -54,7 +54,7 @@ def long(dice):
 
 
 def fixed(size):
-    """Returns a maker of so many bytes: mostly near others, so that a byte or two decide."""
+    """Returns a maker of bytes of one size: mostly near others, so that a byte or two decide."""
     places = [it for it in range(size) if it % 8 in (0, 7)] + [size - 1]
 
     def make(dice):

@@ -100,7 +100,7 @@ class Long(Number):
 
 
 class Fixed(Number):
-    """So many bytes as they are: a `member` has 32."""
+    """Bytes of one size, as they are: a `member` has 32."""
 
     def __init__(self, size):
         self.size = size

@@ -72,7 +72,7 @@ fn asked(kind: &str) -> Vec<(Vec<String>, String)> {
 }
 
 /// Compares the answers to the questions about a type with one range, of which there are more than
-/// so many.
+/// `least`.
 fn are_answered(kind: &str, least: usize, ask: impl Fn(&[u8], usize, usize) -> String) {
     let asked = asked(kind);
     for (words, expected) in &asked {
@@ -88,17 +88,8 @@ fn are_answered(kind: &str, least: usize, ask: impl Fn(&[u8], usize, usize) -> S
 
 #[test]
 fn sets_are_decoded_as_the_vectors_say() {
-    let kinds = [
-        ("set<u8>", 1, 60),
-        ("set<u32>", 4, 60),
-        ("set<member>", 32, 80),
-        ("set<bytes20>", 20, 80),
-        ("set<bytes33>", 33, 80),
-        ("set<bytes48>", 48, 80),
-        ("set<bytes96>", 96, 100),
-    ];
-    for (kind, size, least) in kinds {
-        are_answered(kind, least, |input, from, to| {
+    for (kind, size) in [("set<u8>", 1), ("set<u32>", 4)] {
+        are_answered(kind, 60, |input, from, to| {
             let result = SetView::read(size, input, from..=to);
             answer(result.map(|(set, rest)| (set.len(), rest)))
         });
@@ -107,32 +98,23 @@ fn sets_are_decoded_as_the_vectors_say() {
 
 #[test]
 fn maps_are_decoded_as_the_vectors_say() {
-    let kinds = [
-        ("map<u8,u8>", 1, 1),
-        ("map<member,u8>", 32, 1),
-        ("map<member,u64>", 32, 8),
-    ];
-    for (kind, key_size, value_size) in kinds {
-        are_answered(kind, 60, |input, from, to| {
-            let result = MapView::read(key_size, value_size, input, from..=to);
-            answer(result.map(|(map, rest)| (map.len(), rest)))
-        });
-    }
+    are_answered("map<u8,u8>", 60, |input, from, to| {
+        let result = MapView::read(1, 1, input, from..=to);
+        answer(result.map(|(map, rest)| (map.len(), rest)))
+    });
 }
 
 #[test]
 fn bimaps_are_decoded_as_the_vectors_say() {
-    for (kind, size) in [("bimap<u8,u8>", 1), ("bimap<member,member>", 32)] {
-        are_answered(kind, 60, |input, from, to| {
-            match BiMapView::read(size, size, input, from..=to) {
-                Ok((bimap, rest)) => answer(Ok((bimap.len(), rest))),
-                Err(BiMapError::Refused(refusal)) => answer(Err(refusal)),
-                Err(_) => {
-                    "Invalid BiMap: duplicate value detected during deserialization".to_string()
-                }
-            }
-        });
-    }
+    are_answered(
+        "bimap<u8,u8>",
+        60,
+        |input, from, to| match BiMapView::read(1, 1, input, from..=to) {
+            Ok((bimap, rest)) => answer(Ok((bimap.len(), rest))),
+            Err(BiMapError::Refused(refusal)) => answer(Err(refusal)),
+            Err(_) => "Invalid BiMap: duplicate value detected during deserialization".to_string(),
+        },
+    );
 }
 
 #[test]
@@ -209,7 +191,8 @@ fn weights_error(error: WeightsError) -> String {
     }
 }
 
-/// Compares the answers to the questions of a verb with weights, of which so many list weights.
+/// Compares the answers to the questions of a verb with weights, of which more than `least` list
+/// weights.
 fn are_weighed(
     verb: &str,
     least: usize,

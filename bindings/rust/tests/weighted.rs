@@ -472,7 +472,7 @@ fn late() -> Vec<u64> {
     items
 }
 
-/// Returns a certificate that so many of the first members and a range of the others signed.
+/// Returns a certificate that the members of a first range and of another one signed.
 fn signed(decision: &[u8], first: std::ops::Range<u32>, others: std::ops::Range<u32>) -> Vec<u8> {
     let value = slot_value(b"view 7", decision).expect("memory");
     let signers: Vec<u32> = first.chain(others).collect();
