@@ -60,7 +60,7 @@ def word(name, value):
 
 def type_of(line):
     """Returns the word of a question that is a type, where it has one; else another word."""
-    words = line.split(" ")
+    words = line.removesuffix("\r").split(" ")
     return words[1] if WORDS.get(words[0], [])[:1] == ["type"] and len(words) > 1 else words[0]
 
 
