@@ -4,7 +4,7 @@ mod codec;
 mod compare;
 mod display;
 
-pub use codec::certificate_fault_law;
+pub use codec::{certificate_fault_law, read_certificate_counted};
 use commonware_base::Participant;
 use commonware_ordered::Set;
 use std::alloc::Allocator;

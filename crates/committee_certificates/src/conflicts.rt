@@ -10,7 +10,7 @@ ghost use Rattle.commonware_ordered.specs.Strict.{IsStrict};
 use crate::certificate::Certificate;
 use commonware_base::Participant;
 use commonware_faults::Faults;
-use commonware_ordered::{Quorum, Set};
+use commonware_ordered::{Counter, Quorum, Set, Uncounted};
 use std::alloc::{AllocError, Allocator};
 
 /// Why two certificates name no one.
@@ -125,11 +125,47 @@ pub fn conflict_among<A: Allocator>(
     ensures leaves { 3 * faults + 1 ≤ members
         → IfOk result (LeavesOneOutside members faults) }
 {
+    conflict_among_counted(alloc, members, faults, first, second, &mut Uncounted)
+}
+
+/// Returns what `conflict_among` does, and counts how often it compares a signer of one certificate
+/// with one of the other: at most as often as there are signers in both, where those that signed
+/// both are counted once.
+pub fn conflict_among_counted<A: Allocator, C: Counter>(
+    alloc: A,
+    members: usize,
+    faults: u32,
+    first: &Certificate<A>,
+    second: &Certificate<A>,
+    count: &mut C,
+) -> Result<Set<Participant, A>, ConflictError>
+    requires differ { first.now.value.items ≢ second.now.value.items }
+    requires at_most { faults ≤ members }
+    ensures outside { IsErrOf result Outside
+        ↔ (HasOutsider members first.now.signers ⊎ HasOutsider members second.now.signers) }
+    ensures too_few { IsErrOf result TooFew
+        ↔ (AreMembers members first.now.signers × AreMembers members second.now.signers
+        × (AreTooFew (λ _. faults) members first.now.signers
+        ⊎ AreTooFew (λ _. faults) members second.now.signers)) }
+    ensures memory { IsErrOf result Memory → (AreQuorum (λ _. faults) members first.now.signers
+        × AreQuorum (λ _. faults) members second.now.signers) }
+    ensures quorums { OnOk result
+        (AreQuorum (λ _. faults) members first.now.signers
+        × AreQuorum (λ _. faults) members second.now.signers) }
+    ensures both { IfOk result (AreInBoth first.now.signers second.now.signers) }
+    ensures shared { IfOk result (λ both. members ≤ 2 * faults + length both) }
+    ensures leaves { 3 * faults + 1 ≤ members
+        → IfOk result (LeavesOneOutside members faults) }
+    ensures cost { C.counted count.new
+        ≤ C.counted count.old + length first.now.signers + length second.now.signers }
+    ensures once { IfOk result (λ both. C.counted count.new + length both
+        ≤ C.counted count.old + length first.now.signers + length second.now.signers) }
+{
     let first_signers = first.signers.as_slice();
     let second_signers = second.signers.as_slice();
     let quorum = members - faults as usize;
     check_signers(members, quorum, first_signers, second_signers)?;
-    let both = in_both(alloc, first_signers, second_signers)?;
+    let both = in_both(alloc, first_signers, second_signers, count)?;
     Ok(Set::from_strict(both))
 }
 
@@ -175,20 +211,26 @@ pub(crate) fn has_outsider(members: usize, signers: &[Participant]) -> bool
 }
 
 /// Returns the participants in both of two strictly increasing lists. Both are walked once, side by
-/// side.
-fn in_both<A: Allocator>(
+/// side: each comparison walks past one participant of a list, or past one of both.
+fn in_both<A: Allocator, C: Counter>(
     alloc: A,
     first: &[Participant],
     second: &[Participant],
+    count: &mut C,
 ) -> Result<Vec<Participant, A>, AllocError>
     requires first_strict { IsStrict ⟦<Participant as Ord>⟧.cmp first.now }
     requires second_strict { IsStrict ⟦<Participant as Ord>⟧.cmp second.now }
-    ensures { IfOk result (λ both. AreInBoth first.now second.now both.items) }
+    ensures both { IfOk result (λ both. AreInBoth first.now second.now both.items) }
+    ensures cost { C.counted count.new
+        ≤ C.counted count.old + length first.now + length second.now }
+    ensures once { IfOk result (λ both. C.counted count.new + length both.items
+        ≤ C.counted count.old + length first.now + length second.now) }
 {
     let mut both = Vec::with_capacity(alloc, first.len().min(second.len()))?;
     let mut i = 0;
     let mut j = 0;
     while i < first.len() && j < second.len() {
+        count.tick();
         let x = first[i];
         let y = second[j];
         if x.get() < y.get() {

@@ -9,11 +9,11 @@ ghost use Rattle.commonware_faults.specs.Counts.{IsCommitteeSize};
 ghost use Rattle.commonware_faults.specs.Subsets.{Greatest, Greatest3, Greatest5};
 
 use crate::certificate::Certificate;
-use crate::conflicts::{ConflictError, conflict_among};
+use crate::conflicts::{ConflictError, conflict_among_counted};
 use crate::slots::slot_of;
 use commonware_base::Participant;
 use commonware_faults::Faults;
-use commonware_ordered::{Quorum, Set};
+use commonware_ordered::{Counter, Quorum, Set, Uncounted};
 use std::alloc::Allocator;
 
 /// Why two certificates prove no equivocation. They are tried in this order.
@@ -146,8 +146,59 @@ pub fn equivocation_among<A: Allocator>(
         → EachSigned (InLog log) second.now.signers second.now.value.items
         → IfOk result (EachHasEquivocated (InLog log)) }
 {
+    equivocation_among_counted(alloc, members, faults, first, second, &mut Uncounted)
+}
+
+/// Returns what `equivocation_among` does, and counts how often it compares a signer of one
+/// certificate with one of the other: at most as often as there are signers in both, where those
+/// that signed both are counted once.
+pub fn equivocation_among_counted<A: Allocator, C: Counter>(
+    alloc: A,
+    members: usize,
+    faults: u32,
+    first: &Certificate<A>,
+    second: &Certificate<A>,
+    count: &mut C,
+) -> Result<Set<Participant, A>, EquivocationError>
+    requires at_most { faults ≤ members }
+    ensures no_slot { IsErrOf result NoSlot
+        ↔ ((¬ HasSlot first.now.value.items) ⊎ (¬ HasSlot second.now.value.items)) }
+    ensures other_slot { IsErrOf result OtherSlot
+        ↔ AreOfOtherSlots first.now.value.items second.now.value.items }
+    ensures same_decision { IsErrOf result SameDecision
+        ↔ AreOneDecision first.now.value.items second.now.value.items }
+    ensures outside { IsErrOf result Outside
+        ↔ (Contradict first.now.value.items second.now.value.items
+        × (HasOutsider members first.now.signers ⊎ HasOutsider members second.now.signers)) }
+    ensures too_few { IsErrOf result TooFew
+        ↔ (Contradict first.now.value.items second.now.value.items
+        × AreMembers members first.now.signers × AreMembers members second.now.signers
+        × (AreTooFew (λ _. faults) members first.now.signers
+        ⊎ AreTooFew (λ _. faults) members second.now.signers)) }
+    ensures memory { IsErrOf result Memory
+        → (Contradict first.now.value.items second.now.value.items
+        × AreQuorum (λ _. faults) members first.now.signers
+        × AreQuorum (λ _. faults) members second.now.signers) }
+    ensures contradict { OnOk result
+        (Contradict first.now.value.items second.now.value.items) }
+    ensures quorums { OnOk result
+        (AreQuorum (λ _. faults) members first.now.signers
+        × AreQuorum (λ _. faults) members second.now.signers) }
+    ensures both { IfOk result (AreInBoth first.now.signers second.now.signers) }
+    ensures shared { IfOk result (λ both. members ≤ 2 * faults + length both) }
+    ensures leaves { 3 * faults + 1 ≤ members
+        → IfOk result (LeavesOneOutside members faults) }
+    ensures guilty { (log : ℕ → List ℕ → Bool)
+        → EachSigned (InLog log) first.now.signers first.now.value.items
+        → EachSigned (InLog log) second.now.signers second.now.value.items
+        → IfOk result (EachHasEquivocated (InLog log)) }
+    ensures cost { C.counted count.new
+        ≤ C.counted count.old + length first.now.signers + length second.now.signers }
+    ensures once { IfOk result (λ both. C.counted count.new + length both
+        ≤ C.counted count.old + length first.now.signers + length second.now.signers) }
+{
     check_values(&first.value, &second.value)?;
-    match conflict_among(alloc, members, faults, first, second) {
+    match conflict_among_counted(alloc, members, faults, first, second, count) {
         Ok(both) => Ok(both),
         Err(ConflictError::Outside) => Err(EquivocationError::Outside),
         Err(ConflictError::TooFew) => Err(EquivocationError::TooFew),

@@ -14,11 +14,13 @@ mod voters;
 mod walk;
 
 pub use accountability::{Signing, accountability_law, accountability_of};
-pub use certificate::{Certificate, certificate_fault_law};
-pub use conflicts::{ConflictError, conflict, conflict_among};
-pub use equivocations::{EquivocationError, equivocation, equivocation_among};
+pub use certificate::{Certificate, certificate_fault_law, read_certificate_counted};
+pub use conflicts::{ConflictError, conflict, conflict_among, conflict_among_counted};
+pub use equivocations::{
+    EquivocationError, equivocation, equivocation_among, equivocation_among_counted,
+};
 pub use in_place::{CertificateAt, SignersAt, find_certificate, find_signers};
 pub use quorums::{QuorumError, check_quorum, check_quorum_among};
 pub use slots::slot_of;
 pub use voters::first_new;
-pub use walk::write_both;
+pub use walk::{write_both, write_both_counted};

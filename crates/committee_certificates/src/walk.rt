@@ -1,11 +1,12 @@
 //! Signers walked in place, index by index.
-ghost use Rattle.std.specs.Prelude.{◌≡◌, ◌<◌, ◌≤◌, ◌^◌, ◌++◌, ℕ, List, SomeIff, [], ◌∷◌, length};
+ghost use Rattle.std.specs.Prelude.{◌≡◌, ◌<◌, ◌≤◌, ◌^◌, ◌+◌, ◌++◌, ℕ, List, SomeIff, [], ◌∷◌, length};
 ghost use Rattle.committee_certificates.specs.Cursors.{GoesOnWith, IsAt};
 ghost use Rattle.committee_certificates.specs.InPlace.{AreSignersAt, AreWrittenBoth, sum_at, written};
 ghost use Rattle.committee_certificates.specs.Signers.{AreMembers};
 
 use crate::in_place::SignersAt;
 use commonware_base::codec::{Source, read_varint};
+use commonware_ordered::{Counter, Uncounted};
 
 /// A place among signers.
 #[derive(Clone, Copy)]
@@ -59,22 +60,40 @@ pub fn write_both(first: &SignersAt<'_>, second: &SignersAt<'_>, out: &mut [u32]
     ensures { (one two : List ℕ) → AreSignersAt first.now one → AreSignersAt second.now two
         → AreWrittenBoth one two result out.old out.new }
 {
+    write_both_counted(first, second, out, &mut Uncounted)
+}
+
+/// Returns and writes what `write_both` does, and counts how often it compares an index with one of
+/// the other signers: at most as often as there are signers, where those among both are counted
+/// once.
+pub fn write_both_counted<C: Counter>(
+    first: &SignersAt<'_>,
+    second: &SignersAt<'_>,
+    out: &mut [u32],
+    count: &mut C,
+) -> usize
+    ensures both { (one two : List ℕ) → AreSignersAt first.now one → AreSignersAt second.now two
+        → AreWrittenBoth one two result out.old out.new }
+    ensures cost { (one two : List ℕ) → AreSignersAt first.now one → AreSignersAt second.now two
+        → C.counted count.new + result ≤ C.counted count.old + length one + length two }
+{
     let mut one = first_place(first);
     let mut two = first_place(second);
-    let mut count = 0;
+    let mut found = 0;
     while one.left > 0 && two.left > 0 {
+        count.tick();
         if one.index < two.index {
             one = next_place(&one);
         } else if two.index < one.index {
             two = next_place(&two);
         } else {
-            put_at(one.index, count, out);
-            count += 1;
+            put_at(one.index, found, out);
+            found += 1;
             one = next_place(&one);
             two = next_place(&two);
         }
     }
-    count
+    found
 }
 
 /// Returns the place of the first signer.

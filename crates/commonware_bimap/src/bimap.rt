@@ -6,6 +6,7 @@ ghost use Rattle.std.specs.Map.Iter.{ShowsInOrder, ShowsInReverse, deref_pair};
 ghost use Rattle.std.specs.Option.{option_copied};
 ghost use Rattle.std.specs.Slice.{IsItemAt};
 ghost use Rattle.std.specs.Slice.Iter.{iter_rest};
+ghost use Rattle.commonware_ordered.specs.Costs.{IsLookUpCost};
 ghost use Rattle.commonware_ordered.specs.Strict.{HasEqualAt, IsPlaceOf, IsStrict};
 ghost use Rattle.commonware_ordered.specs.Whole.{HasEqualItems, MatchError};
 ghost use Rattle.commonware_bimap.specs.Swapped.{swapped};
@@ -21,7 +22,7 @@ mod refs;
 pub use codec::bimap_fault_law;
 use commonware_columns::has_equal_values;
 use commonware_map::{Map, Pairs};
-use commonware_ordered::{Error, Set};
+use commonware_ordered::{Counter, Error, Set, Uncounted};
 use std::alloc::{AllocError, Allocator};
 use std::hash::Hash;
 use std::marker::Model;
@@ -146,12 +147,22 @@ impl<K: Ord, V: Eq + Hash, A: Allocator> BiMap<K, V, A> {
     }
 
     /// Returns the position of the key that equals the given one, or `None` where none does. It
-    /// takes O(log n) comparisons.
+    /// makes as many comparisons as `position_counted`.
     pub fn position(&self, key: &K) -> Option<usize>
         ensures place { IsPlaceOf K.eq (keys_of self.now) key.now result }
         ensures only { (p : ℕ) → (result ≡ Some p) ↔ HasEqualAt K.eq (keys_of self.now) key.now p }
     {
-        self.map.position(key)
+        self.position_counted(key, &mut Uncounted)
+    }
+
+    /// Returns what `position` does, and counts its comparisons of keys: of n pairs, where n has k
+    /// binary digits, at most 1 + 3k/2.
+    pub fn position_counted<C: Counter>(&self, key: &K, count: &mut C) -> Option<usize>
+        ensures place { IsPlaceOf K.eq (keys_of self.now) key.now result }
+        ensures only { (p : ℕ) → (result ≡ Some p) ↔ HasEqualAt K.eq (keys_of self.now) key.now p }
+        ensures cost { IsLookUpCost (length self.now) (C.counted count.old) (C.counted count.new) }
+    {
+        self.map.position_counted(key, count)
     }
 
     /// Returns the value at a position, or `None` past the last.
@@ -161,12 +172,21 @@ impl<K: Ord, V: Eq + Hash, A: Allocator> BiMap<K, V, A> {
         self.map.value(index)
     }
 
-    /// Returns the value of the key that equals the given one, or `None` where none does. It takes
-    /// O(log n) comparisons.
+    /// Returns the value of the key that equals the given one, or `None` where none does. It makes
+    /// as many comparisons as `get_value_counted`.
     pub fn get_value(&self, key: &K) -> Option<&V>
         ensures { option_copied result ≡ lookup (λ k. K.eq k key.now) self.now }
     {
-        self.map.get_value(key)
+        self.get_value_counted(key, &mut Uncounted)
+    }
+
+    /// Returns what `get_value` does, and counts its comparisons of keys: of n pairs, where n has k
+    /// binary digits, at most 1 + 3k/2.
+    pub fn get_value_counted<C: Counter>(&self, key: &K, count: &mut C) -> Option<&V>
+        ensures value { option_copied result ≡ lookup (λ k. K.eq k key.now) self.now }
+        ensures cost { IsLookUpCost (length self.now) (C.counted count.old) (C.counted count.new) }
+    {
+        self.map.get_value_counted(key, count)
     }
 
     /// Returns the key whose value equals the given one, or `None` where none does. It equals a key

@@ -6,5 +6,5 @@ mod map;
 mod map_error;
 
 pub use iterators::{MapIntoIter, Pairs, PairsMut};
-pub use map::{Map, map_fault_law};
+pub use map::{Map, map_fault_law, read_map_counted};
 pub use map_error::MapError;

@@ -5,6 +5,7 @@ ghost use Rattle.std.specs.Map.{keys_of, lookup, values_of};
 ghost use Rattle.std.specs.Option.{option_copied};
 ghost use Rattle.std.specs.Slice.{IsItemAt};
 ghost use Rattle.std.specs.Slice.Iter.{iter_rest};
+ghost use Rattle.commonware_ordered.specs.Costs.{IsLookUpCost};
 ghost use Rattle.commonware_ordered.specs.Strict.{HasEqualAt, IsPlaceOf, IsStrict};
 
 mod borrows;
@@ -18,8 +19,8 @@ mod pairs_mut;
 mod refs;
 mod value_maps;
 
-pub use codec::map_fault_law;
-use commonware_ordered::Set;
+pub use codec::{map_fault_law, read_map_counted};
+use commonware_ordered::{Counter, Set, Uncounted};
 use std::alloc::{AllocError, Allocator};
 use std::marker::Model;
 use std::slice;
@@ -127,13 +128,24 @@ impl<K: Ord, V, A: Allocator> Map<K, V, A> {
     }
 
     /// Returns the position of the key that equals the given one, or `None` where none does. It
-    /// takes O(log n) comparisons.
+    /// makes as many comparisons as `position_counted`.
     #[inline]
     pub fn position(&self, key: &K) -> Option<usize>
         ensures place { IsPlaceOf K.eq (keys_of self.now) key.now result }
         ensures only { (p : ℕ) → (result ≡ Some p) ↔ HasEqualAt K.eq (keys_of self.now) key.now p }
     {
-        self.keys().position(key)
+        self.position_counted(key, &mut Uncounted)
+    }
+
+    /// Returns what `position` does, and counts its comparisons of keys: of n pairs, where n has k
+    /// binary digits, at most 1 + 3k/2.
+    #[inline]
+    pub fn position_counted<C: Counter>(&self, key: &K, count: &mut C) -> Option<usize>
+        ensures place { IsPlaceOf K.eq (keys_of self.now) key.now result }
+        ensures only { (p : ℕ) → (result ≡ Some p) ↔ HasEqualAt K.eq (keys_of self.now) key.now p }
+        ensures cost { IsLookUpCost (length self.now) (C.counted count.old) (C.counted count.new) }
+    {
+        self.keys().position_counted(key, count)
     }
 
     /// Returns the value at a position, or `None` past the last.
@@ -143,13 +155,23 @@ impl<K: Ord, V, A: Allocator> Map<K, V, A> {
         self.values().get(index)
     }
 
-    /// Returns the value of the key that equals the given one, or `None` where none does. It takes
-    /// O(log n) comparisons.
+    /// Returns the value of the key that equals the given one, or `None` where none does. It makes
+    /// as many comparisons as `get_value_counted`.
     #[inline]
     pub fn get_value(&self, key: &K) -> Option<&V>
         ensures { option_copied result ≡ lookup (λ k. K.eq k key.now) self.now }
     {
-        let index = self.position(key)?;
+        self.get_value_counted(key, &mut Uncounted)
+    }
+
+    /// Returns what `get_value` does, and counts its comparisons of keys: of n pairs, where n has k
+    /// binary digits, at most 1 + 3k/2.
+    #[inline]
+    pub fn get_value_counted<C: Counter>(&self, key: &K, count: &mut C) -> Option<&V>
+        ensures value { option_copied result ≡ lookup (λ k. K.eq k key.now) self.now }
+        ensures cost { IsLookUpCost (length self.now) (C.counted count.old) (C.counted count.new) }
+    {
+        let index = self.position_counted(key, count)?;
         Some(&self.values()[index])
     }
 }

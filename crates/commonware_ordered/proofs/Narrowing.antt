@@ -1,15 +1,28 @@
 -- The place in a strictly increasing list of the item that equals the one sought.
 use Rattle.std.proofs.Common.{◌≡◌, ℕ, ◌+◌, ◌-◌, ◌*◌, ◌<◌, ◌≤◌, Bool, true, false, List, length, get_or, refl, sym, ◌∙◌, ap, subst, arith, ⊎_elim}
+use mathlib.Core.Bool.{true≢false}
 use Rattle.std.specs.List.{HoldsAt}
 use Rattle.std.proofs.lemmas.List.{get_or_default}
 use Rattle.std.proofs.lemmas.Nat.{mul-le}
 use Rattle.std.specs.Cmp.{IsTotalOrder}
-use Rattle.std.specs.Ordering.{is_eq, is_ge, ordering_reverse}
+use Rattle.std.specs.Ordering.{is_eq, is_ge, is_gt, ordering_reverse}
 use Rattle.std.specs.declared.cmp.Ordering.{Ordering}
+use Rattle.std.specs.declared.cmp.Ordering.TheVariants.{Less, Equal, Greater}
 use Rattle.std.proofs.lemmas.Bool.{cases_lt}
 use Rattle.std.proofs.lemmas.Map.Keys.{Less-from_sorted}
 use Rattle.commonware_ordered.specs.Strict.{IsStrict}
 use Rattle.commonware_ordered.specs.laws.StrictLaws.{level, sorted_from_strict}
+
+-- the two orders of a comparison
+ge_from : (c : Ordering) → false ≡ is_gt (ordering_reverse c) → true ≡ is_ge c
+ge_from Less e = cc
+ge_from Equal e = refl
+ge_from Greater e = refl
+
+less_from : (c : Ordering) → true ≡ is_gt (ordering_reverse c) → false ≡ is_ge c
+less_from Less e = refl
+less_from Equal e = cc
+less_from Greater e = cc
 
 module _ {X : Type 0} {cmp : X → X → Ordering} (o : IsTotalOrder cmp) {eq : X → X → Bool} (ties : (x y : X) → eq x y ≡ is_eq (cmp x y)) where
   -- how x compares with the item at place i, where the item at place k equals x
@@ -24,6 +37,33 @@ module _ {X : Type 0} {cmp : X → X → Ordering} (o : IsTotalOrder cmp) {eq : 
             (cases_lt i k),
         λ high. ap is_ge (sym turned ∙ Less-from_sorted cmp xs k i d (sorted_from_strict o xs s) high here),
       )
+
+  -- where x is at least the item at place i, the place of an item that equals x isn't before i
+  pub place_from : (xs : List X) (x : X) (i k : ℕ) (d : X) → IsStrict cmp xs → i < length xs → k < length xs → HoldsAt (λ y. eq y x ≡ true) xs k
+      → true ≡ is_ge (cmp x (get_or xs i d)) → i ≤ k
+  place_from xs x i k d s here there h e = ⊎_elim
+      (λ high. absurd (true≢false (e ∙ (at_least_from_place xs x i k d s here there h).1 high)))
+      (λ low. low)
+      (cases_lt k i)
+
+  -- where x is less than the item at place i, the place of an item that equals x is before i
+  pub place_before : (xs : List X) (x : X) (i k : ℕ) (d : X) → IsStrict cmp xs → i < length xs → k < length xs → HoldsAt (λ y. eq y x ≡ true) xs k
+      → false ≡ is_ge (cmp x (get_or xs i d)) → k < i
+  place_before xs x i k d s here there h e = ⊎_elim
+      (λ high. high)
+      (λ low. absurd (true≢false (sym (e ∙ (at_least_from_place xs x i k d s here there h).0 low))))
+      (cases_lt k i)
+
+  -- the same of a comparison of the item at place i with x
+  pub place_from_item : (xs : List X) (x : X) (i k : ℕ) (d : X) → IsStrict cmp xs → i < length xs → k < length xs → HoldsAt (λ y. eq y x ≡ true) xs k
+      → false ≡ is_gt (cmp (get_or xs i d) x) → i ≤ k
+  place_from_item xs x i k d s here there h e =
+      place_from xs x i k d s here there h (ge_from (cmp x (get_or xs i d)) (e ∙ ap is_gt (o.antisymm (get_or xs i d) x)))
+
+  pub place_before_item : (xs : List X) (x : X) (i k : ℕ) (d : X) → IsStrict cmp xs → i < length xs → k < length xs → HoldsAt (λ y. eq y x ≡ true) xs k
+      → true ≡ is_gt (cmp (get_or xs i d) x) → k < i
+  place_before_item xs x i k d s here there h e =
+      place_before xs x i k d s here there h (less_from (cmp x (get_or xs i d)) (e ∙ ap is_gt (o.antisymm (get_or xs i d) x)))
 
 -- a step of the search: place k stays between its bounds
 pub quartered_within : (base size q k a b c : ℕ) → 4 * q ≤ size

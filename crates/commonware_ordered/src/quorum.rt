@@ -2,8 +2,10 @@
 ghost use Rattle.std.specs.Prelude.{◌≡◌, ◌+◌, ◌≤◌, ◌^◌, ◌↔◌, ℕ, List, Some, length, pos};
 ghost use Rattle.std.specs.Slice.{IsItemAt};
 ghost use Rattle.commonware_faults.specs.Counts.{IsCommitteeSize};
+ghost use Rattle.commonware_ordered.specs.Costs.{IsLookUpCost};
 ghost use Rattle.commonware_ordered.specs.Strict.{HasEqualAt, IsPlaceOf};
 
+use crate::counter::{Counter, Uncounted};
 use crate::set::Set;
 use commonware_base::Participant;
 use commonware_faults::Faults;
@@ -42,6 +44,16 @@ pub trait Quorum {
         ensures place { IsPlaceOf Self.Item.eq (members self.now) key.now result }
         ensures only { (p : ℕ)
             → (result ≡ Some p) ↔ HasEqualAt Self.Item.eq (members self.now) key.now p };
+
+    /// Returns what `index` does, and counts its comparisons: of n members, where n has k binary
+    /// digits, at most 1 + 3k/2. It requires the same.
+    fn index_counted<C: Counter>(&self, key: &Self::Item, count: &mut C) -> Option<Participant>
+        requires { length (members self.now) ≤ 2 ^ 32 }
+        ensures place { IsPlaceOf Self.Item.eq (members self.now) key.now result }
+        ensures only { (p : ℕ)
+            → (result ≡ Some p) ↔ HasEqualAt Self.Item.eq (members self.now) key.now p }
+        ensures cost { IsLookUpCost (length (members self.now))
+            (C.counted count.old) (C.counted count.new) };
 }
 
 impl<T: Ord, A: Allocator> Quorum for Set<T, A> {
@@ -62,7 +74,11 @@ impl<T: Ord, A: Allocator> Quorum for Set<T, A> {
     }
 
     fn index(&self, key: &T) -> Option<Participant> {
-        let place = self.position(key)?;
+        self.index_counted(key, &mut Uncounted)
+    }
+
+    fn index_counted<C: Counter>(&self, key: &T, count: &mut C) -> Option<Participant> {
+        let place = self.position_counted(key, count)?;
         Some(Participant::from_usize(place))
     }
 }

@@ -1,22 +1,32 @@
 //! The position of an item in a strictly increasing list, searched branchless: no branch depends
-//! on a comparison.
-ghost use Rattle.std.specs.Prelude.{◌≡◌, ◌≤◌, ◌<◌, ◌+◌, ◌*◌, ℕ, true, length};
+//! on a comparison. The list is hidden, so that each comparison is counted.
+ghost use Rattle.std.specs.Prelude.{◌≡◌, ◌≤◌, ◌<◌, ◌+◌, ◌*◌, ◌^◌, ℕ, true, length};
 ghost use Rattle.std.specs.List.{HoldsAt};
+ghost use Rattle.commonware_ordered.specs.Costs.{IsLookUpCost};
+ghost use Rattle.commonware_ordered.specs.Hidden.{items_of};
 ghost use Rattle.commonware_ordered.specs.Strict.{IsPlaceOf, IsStrict, IsWithin};
 
+use crate::counter::Counter;
+use crate::hidden::Hidden;
 use std::mem::size_of;
 
-/// Returns 1 where the item at a place is at most the one sought, else 0.
+/// Returns 1 where the item at a place is at most the one sought, else 0. It compares once.
 #[inline(always)]
-fn reached<T: Ord>(items: &[T], place: usize, item: &T) -> usize
-    requires strict { IsStrict T.cmp items.now }
-    requires inside { place < length items.now }
+fn reached<T: Ord, C: Counter>(
+    items: &Hidden<'_, T>,
+    place: usize,
+    item: &T,
+    count: &mut C,
+) -> usize
+    requires strict { IsStrict T.cmp (items_of items.now) }
+    requires inside { place < length (items_of items.now) }
     ensures bound { result ≤ 1 }
-    ensures value { (k : ℕ) → k < length items.now
-        → HoldsAt (λ y. T.eq y item.now ≡ true) items.now k
+    ensures value { (k : ℕ) → k < length (items_of items.now)
+        → HoldsAt (λ y. T.eq y item.now ≡ true) (items_of items.now) k
         → (place ≤ k → result ≡ 1) × (k < place → result ≡ 0) }
+    ensures cost { C.counted count.new ≤ C.counted count.old + 1 }
 {
-    if item.cmp(&items[place]).is_ge() {
+    if items.cmp_at(item, place, count).is_ge() {
         1
     } else {
         0
@@ -25,42 +35,62 @@ fn reached<T: Ord>(items: &[T], place: usize, item: &T) -> usize
 
 /// Halves the `size` places from `base` on, which are at most twice `window`. It returns where
 /// those that are left begin, and how many they are, at most `window`. It compares with the first
-/// of the last `window`.
+/// of the last `window`, and not at all where no more than these are left.
 #[inline(always)]
-fn half<T: Ord>(items: &[T], base: usize, size: usize, window: usize, item: &T) -> (usize, usize)
-    requires strict { IsStrict T.cmp items.now }
-    requires inside { base + size ≤ length items.now }
+fn half<T: Ord, C: Counter>(
+    items: &Hidden<'_, T>,
+    base: usize,
+    size: usize,
+    window: usize,
+    item: &T,
+    count: &mut C,
+) -> (usize, usize)
+    requires strict { IsStrict T.cmp (items_of items.now) }
+    requires inside { base + size ≤ length (items_of items.now) }
     requires twice { size ≤ 2 * window }
-    requires within { IsWithin T.eq items.now item.now base size }
-    ensures inside { result.0 + result.1 ≤ length items.now }
+    requires within { IsWithin T.eq (items_of items.now) item.now base size }
+    ensures inside { result.0 + result.1 ≤ length (items_of items.now) }
     ensures window { result.1 ≤ window }
-    ensures within { IsWithin T.eq items.now item.now result.0 result.1 }
+    ensures within { IsWithin T.eq (items_of items.now) item.now result.0 result.1 }
+    ensures cost { C.counted count.new ≤ C.counted count.old + 1 }
+    ensures free { size ≤ window
+        → (C.counted count.new ≡ C.counted count.old) × (result.1 ≡ size) }
 {
     if size <= window {
         return (base, size);
     }
     let step = size - window;
-    (base + step * reached(items, base + step, item), window)
+    (
+        base + step * reached(items, base + step, item, count),
+        window,
+    )
 }
 
 /// Returns the one position of at most sixteen from `base` on where an item can equal the one
-/// sought.
+/// sought. Of at most 2^j positions, it compares with at most j.
 ///
 /// Four halvings one after the other and no loop, so that a compiler makes no branch of a
 /// comparison.
 #[inline(always)]
-fn last_steps<T: Ord>(items: &[T], base: usize, size: usize, item: &T) -> usize
-    requires strict { IsStrict T.cmp items.now }
-    requires inside { base + size ≤ length items.now }
+fn last_steps<T: Ord, C: Counter>(
+    items: &Hidden<'_, T>,
+    base: usize,
+    size: usize,
+    item: &T,
+    count: &mut C,
+) -> usize
+    requires strict { IsStrict T.cmp (items_of items.now) }
+    requires inside { base + size ≤ length (items_of items.now) }
     requires few { size ≤ 16 }
-    requires within { IsWithin T.eq items.now item.now base size }
-    ensures { (k : ℕ) → k < length items.now
-        → HoldsAt (λ y. T.eq y item.now ≡ true) items.now k → result ≡ k }
+    requires within { IsWithin T.eq (items_of items.now) item.now base size }
+    ensures place { (k : ℕ) → k < length (items_of items.now)
+        → HoldsAt (λ y. T.eq y item.now ≡ true) (items_of items.now) k → result ≡ k }
+    ensures cost { (j : ℕ) → size ≤ 2 ^ j → C.counted count.new ≤ C.counted count.old + j }
 {
-    let (base, size) = half(items, base, size, 8, item);
-    let (base, size) = half(items, base, size, 4, item);
-    let (base, size) = half(items, base, size, 2, item);
-    let (place, _) = half(items, base, size, 1, item);
+    let (base, size) = half(items, base, size, 8, item, count);
+    let (base, size) = half(items, base, size, 4, item, count);
+    let (base, size) = half(items, base, size, 2, item, count);
+    let (place, _) = half(items, base, size, 1, item, count);
     place
 }
 
@@ -73,25 +103,27 @@ const FEW: usize = 16;
 /// the results: the next step depends on no branch that a processor could mispredict. It takes one
 /// and a half comparisons where halving takes one, so the last few are halved.
 #[inline(always)]
-fn narrowed<T: Ord>(items: &[T], item: &T) -> Option<usize>
-    requires { IsStrict T.cmp items.now }
-    ensures { IsPlaceOf T.eq items.now item.now result }
+fn narrowed<T: Ord, C: Counter>(items: &Hidden<'_, T>, item: &T, count: &mut C) -> Option<usize>
+    requires { IsStrict T.cmp (items_of items.now) }
+    ensures place { IsPlaceOf T.eq (items_of items.now) item.now result }
+    ensures cost { IsLookUpCost (length (items_of items.now))
+        (C.counted count.old) (C.counted count.new) }
 {
     let mut base = 0;
     let mut size = items.len();
     while size > FEW {
         let quarter = size / 4;
-        let passed = reached(items, base + quarter, item)
-            + reached(items, base + 2 * quarter, item)
-            + reached(items, base + 3 * quarter, item);
+        let passed = reached(items, base + quarter, item, count)
+            + reached(items, base + 2 * quarter, item, count)
+            + reached(items, base + 3 * quarter, item, count);
         base += quarter * passed;
         size -= 3 * quarter;
     }
-    let place = last_steps(items, base, size, item);
+    let place = last_steps(items, base, size, item, count);
     if place >= items.len() {
         return None;
     }
-    if items[place].eq(item) {
+    if items.eq_at(place, item, count) {
         Some(place)
     } else {
         None
@@ -100,11 +132,32 @@ fn narrowed<T: Ord>(items: &[T], item: &T) -> Option<usize>
 
 /// Returns the same position, by halving the list.
 #[inline]
-fn halved<T: Ord>(items: &[T], item: &T) -> Option<usize>
-    requires { IsStrict T.cmp items.now }
-    ensures { IsPlaceOf T.eq items.now item.now result }
+fn halved<T: Ord, C: Counter>(items: &Hidden<'_, T>, item: &T, count: &mut C) -> Option<usize>
+    requires { IsStrict T.cmp (items_of items.now) }
+    ensures place { IsPlaceOf T.eq (items_of items.now) item.now result }
+    ensures cost { (k : ℕ) → length (items_of items.now) ≤ 2 ^ k
+        → C.counted count.new ≤ C.counted count.old + k + 1 }
 {
-    items.binary_search(item).ok()
+    let mut size = items.len();
+    if size == 0 {
+        return None;
+    }
+    let mut base = 0;
+    while size > 1 {
+        let step = size / 2;
+        let middle = base + step;
+        if items.cmp_from(middle, item, count).is_gt() {
+            size -= step;
+        } else {
+            base = middle;
+            size -= step;
+        }
+    }
+    if items.cmp_from(base, item, count).is_eq() {
+        Some(base)
+    } else {
+        None
+    }
 }
 
 /// The most bytes of an item whose comparison costs less than a mispredicted branch.
@@ -119,18 +172,23 @@ const NEAR: usize = 2048;
 
 /// Returns the same position. Narrow items, and a few keys, are compared three at a time until few
 /// are left; a list of other items is halved, since each of their comparisons is expensive.
+///
+/// Of n items, where n has k binary digits, it makes at most 1 + 3k/2 comparisons.
 #[inline(always)]
-pub(crate) fn place_of<T: Ord>(items: &[T], item: &T) -> Option<usize>
+pub(crate) fn place_of<T: Ord, C: Counter>(items: &[T], item: &T, count: &mut C) -> Option<usize>
     requires { IsStrict T.cmp items.now }
-    ensures { IsPlaceOf T.eq items.now item.now result }
+    ensures place { IsPlaceOf T.eq items.now item.now result }
+    ensures cost { IsLookUpCost (length items.now)
+        (C.counted count.old) (C.counted count.new) }
 {
     // The borrow checker takes the size of a type parameter only as a factor. The other factor is 1
     // but for an empty list, of which either search returns `None`.
     let size = items.len().min(1) * size_of::<T>();
     let are_near_keys = size == KEY && items.len() <= NEAR;
+    let hidden = Hidden::new(items);
     if size <= NARROW || are_near_keys {
-        narrowed(items, item)
+        narrowed(&hidden, item, count)
     } else {
-        halved(items, item)
+        halved(&hidden, item, count)
     }
 }

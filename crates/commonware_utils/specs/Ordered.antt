@@ -7,6 +7,7 @@ pub use Rattle.commonware_bimap.specs.Swapped.{swapped}
 pub use Rattle.commonware_bimap.specs.WholeBiMaps.{HasEqualKeys, HasEqualValues, IsBiMapOfAll}
 pub use Rattle.commonware_bimap.specs.WholeBiMaps.{IsBiMapOfClones, IsRefusedBiMap, IsWholeBiMap}
 pub use Rattle.commonware_bimap.specs.WholeBiMaps.{IsWholeBiMapOfClones}
+pub use Rattle.commonware_ordered.specs.Costs.{IsLookUpCost, IsOrderCost}
 pub use Rattle.commonware_ordered.specs.Dedup.{EqualsSameItems, HaveSameItems, IsDedup, IsKept}
 pub use Rattle.commonware_map.specs.Borrows.{BorrowsValueAt, BorrowsValueOf, BorrowsValues, BorrowsValuesTo}
 pub use Rattle.commonware_map.specs.Borrows.{map_row, set_value_at, set_values}
@@ -23,7 +24,7 @@ pub use Rattle.commonware_ordered.specs.laws.SetPrefixLaws.{set_fault_determined
 pub use Rattle.commonware_ordered.specs.Sets.{BeginsUnsorted, IsWritableSet, unsorted_fault}
 pub use Rattle.commonware_ordered.specs.Sets.{SetFault, bad_list, bad_order}
 pub use Rattle.commonware_ordered.specs.Sets.{SetCase, at_list, at_order, set_case}
-pub use Rattle.commonware_ordered.specs.Strict.{HasEqualAt, IsPlaceOf, IsStrict}
+pub use Rattle.commonware_ordered.specs.Strict.{HasEqualAt, IsLessThanNext, IsPlaceOf, IsStrict}
 pub use Rattle.commonware_ordered.specs.Voters.{is_among, members_among}
 pub use Rattle.commonware_ordered.specs.laws.PlaceLaws.{among_iff, found-place, place_iff}
 pub use Rattle.commonware_ordered.specs.laws.PositionLaws.{size-members_among, size-members_among-all}

@@ -2,6 +2,7 @@ pub mod Chunks
 pub mod Cut
 pub mod Exact
 pub mod Found
+pub mod Halving
 pub mod Neighbours
 pub mod NoGap
 pub mod Pairs

@@ -1,12 +1,12 @@
 -- One item after another is strictly greater than the one before it.
-use Rattle.std.proofs.Common.{◌≡◌, ◌∙◌, ℕ, ◌+◌, ◌-◌, ◌*◌, ◌<◌, List, [], take, drop, true, arith, inl, inr, ap, refl, sym, subst₂}
+use Rattle.std.proofs.Common.{◌≡◌, ◌∙◌, ℕ, ◌+◌, ◌-◌, ◌*◌, ◌<◌, ◌≤◌, List, [], take, drop, true, arith, inl, inr, ap, refl, sym, subst₂}
 use Rattle.std.proofs.lemmas.Bool.{cases_lt}
 use Rattle.std.specs.List.{AllAdjacentBelow}
 use Rattle.std.specs.Simd.{first_chunks}
 use Rattle.std.specs.Ordering.{is_lt}
 use Rattle.std.specs.declared.cmp.Ordering.{Ordering}
 use Rattle.std.specs.declared.cmp.Ordering.TheVariants.{Less, Equal, Greater}
-use Rattle.commonware_ordered.specs.Strict.{IsStrict}
+use Rattle.commonware_ordered.specs.Strict.{IsLessThanNext, IsStrict}
 use Rattle.commonware_sequence.specs.FixedBytes.{bytes_cmp}
 use Rattle.commonware_views.proofs.Chunks.{chunk_at, chunks_count}
 
@@ -40,3 +40,11 @@ module _ (size count i : ℕ) (s last item : List ℕ) (second : 0 < i) (inside 
         let next = chunk_at size count (k + 1) s d (omega (arith, same, inside)) ∙ ap (λ n. take size (drop (n * size) s)) same ∙ sym here in
         subst₂ (λ x y. bytes_cmp x y ≡ Less) (sym one) (sym next) less
   ]
+
+-- the first items, which are strictly increasing, end before the second of two that aren't
+pub before_fault : (items : List (List ℕ)) (i k : ℕ) → AllAdjacentBelow (λ x y. bytes_cmp x y ≡ Less) items i
+    → ¬ IsLessThanNext bytes_cmp items k → i ≤ k + 1
+before_fault items i k rising faulty = elim (cases_lt (k + 1) i) [
+  | inl below ↦ absurd (faulty (λ d. rising k d below))
+  | inr end ↦ end
+]

@@ -1,3 +1,4 @@
+pub mod Costs
 pub mod Lists
 pub mod Maps
 pub mod Repeats

@@ -5,6 +5,7 @@
 //! collection with `FixedBytes` of these sizes.
 #![tactic(auto)]
 
+mod hidden;
 mod items;
 mod list;
 mod map;

@@ -9,12 +9,14 @@ ghost use Rattle.commonware_base.specs.Refusal.{Refuses};
 ghost use Rattle.commonware_base.specs.Source.{rest_of, Consumes};
 ghost use Rattle.commonware_ordered.specs.Strict.{IsStrict};
 ghost use Rattle.commonware_sequence.specs.FixedBytes.{bytes_cmp, own_bytes};
+ghost use Rattle.commonware_views.specs.Costs.{IsHalvingCost};
 ghost use Rattle.commonware_views.specs.Lists.{AreItemsOf, IsGapFor, IsListOf, IsNotWhole, list_fault};
 
 use crate::items::Items;
 use crate::order::are_strict;
 use crate::search::place_of;
 use commonware_base::codec::{Error, RangeCfg, Source, read_varint};
+use commonware_ordered::{Counter, Uncounted};
 use std::marker::Model;
 
 /// Byte sequences of one size, the items, which stay where the input has them. They are seen as
@@ -152,18 +154,22 @@ impl<'a> ListView<'a> {
         Some(first)
     }
 
-    /// Whether the items are strictly increasing: each is less than the next.
+    /// Whether the items are strictly increasing: each is less than the next. Each is compared with
+    /// the next, in order, up to the first that isn't less; the first two that share eight bytes
+    /// are compared twice.
     #[inline(always)]
-    pub(crate) fn is_strict(&self) -> bool
-        ensures { IsTrue result ↔ IsStrict bytes_cmp self.now }
+    pub(crate) fn is_strict<C: Counter>(&self, counter: &mut C) -> bool
+        ensures strict { IsTrue result ↔ IsStrict bytes_cmp self.now }
+        ensures cost { C.counted counter.new ≤ C.counted counter.old + length self.now }
     {
-        are_strict(self.size, self.count, self.bytes)
+        are_strict(self.size, self.count, self.bytes, counter)
     }
 
-    /// Looks an item up by halving the list, in O(log n) comparisons: `Ok` has the position of one
-    /// that is the key, and `Err` a gap between two neighbours of which the first is less than the
-    /// key and the second is greater. Where the list is strictly increasing there is a gap exactly
-    /// where no item is the key. It takes every list, and a key of any size.
+    /// Looks an item up by halving the list: `Ok` has the position of one that is the key, and
+    /// `Err` a gap between two neighbours of which the first is less than the key and the second is
+    /// greater. Where the list is strictly increasing there is a gap exactly where no item is the
+    /// key. It takes every list, and a key of any size, and makes as many comparisons as
+    /// `binary_search_counted`.
     #[inline(always)]
     pub fn binary_search(&self, key: &[u8]) -> Result<usize, usize>
         ensures found { IfOk result (λ p. slice_get self.now p ≡ Some key.now) }
@@ -171,7 +177,26 @@ impl<'a> ListView<'a> {
         ensures exactly { IsStrict bytes_cmp self.now → (p : ℕ)
             → (result ≡ Ok p) ↔ (slice_get self.now p ≡ Some key.now) }
     {
-        place_of(self.size, self.count, self.bytes, key)
+        self.binary_search_counted(key, &mut Uncounted)
+    }
+
+    /// Returns what `binary_search` does, and counts how many items it compares with the key: of
+    /// fewer than 2^k items at most k, whatever they are. A comparison looks at each word of eight
+    /// bytes at most once.
+    #[inline(always)]
+    pub fn binary_search_counted<C: Counter>(
+        &self,
+        key: &[u8],
+        counter: &mut C,
+    ) -> Result<usize, usize>
+        ensures found { IfOk result (λ p. slice_get self.now p ≡ Some key.now) }
+        ensures absent { IfErr result (IsGapFor key.now self.now) }
+        ensures exactly { IsStrict bytes_cmp self.now → (p : ℕ)
+            → (result ≡ Ok p) ↔ (slice_get self.now p ≡ Some key.now) }
+        ensures cost { IsHalvingCost (length self.now)
+            (C.counted counter.old) (C.counted counter.new) }
+    {
+        place_of(self.size, self.count, self.bytes, key, counter)
     }
 }
 

@@ -1,17 +1,20 @@
 //! A map of keys and values, each of one size, in place.
-ghost use Rattle.std.specs.Prelude.{◌≡◌, ◌↔◌, ◌==◌, ℕ, Some, IfErr, IfOk, IsOk, List, OnErr, length};
+ghost use Rattle.std.specs.Prelude.{◌≡◌, ◌↔◌, ◌+◌, ◌≤◌, ◌==◌, ℕ, Some, IfErr, IfOk, IsOk, List, OnErr, length};
 ghost use Rattle.std.specs.List.{slice_get};
 ghost use Rattle.std.specs.Map.{keys_of, values_of};
 ghost use Rattle.std.specs.Option.{option_copied};
+ghost use Rattle.commonware_base.specs.Range.{Within};
 ghost use Rattle.commonware_base.specs.Refusal.{Refuses};
 ghost use Rattle.commonware_base.specs.Source.{rest_of, Consumes};
 ghost use Rattle.commonware_map.specs.Maps.{map_enc};
 ghost use Rattle.commonware_sequence.specs.FixedBytes.{own_bytes};
+ghost use Rattle.commonware_views.specs.Costs.{IsHalvingCost};
 ghost use Rattle.commonware_views.specs.Maps.{IsSizedMapOf, sized_map_fault};
 
 use crate::list::ListView;
 use crate::set::SetView;
 use commonware_base::codec::{Error, RangeCfg, Source};
+use commonware_ordered::{Counter, Uncounted};
 use std::marker::Model;
 
 /// Keys of one size in strictly increasing order, and a value of another size for each, which stay
@@ -56,7 +59,31 @@ impl<'a> MapView<'a> {
             × IsSizedMapOf key_size value_size range (rest_of src.old) pairs rest) }
         ensures stays { OnErr result (src.new ≡ src.old) }
     {
-        next_pairs(src, key_size, value_size, range)
+        MapView::read_counted(src, key_size, value_size, range, &mut Uncounted)
+    }
+
+    /// Finds what `read` does, and counts how many keys it compares with the next: whatever the
+    /// input, at most as many as the most pairs that the range allows.
+    pub fn read_counted<C: Counter>(
+        src: &mut Source<'a>,
+        key_size: usize,
+        value_size: usize,
+        range: RangeCfg<usize>,
+        counter: &mut C,
+    ) -> Result<Self, Error>
+        ensures accepted { IfOk result (λ pairs.
+            IsSizedMapOf key_size value_size range (rest_of src.old) pairs (rest_of src.new)) }
+        ensures consumed { IfOk result (λ pairs.
+            Consumes src.old src.new (map_enc own_bytes own_bytes pairs)) }
+        ensures refused { IfErr result (Refuses
+            (sized_map_fault key_size value_size range (rest_of src.old)) (Unit {0})) }
+        ensures exactly { IsOk result ↔ ((pairs : List (List ℕ × List ℕ)) × (rest : List ℕ)
+            × IsSizedMapOf key_size value_size range (rest_of src.old) pairs rest) }
+        ensures stays { OnErr result (src.new ≡ src.old) }
+        ensures cost { (most : ℕ) → ((n : ℕ) → Within range n → n ≤ most)
+            → C.counted counter.new ≤ C.counted counter.old + most }
+    {
+        next_pairs(src, key_size, value_size, range, counter)
     }
 
     /// Returns how many pairs there are.
@@ -101,31 +128,54 @@ impl<'a> MapView<'a> {
         self.values().get(index)
     }
 
-    /// Returns the position of a key, or `None` where the map has no value for it. It takes
-    /// O(log n) comparisons.
+    /// Returns the position of a key, or `None` where the map has no value for it. It makes as many
+    /// comparisons as `position_counted`.
     pub fn position(&self, key: &[u8]) -> Option<usize>
         ensures { (p : ℕ)
             → (result ≡ Some p) ↔ (slice_get (keys_of self.now) p ≡ Some key.now) }
     {
-        self.keys().position(key)
+        self.position_counted(key, &mut Uncounted)
     }
 
-    /// Returns the value of a key, or `None` where the map has none for it. It takes O(log n)
-    /// comparisons.
+    /// Returns what `position` does, and counts how many keys it compares with the given one: of
+    /// fewer than 2^k keys at most k.
+    pub fn position_counted<C: Counter>(&self, key: &[u8], counter: &mut C) -> Option<usize>
+        ensures place { (p : ℕ)
+            → (result ≡ Some p) ↔ (slice_get (keys_of self.now) p ≡ Some key.now) }
+        ensures cost { IsHalvingCost (length self.now)
+            (C.counted counter.old) (C.counted counter.new) }
+    {
+        self.keys().position_counted(key, counter)
+    }
+
+    /// Returns the value of a key, or `None` where the map has none for it. It makes as many
+    /// comparisons as `get_value_counted`.
     pub fn get_value(&self, key: &[u8]) -> Option<&'a [u8]>
         ensures { (value : List ℕ) → (option_copied result ≡ Some value)
             ↔ ((p : ℕ) × (slice_get self.now p ≡ Some (key.now, value))) }
     {
-        self.value(self.position(key)?)
+        self.get_value_counted(key, &mut Uncounted)
+    }
+
+    /// Returns what `get_value` does, and counts how many keys it compares with the given one: of
+    /// fewer than 2^k keys at most k.
+    pub fn get_value_counted<C: Counter>(&self, key: &[u8], counter: &mut C) -> Option<&'a [u8]>
+        ensures value { (value : List ℕ) → (option_copied result ≡ Some value)
+            ↔ ((p : ℕ) × (slice_get self.now p ≡ Some (key.now, value))) }
+        ensures cost { IsHalvingCost (length self.now)
+            (C.counted counter.old) (C.counted counter.new) }
+    {
+        self.value(self.position_counted(key, counter)?)
     }
 }
 
 /// Finds the map that comes next in a source, as `MapView::read` does.
-fn next_pairs<'a>(
+fn next_pairs<'a, C: Counter>(
     src: &mut Source<'a>,
     key_size: usize,
     value_size: usize,
     range: RangeCfg<usize>,
+    counter: &mut C,
 ) -> Result<MapView<'a>, Error>
     ensures accepted { IfOk result (λ pairs.
         IsSizedMapOf key_size value_size range (rest_of src.old) pairs (rest_of src.new)) }
@@ -134,9 +184,11 @@ fn next_pairs<'a>(
     ensures refused { IfErr result
         (Refuses (sized_map_fault key_size value_size range (rest_of src.old)) (Unit {0})) }
     ensures stays { OnErr result (src.new ≡ src.old) }
+    ensures cost { (most : ℕ) → ((n : ℕ) → Within range n → n ≤ most)
+        → C.counted counter.new ≤ C.counted counter.old + most }
 {
     let mut here = *src;
-    let keys = SetView::read(&mut here, key_size, range)?;
+    let keys = SetView::read_counted(&mut here, key_size, range, counter)?;
     let values = ListView::read(&mut here, value_size, RangeCfg::exact(keys.len()))?;
     *src = here;
     Ok(MapView { keys, values })

@@ -5,30 +5,40 @@ ghost use Rattle.std.specs.Simd.{first_chunks};
 ghost use Rattle.std.specs.declared.result.Result.TheVariants.{Ok};
 ghost use Rattle.commonware_ordered.specs.Strict.{IsStrict};
 ghost use Rattle.commonware_sequence.specs.FixedBytes.{bytes_cmp};
+ghost use Rattle.commonware_views.specs.Costs.{IsHalvingCost};
 ghost use Rattle.commonware_views.specs.Lists.{IsGapFor};
 
+use crate::hidden::Hidden;
 use crate::list::item_at;
-use commonware_sequence::Prefixed;
+use commonware_ordered::Counter;
 use std::cmp::Ordering;
 
 /// Returns the place of an item that is the key, or a gap between two neighbours of which the first
-/// is less than the key and the second is greater. The key's first eight bytes are read once.
+/// is less than the key and the second is greater. The key's first eight bytes are read once. Of
+/// fewer than 2^k items it compares at most k with the key.
 #[inline(always)]
-pub(crate) fn place_of(size: usize, count: usize, bytes: &[u8], key: &[u8]) -> Result<usize, usize>
+pub(crate) fn place_of<C: Counter>(
+    size: usize,
+    count: usize,
+    bytes: &[u8],
+    key: &[u8],
+    counter: &mut C,
+) -> Result<usize, usize>
     requires { length bytes.now ≡ count * size }
     ensures found { IfOk result (λ p.
         slice_get (first_chunks size count bytes.now) p ≡ Some key.now) }
     ensures absent { IfErr result (IsGapFor key.now (first_chunks size count bytes.now)) }
     ensures exactly { IsStrict bytes_cmp (first_chunks size count bytes.now) → (p : ℕ)
         → (result ≡ Ok p) ↔ (slice_get (first_chunks size count bytes.now) p ≡ Some key.now) }
+    ensures cost { IsHalvingCost count (C.counted counter.old) (C.counted counter.new) }
 {
-    let key = Prefixed::new(key);
+    let key = Hidden::new(key);
     let mut low = 0;
     let mut high = count;
     while low < high {
         let middle = low + (high - low) / 2;
-        let item = Prefixed::new(item_at(bytes, size, middle));
-        match item.order(&key) {
+        let item = Hidden::new(item_at(bytes, size, middle));
+        match item.order(&key, counter) {
             Ordering::Less => low = middle + 1,
             Ordering::Greater => high = middle,
             Ordering::Equal => return Ok(middle),

@@ -1,17 +1,20 @@
 //! A set of keys of one size, in place.
-ghost use Rattle.std.specs.Prelude.{◌≡◌, ◌↔◌, ◌==◌, ℕ, Some, IfErr, IfOk, IsOk, IsTrue, List, OnErr, length};
+ghost use Rattle.std.specs.Prelude.{◌≡◌, ◌↔◌, ◌+◌, ◌≤◌, ◌==◌, ℕ, Some, IfErr, IfOk, IsOk, IsTrue, List, OnErr, length};
 ghost use Rattle.std.specs.List.{Contains, flat_map, slice_get};
 ghost use Rattle.std.specs.Option.{option_copied};
 ghost use Rattle.commonware_base.specs.Lists.{list_enc};
+ghost use Rattle.commonware_base.specs.Range.{Within};
 ghost use Rattle.commonware_base.specs.Refusal.{Refuses};
 ghost use Rattle.commonware_base.specs.Source.{rest_of, Consumes};
 ghost use Rattle.commonware_ordered.specs.Strict.{IsStrict};
 ghost use Rattle.commonware_sequence.specs.FixedBytes.{bytes_cmp, own_bytes};
+ghost use Rattle.commonware_views.specs.Costs.{IsHalvingCost};
 ghost use Rattle.commonware_views.specs.Sets.{IsKeySetOf, key_set_fault};
 
 use crate::items::Items;
 use crate::list::ListView;
 use commonware_base::codec::{Error, RangeCfg, Source};
+use commonware_ordered::{Counter, Uncounted};
 use std::marker::Model;
 
 /// Keys of one size in strictly increasing order, which stay where the input has them. They are
@@ -53,7 +56,31 @@ impl<'a> SetView<'a> {
             × IsKeySetOf size range (rest_of src.old) keys rest) }
         ensures stays { OnErr result (src.new ≡ src.old) }
     {
-        next_keys(src, size, range)
+        SetView::read_counted(src, size, range, &mut Uncounted)
+    }
+
+    /// Finds what `read` does, and counts how many keys it compares with the next: whatever the
+    /// input, at most as many as the most keys that the range allows.
+    #[inline(always)]
+    pub fn read_counted<C: Counter>(
+        src: &mut Source<'a>,
+        size: usize,
+        range: RangeCfg<usize>,
+        counter: &mut C,
+    ) -> Result<Self, Error>
+        ensures accepted { IfOk result (λ keys.
+            IsKeySetOf size range (rest_of src.old) keys (rest_of src.new)) }
+        ensures consumed { IfOk result (λ keys.
+            Consumes src.old src.new (list_enc own_bytes keys)) }
+        ensures refused { IfErr result
+            (Refuses (key_set_fault size range (rest_of src.old)) (Unit {0})) }
+        ensures exactly { IsOk result ↔ ((keys : List (List ℕ)) × (rest : List ℕ)
+            × IsKeySetOf size range (rest_of src.old) keys rest) }
+        ensures stays { OnErr result (src.new ≡ src.old) }
+        ensures cost { (most : ℕ) → ((n : ℕ) → Within range n → n ≤ most)
+            → C.counted counter.new ≤ C.counted counter.old + most }
+    {
+        next_keys(src, size, range, counter)
     }
 
     /// Returns how many keys there are.
@@ -104,12 +131,23 @@ impl<'a> SetView<'a> {
     }
 
     /// Returns the position of a key, or `None` where it isn't in the set, as one of another size
-    /// never is. It takes O(log n) comparisons.
+    /// never is. It makes as many comparisons as `position_counted`.
     #[inline(always)]
     pub fn position(&self, key: &[u8]) -> Option<usize>
         ensures { (p : ℕ) → (result ≡ Some p) ↔ (slice_get self.now p ≡ Some key.now) }
     {
-        self.keys.binary_search(key).ok()
+        self.position_counted(key, &mut Uncounted)
+    }
+
+    /// Returns what `position` does, and counts how many keys it compares with the given one: of
+    /// fewer than 2^k keys at most k.
+    #[inline(always)]
+    pub fn position_counted<C: Counter>(&self, key: &[u8], counter: &mut C) -> Option<usize>
+        ensures place { (p : ℕ) → (result ≡ Some p) ↔ (slice_get self.now p ≡ Some key.now) }
+        ensures cost { IsHalvingCost (length self.now)
+            (C.counted counter.old) (C.counted counter.new) }
+    {
+        self.keys.binary_search_counted(key, counter).ok()
     }
 
     /// Whether a key is in the set.
@@ -123,10 +161,11 @@ impl<'a> SetView<'a> {
 
 /// Finds the set that comes next in a source, as `SetView::read` does.
 #[inline(always)]
-fn next_keys<'a>(
+fn next_keys<'a, C: Counter>(
     src: &mut Source<'a>,
     size: usize,
     range: RangeCfg<usize>,
+    counter: &mut C,
 ) -> Result<SetView<'a>, Error>
     ensures accepted { IfOk result (λ keys.
         IsKeySetOf size range (rest_of src.old) keys (rest_of src.new)) }
@@ -135,10 +174,12 @@ fn next_keys<'a>(
     ensures refused { IfErr result
         (Refuses (key_set_fault size range (rest_of src.old)) (Unit {0})) }
     ensures stays { OnErr result (src.new ≡ src.old) }
+    ensures cost { (most : ℕ) → ((n : ℕ) → Within range n → n ≤ most)
+        → C.counted counter.new ≤ C.counted counter.old + most }
 {
     let mut here = *src;
     let keys = ListView::read(&mut here, size, range)?;
-    if !keys.is_strict() {
+    if !keys.is_strict(counter) {
         return Err(Error::Invalid("Set", "items must be sorted and unique"));
     }
     *src = here;

@@ -6,6 +6,8 @@
 #[cfg(test)]
 mod builders;
 #[cfg(test)]
+mod costs;
+#[cfg(test)]
 mod drawn;
 #[cfg(test)]
 mod fixed_bytes;

@@ -2,6 +2,7 @@
 #![tactic(auto)]
 
 mod committees;
+mod costs;
 mod messages;
 mod models;
 mod peers;
@@ -14,6 +15,7 @@ mod voters;
 mod weights;
 
 pub use committees::{is_member, signatures_needed};
+pub use costs::members_among;
 pub use messages::{read_members, write_members};
 pub use models::{N2f1, N4f1, crash_numbers, fourth_numbers, is_safe};
 pub use peers::{Peer, read_peers};

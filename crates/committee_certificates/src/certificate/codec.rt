@@ -1,8 +1,13 @@
 //! The encoding of a certificate: its value as a list of bytes, and then its signers as a set.
-ghost use Rattle.std.specs.Prelude.{◌≡◌, ℕ, List};
+ghost use Rattle.std.specs.Prelude.{◌≡◌, ◌≤◌, ℕ, List, IfErr, IfOk, OnErr, length};
 ghost use Rattle.commonware_base.specs.Fault.{Fault};
+ghost use Rattle.commonware_base.specs.Range.{Within};
+ghost use Rattle.commonware_base.specs.Refusal.{Refuses};
 ghost use Rattle.commonware_base.specs.Sequence.{sequence_case};
+ghost use Rattle.commonware_base.specs.Source.{rest_of, Consumes};
+ghost use Rattle.commonware_base.specs.Text.{Accepts};
 ghost use Rattle.commonware_base.specs.laws.TextLaws.{canonical_on, laws_on, prefix_free_on};
+ghost use Rattle.commonware_ordered.specs.Costs.{IsOrderCost};
 ghost use Rattle.committee_certificates.specs.Certificates.{are_equal_parts, certificate_enc, parts};
 ghost use Rattle.committee_certificates.specs.Certificates.{CertificateFault, IsAllowedCertificate};
 ghost use Rattle.committee_certificates.specs.Certificates.{IsWritableCertificate};
@@ -15,7 +20,7 @@ use commonware_base::Participant;
 use commonware_base::codec::{
     Canonical, EncodeSize, Error, RangeCfg, Read, Source, Write, read_list,
 };
-use commonware_ordered::read_set;
+use commonware_ordered::{Counter, Uncounted, read_set_counted};
 use std::alloc::{AllocError, Allocator};
 
 impl<A: Allocator> EncodeSize for Certificate<A> {
@@ -67,12 +72,43 @@ impl<A: Allocator + Copy> Read<A> for Certificate<A> {
     /// Decodes the value as a list of bytes under the first range, and then the signers as a set
     /// under the second.
     fn read_cfg(alloc: A, src: &mut Source<'_>, cfg: &Self::Cfg) -> Result<Certificate<A>, Error> {
-        let mut here = *src;
-        let value = read_list::<u8, A>(alloc, &mut here, cfg.0, &())?;
-        let signers = read_set::<Participant, A>(alloc, &mut here, cfg.1, &())?;
-        *src = here;
-        Ok(Certificate { value, signers })
+        read_certificate_counted(alloc, src, cfg.0, cfg.1, &mut Uncounted)
     }
+}
+
+/// Decodes a certificate under a range for the length of its value and one for the number of its
+/// signers, as `Certificate::read_cfg` does, and counts the comparisons of two signers: whatever
+/// the input, fewer than the most signers that the range allows.
+pub fn read_certificate_counted<A: Allocator + Copy, C: Counter>(
+    alloc: A,
+    src: &mut Source<'_>,
+    value_range: RangeCfg<usize>,
+    signers_range: RangeCfg<usize>,
+    count: &mut C,
+) -> Result<Certificate<A>, Error>
+    ensures accepted { IfOk result (λ c. Accepts certificate_enc IsWritableCertificate
+        (IsAllowedCertificate value_range signers_range)
+        (rest_of src.old) (parts c) (rest_of src.new)) }
+    ensures consumed { IfOk result (λ c. Consumes src.old src.new (certificate_enc (parts c))) }
+    ensures refused { IfErr result
+        (Refuses (CertificateFault value_range signers_range (rest_of src.old)) ⊥) }
+    ensures stays { OnErr result (src.new ≡ src.old) }
+    ensures cost { (most : ℕ) → ((n : ℕ) → Within signers_range n → n ≤ most)
+        → IsOrderCost most (C.counted count.old) (C.counted count.new) }
+    ensures cost_ok { IfOk result (λ c.
+        IsOrderCost (length c.signers) (C.counted count.old) (C.counted count.new)) }
+{
+    let mut here = *src;
+    let value = read_list::<u8, A>(alloc, &mut here, value_range, &())?;
+    let signers = read_set_counted::<Participant, A, C>(
+        alloc,
+        &mut here,
+        signers_range,
+        &(),
+        count,
+    )?;
+    *src = here;
+    Ok(Certificate { value, signers })
 }
 
 impl<A: Allocator> Canonical for Certificate<A> {

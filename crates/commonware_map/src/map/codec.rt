@@ -1,13 +1,18 @@
 //! The encoding of a map: the list of its keys, and then the list of its values, each with its
 //! length.
-ghost use Rattle.std.specs.Prelude.{◌≡◌, ◌<◌, ◌≤◌, ◌^◌, ℕ, List, length};
+ghost use Rattle.std.specs.Prelude.{◌≡◌, ◌<◌, ◌≤◌, ◌^◌, ℕ, List, IfErr, IfOk, OnErr, length};
 ghost use Rattle.std.specs.List.{AllByRecursion};
 ghost use Rattle.std.specs.Map.{keys_of, values_of};
 ghost use Rattle.commonware_base.specs.Fault.{Fault};
 ghost use Rattle.commonware_base.specs.Lists.{IsListMemoryFree};
+ghost use Rattle.commonware_base.specs.Range.{Within};
+ghost use Rattle.commonware_base.specs.Refusal.{Refuses};
 ghost use Rattle.commonware_base.specs.Sequence.{sequence_case};
+ghost use Rattle.commonware_base.specs.Source.{rest_of, Consumes};
+ghost use Rattle.commonware_base.specs.Text.{Accepts};
 ghost use Rattle.commonware_map.specs.laws.MapLaws.{map_bytes, map_canonical, map_laws, map_prefix_free};
 ghost use Rattle.commonware_map.specs.Maps.{map_enc, map_size_bound, IsAllowedMap, IsWritableMap, MapFault};
+ghost use Rattle.commonware_ordered.specs.Costs.{IsOrderCost};
 ghost use Rattle.commonware_ordered.specs.Sets.{IsWritableSet};
 
 use super::Map;
@@ -15,7 +20,7 @@ use commonware_base::codec::{
     Canonical, EncodeSize, Error, MaxEncodeSize, RangeCfg, Read, Source, UInt, Write,
 };
 use commonware_columns::read_values;
-use commonware_ordered::{Set, read_set};
+use commonware_ordered::{Counter, Set, Uncounted, read_set_counted};
 use std::alloc::{AllocError, Allocator};
 
 impl<K: Ord + EncodeSize, V: EncodeSize, A: Allocator> EncodeSize for Map<K, V, A> {
@@ -70,12 +75,46 @@ impl<K: Ord + Canonical + Read<A> + Drop, V: Read<A> + Drop, A: Allocator + Copy
 
     /// Decodes the keys as a set, and then the values as a list of as many.
     fn read_cfg(alloc: A, src: &mut Source<'_>, cfg: &Self::Cfg) -> Result<Map<K, V, A>, Error> {
-        let mut here = *src;
-        let keys = read_set::<K, A>(alloc, &mut here, cfg.0, &cfg.1)?;
-        let values = read_values::<V, A>(alloc, &mut here, keys.len(), &cfg.2)?;
-        *src = here;
-        Ok(Map { keys, values })
+        read_map_counted(alloc, src, cfg.0, &cfg.1, &cfg.2, &mut Uncounted)
     }
+}
+
+/// Decodes a map under a range for its length and a configuration each for its keys and values, as
+/// `Map::read_cfg` does, and counts its comparisons of keys: whatever the input, fewer than the
+/// most pairs that the range allows.
+pub fn read_map_counted<
+    K: Ord + Canonical + Read<A> + Drop,
+    V: Read<A> + Drop,
+    A: Allocator + Copy,
+    C: Counter,
+>(
+    alloc: A,
+    src: &mut Source<'_>,
+    range: RangeCfg<usize>,
+    key: &K::Cfg,
+    value: &V::Cfg,
+    count: &mut C,
+) -> Result<Map<K, V, A>, Error>
+    ensures accepted { IfOk result (λ m. Accepts (map_enc K.enc V.enc)
+        (IsWritableMap K.writable K.cmp V.writable)
+        (IsAllowedMap range (K.allowed key.now) (V.allowed value.now))
+        (rest_of src.old) m (rest_of src.new)) }
+    ensures consumed { IfOk result (λ m. Consumes src.old src.new (map_enc K.enc V.enc m)) }
+    ensures refused { let text = rest_of src.old in IfErr result (Refuses
+        (MapFault K.enc K.writable K.cmp (K.allowed key.now) (K.fault key.now)
+        V.enc V.writable (V.allowed value.now) (V.fault value.now) range text)
+        (IsListMemoryFree (K.fault key.now) (K.memory_free key.now) range text)) }
+    ensures stays { OnErr result (src.new ≡ src.old) }
+    ensures cost { (most : ℕ) → ((n : ℕ) → Within range n → n ≤ most)
+        → IsOrderCost most (C.counted count.old) (C.counted count.new) }
+    ensures cost_ok { IfOk result (λ m.
+        IsOrderCost (length m) (C.counted count.old) (C.counted count.new)) }
+{
+    let mut here = *src;
+    let keys = read_set_counted::<K, A, C>(alloc, &mut here, range, key, count)?;
+    let values = read_values::<V, A>(alloc, &mut here, keys.len(), value)?;
+    *src = here;
+    Ok(Map { keys, values })
 }
 
 impl<K: Ord + Canonical, V: Canonical, A: Allocator> Canonical for Map<K, V, A> {

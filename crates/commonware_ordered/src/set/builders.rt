@@ -5,8 +5,10 @@ ghost use Rattle.commonware_base.specs.Taken.{IsMadeOf};
 ghost use Rattle.commonware_ordered.specs.Dedup.{EqualsSameItems, IsDedup};
 ghost use Rattle.commonware_ordered.specs.Whole.{IsRefusedFor, IsSetOfAll, IsWholeSet, IsWholeSetOfClones};
 
-use super::{Set, is_strict};
+use super::{Set, are_strict};
 use crate::Error;
+use crate::counter::Uncounted;
+use crate::hidden::Hidden;
 use crate::kept::{all_kept, keep, room};
 use commonware_base::{EqClone, TryFromIterator};
 use std::alloc::{AllocError, Allocator};
@@ -39,7 +41,7 @@ impl<T: Ord + Drop, A: Allocator + Copy> Set<T, A> {
     pub fn try_from_vec(vec: Vec<T, A>) -> Result<Self, Error>
         ensures { IsWholeSet T.eq T.cmp vec.items result }
     {
-        if is_strict(vec.as_slice()) {
+        if are_strict(&Hidden::new(vec.as_slice()), &mut Uncounted) {
             return Ok(Set { items: vec });
         }
         let alloc = *vec.allocator();

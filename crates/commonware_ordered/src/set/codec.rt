@@ -1,15 +1,19 @@
 //! The encoding of a set, which is that of the list of its items.
-ghost use Rattle.std.specs.Prelude.{◌≡◌, ◌+◌, ◌*◌, ◌<◌, ◌≤◌, ◌^◌, ℕ, List, OnErr, IfOk, IfErr, length};
+ghost use Rattle.std.specs.Prelude.{◌≡◌, ◌+◌, ◌-◌, ◌*◌, ◌<◌, ◌≤◌, ◌^◌, ℕ, List, OnErr, IfOk, IfErr, length};
 ghost use Rattle.commonware_base.specs.Fault.{Fault};
 ghost use Rattle.commonware_base.specs.Lists.{list_enc, IsAllowedList, IsListMemoryFree};
 ghost use Rattle.commonware_base.specs.laws.ListLaws.{list_bytes};
+ghost use Rattle.commonware_base.specs.Range.{Within};
 ghost use Rattle.commonware_base.specs.Refusal.{Refuses};
 ghost use Rattle.commonware_base.specs.Source.{rest_of, Consumes};
 ghost use Rattle.commonware_base.specs.Varint.{varint_size};
+ghost use Rattle.commonware_ordered.specs.Costs.{IsOrderCost};
 ghost use Rattle.commonware_ordered.specs.Sets.{IsWritableSet, SetFault, set_case};
 ghost use Rattle.commonware_ordered.specs.laws.SetLaws.{set_prefix_free, set_laws, set_canonical};
 
-use super::{Set, is_strict};
+use super::{Set, are_strict};
+use crate::counter::{Counter, Uncounted};
+use crate::hidden::Hidden;
 use commonware_base::codec::{
     Canonical, EncodeSize, Error, MaxEncodeSize, RangeCfg, Read, Source, UInt, Write, read_list,
 };
@@ -53,7 +57,7 @@ impl<T: Ord + Canonical + Read<A> + Drop, A: Allocator + Copy> Read<A> for Set<T
         T.matches_eq T.canonical (T.allowed c.1) (T.fault c.1) c.0 (T.read_laws alloc c.1) };
 
     fn read_cfg(alloc: A, src: &mut Source<'_>, cfg: &Self::Cfg) -> Result<Set<T, A>, Error> {
-        read_set::<T, A>(alloc, src, cfg.0, &cfg.1)
+        read_set_counted::<T, A, Uncounted>(alloc, src, cfg.0, &cfg.1, &mut Uncounted)
     }
 }
 
@@ -95,11 +99,15 @@ pub fn set_fault_law<T: Ord + Canonical + Read<A>, A: Allocator>(
 
 /// Decodes a set under a range for its length and a configuration for its items. The order is
 /// checked once the whole list is read, so a fault of a later item comes before that of the order.
-pub fn read_set<T: Ord + Canonical + Read<A> + Drop, A: Allocator + Copy>(
+///
+/// It counts its comparisons of items: whatever the input, they are fewer than the most items that
+/// the range allows, and none where the input doesn't begin with such a list.
+pub fn read_set_counted<T: Ord + Canonical + Read<A> + Drop, A: Allocator + Copy, C: Counter>(
     alloc: A,
     src: &mut Source<'_>,
     range: RangeCfg<usize>,
     item: &T::Cfg,
+    count: &mut C,
 ) -> Result<Set<T, A>, Error>
     ensures consumed { IfOk result (λ v. Consumes src.old src.new (list_enc T.enc v)) }
     ensures writable { IfOk result (IsWritableSet T.writable T.cmp) }
@@ -108,10 +116,14 @@ pub fn read_set<T: Ord + Canonical + Read<A> + Drop, A: Allocator + Copy>(
         (SetFault T.enc T.writable T.cmp (T.allowed item.now) (T.fault item.now) range text)
         (IsListMemoryFree (T.fault item.now) (T.memory_free item.now) range text)) }
     ensures stays { OnErr result (src.new ≡ src.old) }
+    ensures cost { (most : ℕ) → ((n : ℕ) → Within range n → n ≤ most)
+        → IsOrderCost most (C.counted count.old) (C.counted count.new) }
+    ensures cost_ok { IfOk result (λ v.
+        IsOrderCost (length v) (C.counted count.old) (C.counted count.new)) }
 {
     let mut here = *src;
     let items = read_list::<T, A>(alloc, &mut here, range, item)?;
-    if !is_strict(items.as_slice()) {
+    if !are_strict(&Hidden::new(items.as_slice()), count) {
         return Err(Error::Invalid("Set", "items must be sorted and unique"));
     }
     *src = here;

@@ -1,7 +1,7 @@
 use Rattle.std.proofs.Common.{◌≤◌, ◌*◌, ◌/◌, sym, ap, ◌∙◌, arith}
-use Rattle.std.proofs.lemmas.List.{get_or_default}
+use Rattle.commonware_ordered.specs.Hidden.{items_of}
+use Rattle.commonware_ordered.proofs.SearchCosts.{left_by_quarter, cost_of_quarters}
 use Rattle.commonware_ordered.proofs.Narrowing.{quartered_within, passed_at_most, none_from_only}
-use Rattle.std.proofs.lemmas.Grind.{common_steps}
 use Rattle.commonware_ordered.proofs.search.narrowed.Goals as goal
 
 pub loop-size-preserved : goal.loop-size-preserved
@@ -16,18 +16,31 @@ loop-size-preserved g c =
       λ k there h.
           let p = c.loop-size.invariant.1 k there h in
           quartered_within base size quarter k c.reached.result c.reached-in-loop-size.result c.reached-in-loop-size-2.result room (c.reached.ensures.value k there h) (c.reached-in-loop-size.ensures.value k there h) (c.reached-in-loop-size-2.ensures.value k there h) p.0 p.1,
+      λ k few. left_by_quarter (g.C.Counter.counted c.args.count.now) (g.C.Counter.counted c.loop-size.count) (g.C.Counter.counted c.reached.new.count) (g.C.Counter.counted c.reached-in-loop-size.new.count) (g.C.Counter.counted c.reached-in-loop-size-2.new.count) size k c.reached.ensures.cost c.reached-in-loop-size.ensures.cost c.reached-in-loop-size-2.ensures.cost c.loop-size-test.true (c.loop-size.invariant.2 k few),
     )
 
-pub returns-then-place-items : goal.returns-then-place-items
-returns-then-place-items g c =
-    none_from_only g.T.PartialEq.eq c.args.items.now c.args.item.now c.last_steps-place.result c.last_steps-place.ensures (λ within d. let past = c.if-place-items.true in absurd (omega arith))
+pub returns-then-place-len-clause-place : goal.returns-then-place-len-clause-place
+returns-then-place-len-clause-place g c =
+    none_from_only g.T.PartialEq.eq (items_of c.args.items.now) c.args.item.now c.last_steps-place.result c.last_steps-place.ensures.place (λ within d. let past = c.if-place-len.true in let all = c.len.ensures in absurd (omega arith))
 
-pub returns-else-eq : goal.returns-else-eq
-returns-else-eq g c =
-    let xs = c.args.items.now in
-    let at = c.index-items-place in
-    none_from_only g.T.PartialEq.eq xs c.args.item.now c.last_steps-place.result c.last_steps-place.ensures
-    (λ within d. ap (λ y. g.T.PartialEq.eq y c.args.item.now) (get_or_default xs c.last_steps-place.result d at.result within ∙ sym at.is) ∙ (sym c.eq.ensures ∙ c.if-eq.false))
+pub returns-then-place-len-clause-cost : goal.returns-then-place-len-clause-cost
+returns-then-place-len-clause-cost g c = λ k few.
+    let halves = cost_of_quarters (g.C.Counter.counted c.args.count.now) (g.C.Counter.counted c.loop-size.count) c.loop-size.size k (g.C.Counter.counted c.last_steps-place.new.count) (omega (arith, c.loop-size-test.false)) (c.loop-size.invariant.2 k few) c.last_steps-place.ensures.cost in
+    omega arith
 
-pub returns-then-eq : goal.returns-then-eq
-returns-then-eq g c = grind (arith, common_steps)
+pub returns-then-eq_at-clause-cost : goal.returns-then-eq_at-clause-cost
+returns-then-eq_at-clause-cost g c = λ k few.
+    let halves = cost_of_quarters (g.C.Counter.counted c.args.count.now) (g.C.Counter.counted c.loop-size.count) c.loop-size.size k (g.C.Counter.counted c.last_steps-place.new.count) (omega (arith, c.loop-size-test.false)) (c.loop-size.invariant.2 k few) c.last_steps-place.ensures.cost in
+    let one = c.eq_at.ensures.cost in
+    omega arith
+
+pub returns-else-eq_at-clause-place : goal.returns-else-eq_at-clause-place
+returns-else-eq_at-clause-place g c =
+    none_from_only g.T.PartialEq.eq (items_of c.args.items.now) c.args.item.now c.last_steps-place.result c.last_steps-place.ensures.place
+    (λ within d. sym (c.eq_at.ensures.value d) ∙ c.if-eq_at.false)
+
+pub returns-else-eq_at-clause-cost : goal.returns-else-eq_at-clause-cost
+returns-else-eq_at-clause-cost g c = λ k few.
+    let halves = cost_of_quarters (g.C.Counter.counted c.args.count.now) (g.C.Counter.counted c.loop-size.count) c.loop-size.size k (g.C.Counter.counted c.last_steps-place.new.count) (omega (arith, c.loop-size-test.false)) (c.loop-size.invariant.2 k few) c.last_steps-place.ensures.cost in
+    let one = c.eq_at.ensures.cost in
+    omega arith

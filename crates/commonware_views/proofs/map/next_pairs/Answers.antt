@@ -17,16 +17,16 @@ use Rattle.commonware_views.specs.Sets.{key_set_fault}
 use Rattle.commonware_views.proofs.map.next_pairs.Goals as goal
 
 pub returns-in_err-keys-clause-refused : goal.returns-in_err-keys-clause-refused
-returns-in_err-keys-clause-refused c =
+returns-in_err-keys-clause-refused g c =
     let text = rest_of c.args.src.now in
     err_along c.from_residual.result c.in_err-keys.field-0.0 _ c.from_residual.ensures.1
     (refuses_from (key_set_fault c.args.key_size c.args.range text) (sized_map_fault c.args.key_size c.args.value_size c.args.range text) (Unit {0}) (Unit {0})
     (λ f w. bad_first w) (λ never. never) c.in_err-keys.field-0.0 c.in_err-keys.ensures.refused)
 
 pub returns-in_err-values-clause-refused : goal.returns-in_err-values-clause-refused
-returns-in_err-values-clause-refused c =
+returns-in_err-values-clause-refused g c =
     let text = rest_of c.args.src.now in
-    let after = rest_of c.read.new.src in
+    let after = rest_of c.read_counted.new.src in
     let keys = c.in_ok-keys.keys in
     let range : c.exact.result ≡ exactly (length keys) = c.exact.ensures.bounds ∙ ap exactly c.len.ensures in
     err_along c.from_residual-in_err-values.result c.in_err-values.field-0.0 _ c.from_residual-in_err-values.ensures.1
@@ -35,10 +35,10 @@ returns-in_err-values-clause-refused c =
     (subst (λ r. Refuses (list_fault c.args.value_size r after) (Unit {0}) c.in_err-values.field-0.0) range c.in_err-values.ensures.refused))
 
 pub returns-clause-accepted : goal.returns-clause-accepted
-returns-clause-accepted c =
+returns-clause-accepted g c =
     let old = c.args.src.now in
-    let mid = c.read.new.src in
-    let new = c.read-2.new.src in
+    let mid = c.read_counted.new.src in
+    let new = c.read.new.src in
     let ks = c.args.key_size in
     let vs = c.args.value_size in
     let keys = c.in_ok-keys.keys in
@@ -51,11 +51,11 @@ returns-clause-accepted c =
     set.writable set.allowed list.writable allowed set.begins list.begins
 
 pub returns-clause-consumed : goal.returns-clause-consumed
-returns-clause-consumed c =
+returns-clause-consumed g c =
     let keys = c.in_ok-keys.keys in
     let values = c.in_ok-values.values in
     let range : c.exact.result ≡ exactly (length keys) = c.exact.ensures.bounds ∙ ap exactly c.len.ensures in
     let allowed : IsAllowedList (exactly (length keys)) Any values = subst (λ r. IsAllowedList r Any values) range c.in_ok-values.ensures.accepted.allowed in
     let even = as_many Any (length keys) values allowed in
-    let both = consumes_both c.args.src.now c.read.new.src c.read-2.new.src (list_enc own_bytes keys) (list_enc own_bytes values) c.in_ok-keys.ensures.consumed c.in_ok-values.ensures.consumed in
-    subst₂ (λ ks vs. Consumes c.args.src.now c.read-2.new.src (list_enc own_bytes ks ++ list_enc own_bytes vs)) (sym (keys_of-zip keys values even)) (sym (values_of-zip keys values even)) both
+    let both = consumes_both c.args.src.now c.read_counted.new.src c.read.new.src (list_enc own_bytes keys) (list_enc own_bytes values) c.in_ok-keys.ensures.consumed c.in_ok-values.ensures.consumed in
+    subst₂ (λ ks vs. Consumes c.args.src.now c.read.new.src (list_enc own_bytes ks ++ list_enc own_bytes vs)) (sym (keys_of-zip keys values even)) (sym (values_of-zip keys values even)) both

@@ -4,14 +4,14 @@ use Rattle.commonware_views.proofs.Chunks.{chunks_count}
 use Rattle.commonware_views.proofs.Rising.{both_rise, less_from_test, one_more_rises}
 use Rattle.commonware_views.proofs.order.are_strict.Goals as goal
 
-pub returns-then-count-lt2 : goal.returns-then-count-lt2
-returns-then-count-lt2 c = (
+pub returns-then-count-lt2-clause-strict : goal.returns-then-count-lt2-clause-strict
+returns-then-count-lt2-clause-strict g c = (
   (λ _ k d h. absurd (omega (arith, h, chunks_count c.args.size c.args.count c.args.bytes.now, c.if-count-lt2.true))),
   (λ _. refl),
 )
 
-pub returns-in-Some-2 : goal.returns-in-Some-2
-returns-in-Some-2 c = (
+pub returns-in-Some-2-clause-strict : goal.returns-in-Some-2-clause-strict
+returns-in-Some-2-clause-strict g c = (
   (λ t. absurd (cc)),
   (λ strict.
       let here = c.new-item.ensures ∙ c.item_at-in-loop-i.ensures in
@@ -22,7 +22,7 @@ returns-in-Some-2 c = (
 )
 
 pub loop-i-preserved : goal.loop-i-preserved
-loop-i-preserved c =
+loop-i-preserved g c =
     let size = c.args.size in
     let i = c.loop-i.i in
     let s = c.args.bytes.now in
@@ -34,10 +34,18 @@ loop-i-preserved c =
       omega (arith, c.loop-i-test.true),
       here ∙ ap (λ n. take size (drop (n * size) s)) back,
       one_more_rises size c.args.count i s c.loop-i.last item c.loop-i.invariant.0 c.loop-i-test.true c.loop-i.invariant.2 here less c.loop-i.invariant.3,
+      (let a = c.order_by_prefix.ensures.cost in let h = c.loop-i.invariant.4 in omega arith),
     )
 
-pub returns : goal.returns
-returns c = (
+pub returns-clause-strict : goal.returns-clause-strict
+returns-clause-strict g c = (
   (λ _ k d h. c.loop-i.invariant.3 k d (omega (arith, h, chunks_count c.args.size c.args.count c.args.bytes.now, c.loop-i-test.false))),
   (λ _. refl),
 )
+
+pub returns-in-None-clause-stops : goal.returns-in-None-clause-stops
+returns-in-None-clause-stops g c = λ k inside faulty.
+    let rest = c.are_strict_from.ensures.stops k inside faulty in
+    let one = c.order_by_prefix.ensures.cost in
+    let h = c.loop-i.invariant.4 in
+    omega arith

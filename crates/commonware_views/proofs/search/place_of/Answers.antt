@@ -9,6 +9,7 @@ use Rattle.std.proofs.lemmas.Map.Lookups.{exact_bytes}
 use Rattle.std.proofs.lemmas.Option.{slice_get_read, slice_get_within, get_or_from_slice_get}
 use Rattle.commonware_sequence.specs.FixedBytes.{bytes_cmp}
 use Rattle.commonware_views.proofs.Chunks.{chunk_at, chunk_inside, chunks_count}
+use Rattle.commonware_views.proofs.Halving.{left_by_halving, halving_at_first, found_by_halving, cost_of_halving}
 use Rattle.commonware_views.proofs.NoGap.{not_in_gap, same_place}
 use Rattle.commonware_views.specs.Lists.{IsGapFor}
 use Rattle.commonware_views.proofs.search.place_of.Goals as goal
@@ -23,13 +24,13 @@ inside : (low high n : ℕ) → low < high → high ≤ n → low + (high - low)
 inside low high n some within = omega (arith, some, within)
 
 pub item_at-requires : goal.item_at-requires
-item_at-requires c =
+item_at-requires g c =
     let middle = c.loop-low.low + (c.loop-low.high - c.loop-low.low) / 2 in
     let within = inside c.loop-low.low c.loop-low.high c.args.count c.loop-low-test.true c.loop-low.invariant.1 in
     omega (arith, chunk_inside c.args.size c.args.count middle within, c.requires)
 
 pub loop-low-preserved-in-Less : goal.loop-low-preserved-in-Less
-loop-low-preserved-in-Less c =
+loop-low-preserved-in-Less g c =
     let size = c.args.size in
     let count = c.args.count in
     let s = c.args.bytes.now in
@@ -41,12 +42,13 @@ loop-low-preserved-in-Less c =
       c.loop-low.invariant.1,
       (λ _ d. subst (λ n. bytes_cmp (get_or items n d) c.new-key.result ≡ Less) back
           (ap (λ k. bytes_cmp k c.new-key.result) (chunk_at size count middle s d within ∙ sym c.item_at.ensures ∙ sym c.new-item.ensures)
-          ∙ sym c.order.ensures ∙ c.in-Less.is)),
+          ∙ sym c.order.ensures.value ∙ c.in-Less.is)),
       c.loop-low.invariant.3,
+      λ k few. left_by_halving (g.C.Counter.counted c.args.counter.now) (g.C.Counter.counted c.loop-low.counter) (g.C.Counter.counted c.order.new.counter) (c.loop-low.high - c.loop-low.low) (c.loop-low.high - (middle + 1)) k c.order.ensures.cost (omega (arith, c.loop-low-test.true)) (omega (arith, c.loop-low-test.true)) (c.loop-low.invariant.4 k few),
     )
 
 pub loop-low-preserved : goal.loop-low-preserved
-loop-low-preserved c =
+loop-low-preserved g c =
     let size = c.args.size in
     let count = c.args.count in
     let s = c.args.bytes.now in
@@ -56,11 +58,12 @@ loop-low-preserved c =
       omega (arith, within),
       c.loop-low.invariant.2,
       (λ _ d. ap (λ k. bytes_cmp k c.new-key.result) (chunk_at size count middle s d within ∙ sym c.item_at.ensures ∙ sym c.new-item.ensures)
-          ∙ sym c.order.ensures ∙ c.in-Greater.is),
+          ∙ sym c.order.ensures.value ∙ c.in-Greater.is),
+      λ k few. left_by_halving (g.C.Counter.counted c.args.counter.now) (g.C.Counter.counted c.loop-low.counter) (g.C.Counter.counted c.order.new.counter) (c.loop-low.high - c.loop-low.low) (middle - c.loop-low.low) k c.order.ensures.cost (omega (arith, c.loop-low-test.true)) (omega (arith, c.loop-low-test.true)) (c.loop-low.invariant.4 k few),
     )
 
 pub returns-in-Equal-clause-found : goal.returns-in-Equal-clause-found
-returns-in-Equal-clause-found c =
+returns-in-Equal-clause-found g c =
     let size = c.args.size in
     let count = c.args.count in
     let s = c.args.bytes.now in
@@ -68,21 +71,21 @@ returns-in-Equal-clause-found c =
     let key = c.args.key.now in
     let middle = c.loop-low.low + (c.loop-low.high - c.loop-low.low) / 2 in
     let within = inside c.loop-low.low c.loop-low.high count c.loop-low-test.true c.loop-low.invariant.1 in
-    let same : c.new-item.result ≡ key = exact_bytes _ c.new-key.result (sym c.order.ensures ∙ c.in-Equal.is) ∙ c.new-key.ensures in
+    let same : c.new-item.result ≡ key = exact_bytes _ c.new-key.result (sym c.order.ensures.value ∙ c.in-Equal.is) ∙ c.new-key.ensures in
     let item : key ≡ get_or items middle key = sym same ∙ c.new-item.ensures ∙ c.item_at.ensures ∙ sym (chunk_at size count middle s key within) in
     slice_get_read items count middle key (sym (chunks_count size count s)) within item
 
 pub returns-in-Equal-clause-exactly : goal.returns-in-Equal-clause-exactly
-returns-in-Equal-clause-exactly c = λ strict p.
+returns-in-Equal-clause-exactly g c = λ strict p.
     let items = first_chunks c.args.size c.args.count c.args.bytes.now in
-    let found = returns-in-Equal-clause-found c in
+    let found = returns-in-Equal-clause-found g c in
     let key = c.args.key.now in (
       (λ e. subst (λ n. slice_get items n ≡ Some key) (ap told_place e) found),
       (λ at. ap Ok (same_place key items strict _ p found at)),
     )
 
 pub returns-clause-absent : goal.returns-clause-absent
-returns-clause-absent c =
+returns-clause-absent g c =
     let count = c.args.count in
     let items = first_chunks c.args.size count c.args.bytes.now in
     let number = chunks_count c.args.size count c.args.bytes.now in
@@ -94,9 +97,26 @@ returns-clause-absent c =
     })
 
 pub returns-clause-exactly : goal.returns-clause-exactly
-returns-clause-exactly c = λ strict p.
+returns-clause-exactly g c = λ strict p.
     let items = first_chunks c.args.size c.args.count c.args.bytes.now in
     let key = c.args.key.now in (
       (λ never. absurd (cc)),
-      (λ at. absurd (not_in_gap key items c.loop-low.low strict (returns-clause-absent c) (p, slice_get_within items p key at, get_or_from_slice_get items p key key at))),
+      (λ at. absurd (not_in_gap key items c.loop-low.low strict (returns-clause-absent g c) (p, slice_get_within items p key at, get_or_from_slice_get items p key key at))),
     )
+
+pub loop-low-init : goal.loop-low-init
+loop-low-init g c = (
+  omega arith,
+  omega arith,
+  λ never. absurd (omega arith),
+  λ never. absurd (omega arith),
+  λ k few. halving_at_first (g.C.Counter.counted c.args.counter.now) (c.args.count - 0) k (omega (arith, few)),
+)
+
+pub returns-in-Equal-clause-cost : goal.returns-in-Equal-clause-cost
+returns-in-Equal-clause-cost g c = λ k few.
+    found_by_halving (g.C.Counter.counted c.args.counter.now) (g.C.Counter.counted c.loop-low.counter) (g.C.Counter.counted c.order.new.counter) (c.loop-low.high - c.loop-low.low) k c.order.ensures.cost
+    (omega (arith, c.loop-low-test.true)) (c.loop-low.invariant.4 k few)
+
+pub returns-clause-cost : goal.returns-clause-cost
+returns-clause-cost g c = λ k few. cost_of_halving (g.C.Counter.counted c.args.counter.now) (g.C.Counter.counted c.loop-low.counter) (c.loop-low.high - c.loop-low.low) k (c.loop-low.invariant.4 k few)

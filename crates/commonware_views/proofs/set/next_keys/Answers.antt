@@ -7,7 +7,7 @@ use Rattle.commonware_views.specs.Sets.{key_set_fault}
 use Rattle.commonware_views.proofs.set.next_keys.Goals as goal
 
 pub returns-in_err-keys-clause-refused : goal.returns-in_err-keys-clause-refused
-returns-in_err-keys-clause-refused c =
+returns-in_err-keys-clause-refused g c =
     let text = rest_of c.args.src.now in
     let size = c.args.size in
     let range = c.args.range in

@@ -1,13 +1,13 @@
-use Rattle.std.proofs.Common.{subst}
+use Rattle.std.proofs.Common.{subst, ◌∙◌}
 use Rattle.std.proofs.lemmas.List.Sorted.{IsPermutation-refl}
 use Rattle.commonware_ordered.specs.Strict.{IsStrict}
 use Rattle.commonware_ordered.proofs.Taken.{whole_set_of_vec}
 use Rattle.commonware_ordered.proofs.Whole.{whole_from_strict}
 use Rattle.commonware_ordered.proofs.set.Set.try_from_vec.Goals as goal
 
-pub returns-then-is_strict : goal.returns-then-is_strict
-returns-then-is_strict g c =
-    let strict = subst (IsStrict g.T.Ord.cmp) c.as_slice.ensures.value (c.is_strict.ensures.0 c.if-is_strict.true) in
+pub returns-then-are_strict : goal.returns-then-are_strict
+returns-then-are_strict g c =
+    let strict = subst (IsStrict g.T.Ord.cmp) (c.new.ensures ∙ c.as_slice.ensures.value) (c.are_strict.ensures.strict.0 c.if-are_strict.true) in
     whole_from_strict g.met.T.Ord.total g.met.T.Ord.matches_eq g.met.T.Eq.laws.symm c.args.vec.items c.args.vec.items (IsPermutation-refl c.args.vec.items) strict
 
 pub returns : goal.returns

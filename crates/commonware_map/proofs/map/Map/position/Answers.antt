@@ -1,4 +1,0 @@
-use Rattle.commonware_map.proofs.map.Map.position.Goals as goal
-
-pub returns-clause-only : goal.returns-clause-only
-returns-clause-only g c = λ p. rw (← c.keys.ensures) (c.position.ensures.only p)

@@ -1,7 +1,0 @@
-use Rattle.std.proofs.Common.{◌∙◌}
-use Rattle.commonware_ordered.specs.laws.PlaceLaws.{found-place}
-use Rattle.commonware_ordered.proofs.set.Set.contains.Goals as goal
-
-pub returns-clause-value : goal.returns-clause-value
-returns-clause-value g c =
-    c.is_some.ensures ∙ found-place g.T.PartialEq.eq _ c.args.item.now _ c.position.ensures.place
