@@ -17,10 +17,11 @@ OUTPUTS = pathlib.Path(__file__).resolve().parents[2] / "prover_outputs"
 
 def cases():
     """Returns the cases of each output: their name, their lines, the function before and after, and the output."""
-    for path in sorted(OUTPUTS.glob("*/*.case")):
-        head, was, now = re.fullmatch(r"(.*?)was:\n(.*?)now:\n(.*)", path.read_text(), re.S).groups()
-        given = dict(line.split(": ", 1) for line in head.splitlines())
-        yield f"{path.parent.name}/{path.stem}", given, was, now, (path.parent / "output").read_text()
+    for path in sorted(OUTPUTS.glob("*/cases")):
+        for case in re.split(r"(?m)^== ", path.read_text())[1:]:
+            name, head, was, now = re.fullmatch(r"(.*?)\n(.*?)was:\n(.*?)now:\n(.*?)\n*", case, re.S).groups()
+            given = dict(line.split(": ", 1) for line in head.splitlines())
+            yield f"{path.parent.name}/{name}", given, was, now + "\n", (path.parent / "output").read_text()
 
 
 def read(given, was, now, output, is_all_reached=False):
