@@ -11,7 +11,7 @@ MODULES = ["varints", "containers", "builders", "models", "certificates", "weigh
 MODULES += ["questions", "answers"]
 SOURCES = {name: (HERE / f"{name}.py").read_text() for name in MODULES}
 BLOCK = re.compile(
-    r"== (?P<name>.+)\nfile: (?P<module>\w+)\.py\nbreaks: (?P<sentence>.+(?:\n  .+)*)\n"
+    r"== (?P<name>.+)\n(?:file: (?P<module>\w+)\.py\n)?(?:breaks: (?P<sentence>.+(?:\n  .+)*)\n)?"
     r"(?P<old>(?:-.*\n)+)(?P<new>(?:\+.*\n)+)"
 )
 
@@ -19,13 +19,14 @@ BLOCK = re.compile(
 def read_mutations():
     """Returns the mutations by their names: module, sentence, old and new lines."""
     text = re.sub(r"(?m)^#.*\n", "", (HERE / "mutations.txt").read_text())
-    found = {}
+    found, last = {}, {}
     for block in text.strip("\n").split("\n\n"):
         parts = BLOCK.fullmatch(block + "\n")
         if not parts or parts["name"] in found:
             raise ValueError(f"no mutation, or one of a name that is there: {block}")
-        found[parts["name"]] = parts.groupdict()
-        found[parts["name"]]["sentence"] = " ".join(parts["sentence"].split())
+        # Without a line for it, a mutation has the file, or the sentence, of the one before.
+        last = {**last, **{word: it for word, it in parts.groupdict().items() if it}}
+        found[last["name"]] = {**last, "sentence": " ".join(last["sentence"].split())}
     return found
 
 

@@ -1,0 +1,137 @@
+"""Reads the mutations of a crate.
+
+wrong-bodies/SOURCE.edits has those of one source: a line 'file: PATH', and of each mutation a line '[NAME]', a line
+'function: PATH', as rt check prints it, that names the function to be refused, and pairs of lines 'old: TEXT' and 'new: TEXT',
+which are read as those of a must-fail edit. A mutation of what is in no function has no line 'function:'. wrong-bodies/NAME.answers
+has answers for the goals of that mutation.
+"""
+import copy
+import hashlib
+import os
+import re
+
+from . import paths
+from .source import FUNCTION, attributes, is_plain, parts
+
+
+class Edit:
+    """A mutation: its function, the part of a file that this is (place) and what it becomes; or else a whole text.
+
+    The function to be refused may be a copy of that which the line names (of)."""
+
+    def __init__(self, name, file, function, pairs, folder, answers=""):
+        self.name, self.file, self.of, self.function, self.place = name, file, function, function, None
+        # Answers of its own, and those of its function that are left out, with the verdict on it with them.
+        self.answers, self.left_out, self.verdict = answers, frozenset(), None
+        self.key = hashlib.sha256(repr((file, function, pairs, answers)).encode()).hexdigest()
+        was = self.text = (folder / file).read_text()
+        for old, new in pairs:
+            if self.text.count(old) != 1:
+                raise ValueError(f"an old text is in {file} {self.text.count(old)} times, and not once")
+            self.text = self.text.replace(old, new)
+        if self.text == was:
+            raise ValueError("it changes nothing")
+        if function:
+            self.place_in(parts(was), parts(self.text))
+
+    def place_in(self, was, now):
+        """Notes which part of the file the edit changes, which must be its function's."""
+        at = len(os.path.commonprefix([was, now]))
+        below = len(os.path.commonprefix([was[at:][::-1], now[at:][::-1]]))
+        head = FUNCTION.match(was[at]) if at + 1 + below == len(was) else None
+        if not head or head[1] != self.function.split("::")[-1]:
+            raise ValueError(f"what it changes in {self.file} is not all in one function {self.function}")
+        self.place, self.part, self.was = (self.file, at), "".join(now[at : len(now) - below]), was[at]
+        self.is_plain, self.attributes = is_plain("".join(was[:at]), was[at]), attributes(was[at - 1])
+
+    def moved(self, number):
+        """Returns the same of a copy of the function, which has a name of its own and stands below it, or of itself, at 0."""
+        found = copy.copy(self)
+        found.function = f"{self.of}_{number}" if number else self.of
+        return found
+
+    def without(self, verdict):
+        """Returns the same without the answers by which alone a verdict refuses it."""
+        found = copy.copy(self)
+        found.function, found.left_out, found.verdict = self.of, verdict.by_answers, verdict
+        return found
+
+    def change(self):
+        """Returns what it changes, where it has been written to a file (line)."""
+        return paths.Change(self.was, self.part, self.file, self.line) if self.function else None
+
+
+def is_copy(edit):
+    """Tells whether what is edited is a copy of a function."""
+    return edit.of != edit.function
+
+
+def read(text):
+    """Returns the file that the mutations of this text change, and of each its name, its function and its pairs of texts."""
+    file, found, old = None, [], None
+    for line in filter(str.strip, text.splitlines()):
+        name = re.fullmatch(r"\[(\w+)\]", line)
+        word, _, rest = line.partition(":")
+        rest = rest.removeprefix(" ")
+        if old is not None and word != "new":
+            raise ValueError(f"an old text without a new one: {old}")
+        if name and file:
+            found.append((name[1], None, []))
+        elif word == "file" and file is None and not found and re.fullmatch(r"src/[\w/]+\.rt", rest):
+            file = rest
+        elif word == "function" and found and not any(found[-1][1:]):
+            found[-1] = (found[-1][0], rest, [])
+        elif word == "old" and found:
+            old = rest
+        elif word == "new" and old is not None:
+            found[-1][2].append((old, rest))
+            old = None
+        else:
+            raise ValueError(f"a line that is not read: {line}")
+    if file is None or old is not None or not all(it[2] for it in found):
+        raise ValueError("it lacks its line file:, or a mutation lacks a pair of texts")
+    return file, found
+
+
+def name_of(file):
+    """Returns the name of the file with the mutations of a source."""
+    return file.removeprefix("src/").removesuffix(".rt").replace("/", "_") + ".edits"
+
+
+def edits(folder, tell):
+    """Returns the mutations of the crate in this folder, and tells of those that can't be applied."""
+    found, seen = [], set()
+    for path in sorted((folder / "wrong-bodies").iterdir()):
+        if path.suffix == ".answers":
+            continue
+        try:
+            file, mutations = read(path.read_text())
+            if path.name != name_of(file):
+                raise ValueError(f"the mutations of {file} stand in {name_of(file)}")
+        except (OSError, ValueError) as error:
+            tell(path.name, False, f"not applicable: {error}")
+            continue
+        for name, function, pairs in mutations:
+            answers = path.with_name(f"{name}.answers")
+            try:
+                if name in seen:
+                    raise ValueError("another mutation of this crate has its name")
+                seen.add(name)
+                found.append(Edit(name, file, function, pairs, folder, answers.read_text() if answers.exists() else ""))
+            except (OSError, ValueError) as error:
+                tell(name, False, f"not applicable: {error}")
+    for path in sorted((folder / "wrong-bodies").glob("*.answers")):
+        if path.stem not in seen:
+            tell(path.name, False, "not applicable: no mutation has its name")
+    return found
+
+
+def is_named(edit, crate, words):
+    """Tells whether one of these words names a mutation: its crate, crate/NAME, or words of its function's path, side by side."""
+    path = (edit.of or crate).split("::")
+    for word in words:
+        first, *rest = word.split("::")
+        inner = [path[at : at + len(rest)] for at in range(1, len(path))]
+        if word in (crate, f"{crate}/{edit.name}") or first == crate and rest in inner:
+            return True
+    return False

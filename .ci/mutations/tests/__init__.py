@@ -1,0 +1,1 @@
+"""Tests of how mutations are read, put into copies, tried and judged, without the prover."""

@@ -1,0 +1,54 @@
+"""Tests how mutations are read."""
+import unittest
+
+from .. import edits
+from .crates import EDITS, crate
+
+
+def read(text):
+    """Returns the mutations of a small crate with these, and what is told of those that can't be applied."""
+    told = []
+    with crate(text) as folder:
+        return edits.edits(folder, lambda *words: told.append(words)), told
+
+
+class Read(unittest.TestCase):
+    def test_mutations_of_a_source(self):
+        (first, second), told = read(EDITS)
+        self.assertEqual((first.name, second.name, told), ("first_is_the_second", "first_is_none", []))
+        self.assertEqual((first.file, first.function), ("src/pairs/pair.rt", "small::pairs::pair::Pair::first"))
+        self.assertIn("let first = self.1;", first.part)
+        self.assertIn("let first = self.0;", first.was)
+        self.assertEqual([it.strip() for it in first.attributes], ["#[inline]"])
+        self.assertTrue(first.is_plain)
+
+    def test_keys_go_by_the_meaning_and_not_by_the_name(self):
+        first, second = read(EDITS)[0]
+        renamed = read(EDITS.replace("[first_is_the_second]", "[other]"))[0][0]
+        self.assertEqual(first.key, renamed.key)
+        self.assertNotEqual(first.key, second.key)
+
+    def test_what_can_not_be_applied(self):
+        for old, new, why in [
+            ("old: let first = self.0;", "old: self.0", "3 times, and not once"),
+            ("new: let first = self.1;", "new: let first = self.0;", "it changes nothing"),
+            ("Pair::first\nold: let", "Pair::sum\nold: let", "not all in one function"),
+            ("[first_is_none]", "[first_is_the_second]", "another mutation of this crate has its name"),
+            ("new: let first = self.1;\n", "", "an old text without a new one"),
+            ("[first_is_none]", "first_is_none", "a line that is not read"),
+            ("file: src/pairs/pair.rt", "file: src/pair.rt", "stand in pair.edits"),
+            ("file: src/pairs/pair.rt", "", "a line that is not read"),
+            ("function: small::pairs::pair::Pair::first\nold: first = self.0\nnew: first = 0\n", "", "lacks a pair of texts"),
+        ]:
+            with self.subTest(why):
+                self.assertIn(old, EDITS)
+                told = read(EDITS.replace(old, new, 1))[1]
+                self.assertIn(why, told[0][2])
+                self.assertFalse(told[0][1])
+
+    def test_names(self):
+        edit = read(EDITS)[0][0]
+        for word in ("small", "small/first_is_the_second", "small::Pair::first", "small::first", "small::pairs::pair"):
+            self.assertTrue(edits.is_named(edit, "small", [word]), word)
+        for word in ("smaller", "small/first_is_none", "small::Pair::sum", "small::Pair::fir", "small::pairs::Pair", "first"):
+            self.assertFalse(edits.is_named(edit, "small", [word]), word)
