@@ -1,15 +1,15 @@
 //! The program from its arguments to its exit status.
-ghost use Rattle.std.specs.Prelude.{◌≡◌, ◌≢◌, ◌≤◌, true, false, IfErr};
+ghost use Rattle.std.specs.Prelude.{◌≡◌, ◌≢◌, ◌≤◌, ◌⊎◌, true, false, IfErr};
 ghost use Rattle.std.specs.Io.KnownBytes.{Appends};
-ghost use Rattle.program_io.specs.Arguments.{HasWords};
+ghost use Rattle.program_io.specs.Arguments.{AreNotUnicode, HasWords};
 ghost use Rattle.program_io.specs.Streams.{Gave};
 ghost use Rattle.committee_core.specs.Command.{AskForNone, IsAskedFor};
 ghost use Rattle.committee_core.specs.Run.{IsDone, IsRefused};
 
 use crate::command::Command;
 use crate::error::RunError;
-use crate::sessions::{refuse, session};
-use program_io::{Watched, after_first, take_arguments};
+use crate::sessions::{misuse, refuse, session};
+use program_io::{NotTaken, Watched, after_first, take_arguments};
 use std::alloc::Allocator;
 use std::env::Args;
 use std::io::{Read, Write};
@@ -19,8 +19,9 @@ use std::{env, io};
 /// Runs the session of the words that follow the first argument, which is the program's name, and
 /// returns its exit status.
 ///
-/// Where the arguments can't be taken, for whatever cause, it writes the line of an allocation
-/// failure, and the status is 3.
+/// Where an argument is no UTF-8 text, it does what it does for words that give no command: it
+/// writes the usage line, and the status is 2. Where the arguments can't be taken for any other
+/// cause, it writes the line of an allocation failure, and the status is 3.
 pub fn start<A: Allocator + Copy, R: Read, W: Write, E: Write>(
     alloc: A,
     arguments: io::Result<Args<A>>,
@@ -35,10 +36,11 @@ pub fn start<A: Allocator + Copy, R: Read, W: Write, E: Write>(
         IsRefused (Gave (R.remaining input.old.inner) (R.remaining input.new.inner))
         × (output.new ≡ output.old) }
     ensures asked { result ≤ 1 → HasWords arguments (λ words. ¬ AskForNone words) }
-    ensures usage { result ≡ 2 → HasWords arguments AskForNone }
+    ensures usage { result ≡ 2 → AreNotUnicode arguments ⊎ HasWords arguments AskForNone }
+    ensures not_unicode { AreNotUnicode arguments → result ≡ 2 }
     ensures untouched { result ≡ 2 → (input.new ≡ input.old) × (output.new ≡ output.old) }
-    ensures not_taken { IfErr arguments (λ _.
-        (result ≡ 3) × (input.new ≡ input.old) × (output.new ≡ output.old)) }
+    ensures not_taken { IfErr arguments (λ _. (¬ AreNotUnicode arguments → result ≡ 3)
+        × (input.new ≡ input.old) × (output.new ≡ output.old)) }
     ensures statuses { result ≤ 3 }
 
     // The devices.
@@ -50,8 +52,9 @@ pub fn start<A: Allocator + Copy, R: Read, W: Write, E: Write>(
     ensures write_failed { output.old.failed ≡ false → output.new.failed ≡ true → result ≡ 3 }
 {
     match take_arguments(alloc, arguments) {
-        Some(texts) => session(alloc, after_first(&texts), input, output, errors),
-        None => refuse(errors, &RunError::Memory),
+        Ok(texts) => session(alloc, after_first(&texts), input, output, errors),
+        Err(NotTaken::NotUnicode) => misuse(errors),
+        Err(NotTaken::Memory) => refuse(errors, &RunError::Memory),
     }
 }
 

@@ -48,13 +48,21 @@ pub fn session<A: Allocator + Copy, R: Read, W: Write, E: Write>(
     ensures write_failed { output.old.failed ≡ false → output.new.failed ≡ true → result ≡ 3 }
 {
     let Some(command) = parse_args(words) else {
-        say(errors, &"usage: committee read, or committee bounds <n>");
-        return 2;
+        return misuse(errors);
     };
     match run(alloc, command, input, output) {
         Ok(()) => 0,
         Err(error) => refuse(errors, &error),
     }
+}
+
+/// Writes the line on the words that there are to `errors`, and returns the exit status of other
+/// words.
+pub(crate) fn misuse<E: Write>(errors: &mut E) -> u8
+    ensures { result ≡ 2 }
+{
+    say(errors, &"usage: committee read, or committee bounds <n>");
+    2
 }
 
 /// Writes why there is no report to `errors`, and returns the exit status.

@@ -52,17 +52,24 @@ pub fn session<A: Allocator + Copy, R: Read, W: Write, E: Write>(
     ensures write_failed { output.old.failed ≡ false → output.new.failed ≡ true → result ≡ 3 }
 {
     let Some(command) = parse_args(words) else {
-        say(
-            errors,
-            &"usage: judge, judge --number, judge types, judge --help, or judge --version",
-        );
-        return 2;
+        return misuse(errors);
     };
     match run(alloc, command, input, output, errors) {
         Ok(true) => 0,
         Ok(false) => 1,
         Err(failure) => fail(errors, failure),
     }
+}
+
+/// Says which words there are, and returns the exit status of others.
+pub(crate) fn misuse<E: Write>(errors: &mut E) -> u8
+    ensures { result ≡ 2 }
+{
+    say(
+        errors,
+        &"usage: judge, judge --number, judge types, judge --help, or judge --version",
+    );
+    2
 }
 
 /// Says why a run has stopped, and returns the exit status.

@@ -12,7 +12,7 @@ mod line;
 mod output;
 mod watched;
 
-pub use arguments::{after_first, take_arguments};
+pub use arguments::{NotTaken, after_first, take_arguments};
 pub use line::say;
 pub use output::{WriteFailed, write_bytes, write_whole};
 pub use watched::Watched;

@@ -1,27 +1,31 @@
 //! The program on its host.
 
 use crate::error::Failure;
-use crate::sessions::session;
+use crate::sessions::{misuse, session};
 use crate::timer::Timer;
-use program_io::{after_first, say, take_arguments};
+use program_io::{NotTaken, after_first, say, take_arguments};
 use std::env;
 use std::process::ExitCode;
 
-/// The program on its host, with its arguments and its three standard streams. Arguments that
-/// can't be taken count as an allocation failure.
+/// The program on its host, with its arguments and its three standard streams. An argument that is
+/// no UTF-8 text counts as words that ask for nothing. Where the arguments can't be taken for any
+/// other cause, that counts as an allocation failure.
 pub fn on_host<T: Timer>(rt: &HostRuntime) -> ExitCode {
     let mut errors = rt.stderr();
-    let Some(arguments) = take_arguments(rt.alloc(), env::args(rt)) else {
-        say(&mut errors, &Failure::Memory);
-        return ExitCode::from(Failure::Memory.status());
+    let status = match take_arguments(rt.alloc(), env::args(rt)) {
+        Ok(arguments) => session::<T, _, _, _, _>(
+            rt.alloc(),
+            after_first(&arguments),
+            rt,
+            rt.stdin(),
+            rt.stdout(),
+            &mut errors,
+        ),
+        Err(NotTaken::NotUnicode) => misuse(&mut errors),
+        Err(NotTaken::Memory) => {
+            say(&mut errors, &Failure::Memory);
+            Failure::Memory.status()
+        }
     };
-    let words = after_first(&arguments);
-    ExitCode::from(session::<T, _, _, _, _>(
-        rt.alloc(),
-        words,
-        rt,
-        rt.stdin(),
-        rt.stdout(),
-        &mut errors,
-    ))
+    ExitCode::from(status)
 }

@@ -31,8 +31,7 @@ pub fn session<T: Timer, C: Clock + Drop, R: Read + Drop, W: Write + Drop, E: Wr
     ensures statuses { result ≤ 3 }
 {
     let Some(command) = parse_args(words) else {
-        say(errors, &USAGE);
-        return 2;
+        return misuse(errors);
     };
     match run::<T, _, _, _>(alloc, command, clock, input, output) {
         Ok(()) => 0,
@@ -41,4 +40,12 @@ pub fn session<T: Timer, C: Clock + Drop, R: Read + Drop, W: Write + Drop, E: Wr
             failure.status()
         }
     }
+}
+
+/// Says which words there are, and returns the exit status of others.
+pub(crate) fn misuse<E: Write>(errors: &mut E) -> u8
+    ensures { result ≡ 2 }
+{
+    say(errors, &USAGE);
+    2
 }

@@ -1,4 +1,4 @@
-//! The program from its arguments: the words that are asked for are those after its name.
+//! The programs from their arguments: the words that are asked for are those after their names.
 use crate::bounds::SIX;
 use crate::committees::{TWO, TWO_REPORT, committee_of_256};
 use crate::devices::{Input, TAKEN};
@@ -13,46 +13,109 @@ use test_equipment::{Refusing, ScriptedWriter};
 /// What is said to other words.
 const USAGE: &str = "usage: committee read, or committee bounds <n>\n";
 
-/// The arguments of a program that reads the committee of two, or none that can be taken; and
-/// what has to become of it: its status, what is written, what is said.
+const JUDGE_USAGE: &str =
+    "usage: judge, judge --number, judge types, judge --help, or judge --version\n";
+
+/// What is said where an allocation fails, or the arguments can't be taken.
+const MEMORY: &str = "failed: out of memory\n";
+
+/// The program that starts: `committee` on a committee of two, or `judge` on a line.
+#[derive(Clone, Copy)]
+enum Program {
+    Committee,
+    Judge,
+}
+
+/// The arguments of a program, or the kind of error with which the host refuses them; and what has
+/// to become of it: its status, what is written, what is said.
 type Row = (
-    Option<&'static [&'static str]>,
+    Result<&'static [&'static str], ErrorKind>,
     u8,
     &'static str,
     &'static str,
 );
 
 /// Whether a program does what it has to.
-fn is_right<H: Heap>(heap: H, alloc: Global, row: &Row) -> Result<bool, AllocError> {
+fn is_right<H: Heap>(
+    heap: H,
+    alloc: Global,
+    program: Program,
+    row: &Row,
+) -> Result<bool, AllocError> {
     let (texts, wanted, written, said) = *row;
     let arguments = match texts {
-        Some(texts) => Ok(words_of(heap, texts)?.into_iter()),
-        None => Err(io::Error::from(ErrorKind::InvalidData)),
+        Ok(texts) => Ok(words_of(heap, texts)?.into_iter()),
+        Err(kind) => Err(io::Error::from(kind)),
     };
-    let mut input = Input::of(TWO).reader();
+    let bytes = match program {
+        Program::Committee => TWO,
+        Program::Judge => b"u8 07\n".as_slice(),
+    };
+    let mut input = Input::of(bytes).reader();
     let mut output = Watched::new(TAKEN.writer(alloc));
     let mut errors = TAKEN.writer(alloc);
-    let status = start(heap, arguments, &mut input, &mut output, &mut errors);
+    let status = match program {
+        Program::Committee => start(heap, arguments, &mut input, &mut output, &mut errors),
+        Program::Judge => {
+            judge_core::start(heap, arguments, &mut input, &mut output, &mut errors)
+        }
+    };
     let told = status == wanted && errors.taken.as_slice() == said.as_bytes();
     Ok(told && output.inner().taken.as_slice() == written.as_bytes())
 }
 
+/// Whether a program does what it has to in each row.
+fn are_right(alloc: Global, program: Program, rows: &[Row]) -> Result<bool, AllocError> {
+    let heap = Refusing::after(alloc, u64::MAX);
+    for row in rows {
+        if !is_right(&heap, alloc, program, row)? {
+            return Ok(false);
+        }
+    }
+    Ok(true)
+}
+
 #[test]
 fn the_words_follow_the_programs_name(rt: HostRuntime) {
-    let rows: [Row; 9] = [
-        (Some(&["committee", "read"]), 0, TWO_REPORT, ""),
-        (Some(&["", "bounds", "6"]), 0, SIX, ""),
-        (Some(&["read", "bounds", "0000000006"]), 0, SIX, ""),
-        (Some(&[]), 2, "", USAGE),
-        (Some(&["read"]), 2, "", USAGE),
-        (Some(&["committee", "committee", "read"]), 2, "", USAGE),
-        (Some(&["committee", "read", "read"]), 2, "", USAGE),
-        (Some(&["committee", "bounds", "6", "6"]), 2, "", USAGE),
-        (None, 3, "", "failed: out of memory\n"),
+    let rows: [Row; 8] = [
+        (Ok(&["committee", "read"]), 0, TWO_REPORT, ""),
+        (Ok(&["", "bounds", "6"]), 0, SIX, ""),
+        (Ok(&["read", "bounds", "0000000006"]), 0, SIX, ""),
+        (Ok(&[]), 2, "", USAGE),
+        (Ok(&["read"]), 2, "", USAGE),
+        (Ok(&["committee", "committee", "read"]), 2, "", USAGE),
+        (Ok(&["committee", "read", "read"]), 2, "", USAGE),
+        (Ok(&["committee", "bounds", "6", "6"]), 2, "", USAGE),
     ];
-    let heap = Refusing::after(rt.alloc(), u64::MAX);
-    for (at, row) in rows.iter().enumerate() {
-        assert!(rt; is_right(&heap, rt.alloc(), row) == Ok(true), "{at}");
+    assert!(rt; are_right(rt.alloc(), Program::Committee, &rows) == Ok(true));
+}
+
+#[test]
+fn the_words_follow_the_name_of_the_judge(rt: HostRuntime) {
+    let rows: [Row; 6] = [
+        (Ok(&[]), 0, "accepted 1 0\n", ""),
+        (Ok(&["judge"]), 0, "accepted 1 0\n", ""),
+        (Ok(&["--number"]), 0, "accepted 1 0\n", ""),
+        (Ok(&["judge", "--number"]), 0, "1: accepted 1 0\n", ""),
+        (Ok(&["judge", "judge"]), 2, "", JUDGE_USAGE),
+        (Ok(&["judge", "--number", "--number"]), 2, "", JUDGE_USAGE),
+    ];
+    assert!(rt; are_right(rt.alloc(), Program::Judge, &rows) == Ok(true));
+}
+
+/// Each kind of error but that of invalid data is told as an allocation failure.
+#[test]
+fn arguments_that_cannot_be_taken(rt: HostRuntime) {
+    for (program, usage) in [(Program::Committee, USAGE), (Program::Judge, JUDGE_USAGE)] {
+        let rows: [Row; 6] = [
+            (Err(ErrorKind::InvalidData), 2, "", usage),
+            (Err(ErrorKind::OutOfMemory), 3, "", MEMORY),
+            (Err(ErrorKind::InvalidInput), 3, "", MEMORY),
+            (Err(ErrorKind::Unsupported), 3, "", MEMORY),
+            (Err(ErrorKind::Other), 3, "", MEMORY),
+            (Err(ErrorKind::Uncategorized), 3, "", MEMORY),
+        ];
+        assert!(rt; are_right(rt.alloc(), program, &rows) == Ok(true));
     }
 }
 
@@ -71,7 +134,7 @@ impl<'a> Start<'a> {
     fn results_in(&self, status: u8, output: &ScriptedWriter<Global>, said: &[u8]) -> Outcome {
         match status {
             0 => full(output.taken.as_slice() == self.report.as_bytes() && said.is_empty()),
-            3 => refused(output.calls == 0 && said == b"failed: out of memory\n".as_slice()),
+            3 => refused(output.calls == 0 && said == MEMORY.as_bytes()),
             _ => Outcome::Wrong,
         }
     }
