@@ -50,6 +50,10 @@ impl<K: Ord, V: Eq + Hash, A: Allocator> Model for BiMap<K, V, A> {
 
 impl<K: Ord, V: Eq + Hash, A: Allocator + Copy> BiMap<K, V, A> {
     /// Returns the bimap without pairs. It allocates nothing.
+    /// ```
+    /// let none: BiMap<u8, u8, Global> = BiMap::empty(alloc);
+    /// assert!(rt; none.is_empty());
+    /// ```
     pub fn empty(alloc: A) -> Self
         ensures { result ≡ [] }
     {
@@ -64,6 +68,11 @@ impl<K: Ord + Drop, V: Eq + Hash + Drop, A: Allocator + Copy> BiMap<K, V, A> {
     /// equal. Each value is looked up among those before it in a hash set: linear time, unless
     /// hashes collide, and memory for a reference to each value. After an allocation failure it
     /// returns `Memory`. For a map without pairs it allocates nothing and returns no error.
+    /// ```
+    /// let map = Map::try_from_array(alloc, [(2u8, 20u8), (1, 10)])?;
+    /// let pairs = BiMap::try_from_map(map)?.into_pairs()?;
+    /// assert!(rt; pairs.as_slice() == [(1u8, 10u8), (2, 20)].as_slice());
+    /// ```
     pub fn try_from_map(map: Map<K, V, A>) -> Result<Self, Error>
         ensures whole { MatchResult result
             (λ b. (b ≡ map) × (¬ HasEqualValues V.eq map))
@@ -78,6 +87,11 @@ impl<K: Ord + Drop, V: Eq + Hash + Drop, A: Allocator + Copy> BiMap<K, V, A> {
     }
 
     /// Returns all pairs in the order of their keys.
+    /// ```
+    /// let map = Map::try_from_array(alloc, [(2u8, 20u8), (1, 10)])?;
+    /// let pairs = BiMap::try_from_map(map)?.into_pairs()?;
+    /// assert!(rt; pairs.as_slice() == [(1u8, 10u8), (2, 20)].as_slice());
+    /// ```
     pub fn into_pairs(self) -> Result<Vec<(K, V), A>, AllocError>
         ensures { IfOk result (λ pairs. pairs.items ≡ self) }
     {
@@ -88,6 +102,10 @@ impl<K: Ord + Drop, V: Eq + Hash + Drop, A: Allocator + Copy> BiMap<K, V, A> {
 
 impl<K: Ord, V: Eq + Hash, A: Allocator> BiMap<K, V, A> {
     /// Returns how many pairs there are.
+    /// ```
+    /// let bimap = BiMap::try_from_array(alloc, [(2u8, 20u8), (1, 10)])?;
+    /// assert!(rt; bimap.len() == 2);
+    /// ```
     pub fn len(&self) -> usize
         ensures len { result ≡ length self.now }
         ensures strict { IsStrict K.cmp (keys_of self.now) }
@@ -97,6 +115,10 @@ impl<K: Ord, V: Eq + Hash, A: Allocator> BiMap<K, V, A> {
     }
 
     /// Whether there are no pairs.
+    /// ```
+    /// let bimap = BiMap::try_from_array(alloc, [(2u8, 20u8), (1, 10)])?;
+    /// assert!(rt; !bimap.is_empty());
+    /// ```
     pub fn is_empty(&self) -> bool
         ensures { result ≡ (length self.now == 0) }
     {
@@ -104,6 +126,10 @@ impl<K: Ord, V: Eq + Hash, A: Allocator> BiMap<K, V, A> {
     }
 
     /// Returns the keys.
+    /// ```
+    /// let bimap = BiMap::try_from_array(alloc, [(2u8, 20u8), (1, 10)])?;
+    /// assert!(rt; bimap.keys().as_slice() == [1u8, 2].as_slice());
+    /// ```
     pub fn keys(&self) -> &Set<K, A>
         ensures { result.now ≡ keys_of self.now }
     {
@@ -111,6 +137,10 @@ impl<K: Ord, V: Eq + Hash, A: Allocator> BiMap<K, V, A> {
     }
 
     /// Returns the values in the order of their keys. No two are equal.
+    /// ```
+    /// let bimap = BiMap::try_from_array(alloc, [(2u8, 20u8), (1, 10)])?;
+    /// assert!(rt; bimap.values() == [10u8, 20].as_slice());
+    /// ```
     pub fn values(&self) -> &[V]
         ensures values { result.now ≡ values_of self.now }
         ensures distinct { ¬ HasEqualValues V.eq self.now }
@@ -119,6 +149,10 @@ impl<K: Ord, V: Eq + Hash, A: Allocator> BiMap<K, V, A> {
     }
 
     /// Returns the key at a position, or `None` past the last.
+    /// ```
+    /// let bimap = BiMap::try_from_array(alloc, [(2u8, 20u8), (1, 10)])?;
+    /// assert!(rt; bimap.get(1) == Some(&2) && bimap.get(2) == None);
+    /// ```
     pub fn get(&self, index: usize) -> Option<&K>
         ensures { IsItemAt (keys_of self.now) index result }
     {
@@ -126,6 +160,10 @@ impl<K: Ord, V: Eq + Hash, A: Allocator> BiMap<K, V, A> {
     }
 
     /// Returns an iterator over the keys in order, from both ends.
+    /// ```
+    /// let bimap = BiMap::try_from_array(alloc, [(2u8, 20u8), (1, 10)])?;
+    /// assert!(rt; bimap.iter().eq([1u8, 2].iter()));
+    /// ```
     pub fn iter(&self) -> slice::Iter<'_, K>
         ensures rest { iter_rest result ≡ keys_of self.now }
         ensures bound { length (iter_rest result) < 2 ^ 64 }
@@ -136,6 +174,14 @@ impl<K: Ord, V: Eq + Hash, A: Allocator> BiMap<K, V, A> {
     }
 
     /// Returns the pairs in the order of their keys, from both ends, with the exact number left.
+    /// ```
+    /// let bimap = BiMap::try_from_array(alloc, [(2u8, 20u8), (1, 10)])?;
+    /// let mut sum = 0u64;
+    /// for (key, value) in bimap.iter_pairs() {
+    ///     sum = sum.wrapping_add(u64::from(*key) * u64::from(*value));
+    /// }
+    /// assert!(rt; sum == 50);
+    /// ```
     pub fn iter_pairs(&self) -> Pairs<'_, K, V>
         ensures pairs { result ≡ self.now }
         ensures bound { length self.now < 2 ^ 64 }
@@ -147,6 +193,10 @@ impl<K: Ord, V: Eq + Hash, A: Allocator> BiMap<K, V, A> {
 
     /// Returns the position of the key that equals the given one, or `None` where none does. It
     /// takes O(log n) comparisons.
+    /// ```
+    /// let bimap = BiMap::try_from_array(alloc, [(2u8, 20u8), (1, 10)])?;
+    /// assert!(rt; bimap.position(&2) == Some(1) && bimap.position(&3) == None);
+    /// ```
     pub fn position(&self, key: &K) -> Option<usize>
         ensures place { IsPlaceOf K.eq (keys_of self.now) key.now result }
         ensures only { (p : ℕ) → (result ≡ Some p) ↔ HasEqualAt K.eq (keys_of self.now) key.now p }
@@ -155,6 +205,10 @@ impl<K: Ord, V: Eq + Hash, A: Allocator> BiMap<K, V, A> {
     }
 
     /// Returns the value at a position, or `None` past the last.
+    /// ```
+    /// let bimap = BiMap::try_from_array(alloc, [(2u8, 20u8), (1, 10)])?;
+    /// assert!(rt; bimap.value(1) == Some(&20) && bimap.value(2) == None);
+    /// ```
     pub fn value(&self, index: usize) -> Option<&V>
         ensures { IsItemAt (values_of self.now) index result }
     {
@@ -163,6 +217,10 @@ impl<K: Ord, V: Eq + Hash, A: Allocator> BiMap<K, V, A> {
 
     /// Returns the value of the key that equals the given one, or `None` where none does. It takes
     /// O(log n) comparisons.
+    /// ```
+    /// let bimap = BiMap::try_from_array(alloc, [(2u8, 20u8), (1, 10)])?;
+    /// assert!(rt; bimap.get_value(&2) == Some(&20) && bimap.get_value(&3) == None);
+    /// ```
     pub fn get_value(&self, key: &K) -> Option<&V>
         ensures { option_copied result ≡ lookup (λ k. K.eq k key.now) self.now }
     {
@@ -171,6 +229,10 @@ impl<K: Ord, V: Eq + Hash, A: Allocator> BiMap<K, V, A> {
 
     /// Returns the key whose value equals the given one, or `None` where none does. It equals a key
     /// exactly where that key's value equals the given one. The values are compared one by one.
+    /// ```
+    /// let bimap = BiMap::try_from_array(alloc, [(2u8, 20u8), (1, 10)])?;
+    /// assert!(rt; bimap.get_key(&20) == Some(&2) && bimap.get_key(&30) == None);
+    /// ```
     pub fn get_key(&self, value: &V) -> Option<&K>
         ensures key { option_copied result ≡ lookup (λ v. V.eq v value.now) (swapped self.now) }
         ensures law { (k : K) → IsSomeAnd (option_copied result) (λ q. K.eq q k ≡ true)
@@ -191,6 +253,10 @@ fn place_of<V: Eq>(values: &[V], value: &V) -> Option<usize>
 
 impl<K: Ord, V: Eq + Hash + Drop, A: Allocator> BiMap<K, V, A> {
     /// Returns the keys. The values are dropped. It allocates nothing.
+    /// ```
+    /// let bimap = BiMap::try_from_array(alloc, [(2u8, 20u8), (1, 10)])?;
+    /// assert!(rt; bimap.into_keys().as_slice() == [1u8, 2].as_slice());
+    /// ```
     pub fn into_keys(self) -> Set<K, A>
         ensures { result ≡ keys_of self }
     {

@@ -46,6 +46,10 @@ impl<K: Ord, V, A: Allocator> Model for Map<K, V, A> {
 
 impl<K: Ord, V, A: Allocator + Copy> Map<K, V, A> {
     /// Returns the map without pairs. It allocates nothing.
+    /// ```
+    /// let none: Map<u8, u8, Global> = Map::empty(alloc);
+    /// assert!(rt; none.is_empty());
+    /// ```
     pub fn empty(alloc: A) -> Self
         ensures { result ≡ [] }
     {
@@ -76,11 +80,20 @@ impl<K: Ord, V, A: Allocator> Map<K, V, A> {
 
     /// Returns the allocator of the map, which is that of its keys. The values of a map that
     /// `from_parts` made may be on another.
+    /// ```
+    /// let mut map = Map::try_from_array(alloc, [(2u8, 20u8), (1, 10)])?;
+    /// let beside = Map::try_from_array(*map.allocator(), [(3u8, 30u8)])?;
+    /// assert!(rt; beside.len() == 1);
+    /// ```
     pub fn allocator(&self) -> &A {
         self.keys.allocator()
     }
 
     /// Returns how many pairs there are.
+    /// ```
+    /// let map = Map::try_from_array(alloc, [(2u8, 20u8), (1, 10)])?;
+    /// assert!(rt; map.len() == 2);
+    /// ```
     pub fn len(&self) -> usize
         ensures len { result ≡ length self.now }
         ensures strict { IsStrict K.cmp (keys_of self.now) }
@@ -89,6 +102,10 @@ impl<K: Ord, V, A: Allocator> Map<K, V, A> {
     }
 
     /// Whether there are no pairs.
+    /// ```
+    /// let map = Map::try_from_array(alloc, [(2u8, 20u8), (1, 10)])?;
+    /// assert!(rt; !map.is_empty());
+    /// ```
     pub fn is_empty(&self) -> bool
         ensures { result ≡ (length self.now == 0) }
     {
@@ -96,6 +113,10 @@ impl<K: Ord, V, A: Allocator> Map<K, V, A> {
     }
 
     /// Returns the keys.
+    /// ```
+    /// let map = Map::try_from_array(alloc, [(2u8, 20u8), (1, 10)])?;
+    /// assert!(rt; map.keys().as_slice() == [1u8, 2].as_slice());
+    /// ```
     pub fn keys(&self) -> &Set<K, A>
         ensures { result.now ≡ keys_of self.now }
     {
@@ -103,6 +124,10 @@ impl<K: Ord, V, A: Allocator> Map<K, V, A> {
     }
 
     /// Returns the values in the order of their keys.
+    /// ```
+    /// let map = Map::try_from_array(alloc, [(2u8, 20u8), (1, 10)])?;
+    /// assert!(rt; map.values() == [10u8, 20].as_slice());
+    /// ```
     pub fn values(&self) -> &[V]
         ensures { result.now ≡ values_of self.now }
     {
@@ -110,6 +135,10 @@ impl<K: Ord, V, A: Allocator> Map<K, V, A> {
     }
 
     /// Returns the key at a position, or `None` past the last.
+    /// ```
+    /// let map = Map::try_from_array(alloc, [(2u8, 20u8), (1, 10)])?;
+    /// assert!(rt; map.get(1) == Some(&2) && map.get(2) == None);
+    /// ```
     pub fn get(&self, index: usize) -> Option<&K>
         ensures { IsItemAt (keys_of self.now) index result }
     {
@@ -117,6 +146,10 @@ impl<K: Ord, V, A: Allocator> Map<K, V, A> {
     }
 
     /// Returns an iterator over the keys in order, from both ends.
+    /// ```
+    /// let map = Map::try_from_array(alloc, [(2u8, 20u8), (1, 10)])?;
+    /// assert!(rt; map.iter().eq([1u8, 2].iter()));
+    /// ```
     pub fn iter(&self) -> slice::Iter<'_, K>
         ensures rest { iter_rest result ≡ keys_of self.now }
         ensures bound { length (iter_rest result) < 2 ^ 64 }
@@ -128,6 +161,10 @@ impl<K: Ord, V, A: Allocator> Map<K, V, A> {
 
     /// Returns the position of the key that equals the given one, or `None` where none does. It
     /// takes O(log n) comparisons.
+    /// ```
+    /// let map = Map::try_from_array(alloc, [(2u8, 20u8), (1, 10)])?;
+    /// assert!(rt; map.position(&2) == Some(1) && map.position(&3) == None);
+    /// ```
     #[inline]
     pub fn position(&self, key: &K) -> Option<usize>
         ensures place { IsPlaceOf K.eq (keys_of self.now) key.now result }
@@ -137,6 +174,10 @@ impl<K: Ord, V, A: Allocator> Map<K, V, A> {
     }
 
     /// Returns the value at a position, or `None` past the last.
+    /// ```
+    /// let map = Map::try_from_array(alloc, [(2u8, 20u8), (1, 10)])?;
+    /// assert!(rt; map.value(1) == Some(&20) && map.value(2) == None);
+    /// ```
     pub fn value(&self, index: usize) -> Option<&V>
         ensures { IsItemAt (values_of self.now) index result }
     {
@@ -145,6 +186,10 @@ impl<K: Ord, V, A: Allocator> Map<K, V, A> {
 
     /// Returns the value of the key that equals the given one, or `None` where none does. It takes
     /// O(log n) comparisons.
+    /// ```
+    /// let map = Map::try_from_array(alloc, [(2u8, 20u8), (1, 10)])?;
+    /// assert!(rt; map.get_value(&2) == Some(&20) && map.get_value(&3) == None);
+    /// ```
     #[inline]
     pub fn get_value(&self, key: &K) -> Option<&V>
         ensures { option_copied result ≡ lookup (λ k. K.eq k key.now) self.now }
@@ -157,6 +202,12 @@ impl<K: Ord, V, A: Allocator> Map<K, V, A> {
 impl<K: Ord + Drop, V: Drop, A: Allocator> Map<K, V, A> {
     /// Returns the map of the keys, each with the value at its position, or `None` where there are
     /// not as many values as keys. It allocates nothing.
+    /// ```
+    /// let keys = Set::try_from_array(alloc, [1u8, 2])?;
+    /// let values = vec![in alloc; 10u8, 20]?;
+    /// let map = Map::from_parts(keys, values).expect(rt, "a value for each key");
+    /// assert!(rt; map.get_value(&2) == Some(&20));
+    /// ```
     pub fn from_parts(keys: Set<K, A>, values: Vec<V, A>) -> Option<Self>
         ensures whole { IsSome result ↔ (length values.items ≡ length keys) }
         ensures pairs { IfSome result (λ m. m ≡ zip keys values.items) }
@@ -169,6 +220,11 @@ impl<K: Ord + Drop, V: Drop, A: Allocator> Map<K, V, A> {
     }
 
     /// Keeps the first `len` pairs, or all of them where there are no more.
+    /// ```
+    /// let mut map = Map::try_from_array(alloc, [(2u8, 20u8), (1, 10)])?;
+    /// map.truncate(1);
+    /// assert!(rt; map.get_value(&1) == Some(&10) && map.get_value(&2) == None);
+    /// ```
     pub fn truncate(&mut self, len: usize)
         ensures { self.new ≡ take len self.old }
     {
@@ -179,6 +235,10 @@ impl<K: Ord + Drop, V: Drop, A: Allocator> Map<K, V, A> {
 
 impl<K: Ord, V: Drop, A: Allocator> Map<K, V, A> {
     /// Returns the keys. The values are dropped. It allocates nothing.
+    /// ```
+    /// let map = Map::try_from_array(alloc, [(2u8, 20u8), (1, 10)])?;
+    /// assert!(rt; map.into_keys().as_slice() == [1u8, 2].as_slice());
+    /// ```
     pub fn into_keys(self) -> Set<K, A>
         ensures { result ≡ keys_of self }
     {
@@ -189,6 +249,13 @@ impl<K: Ord, V: Drop, A: Allocator> Map<K, V, A> {
 
 impl<K: Ord + Drop, V: Drop, A: Allocator + Copy> Map<K, V, A> {
     /// Returns all pairs in the order of their keys.
+    /// ```
+    /// let keys = Set::try_from_array(alloc, [1u8, 2])?;
+    /// let values = vec![in alloc; 10u8, 20]?;
+    /// let map = Map::from_parts(keys, values).expect(rt, "a value for each key");
+    /// let pairs = map.into_pairs()?;
+    /// assert!(rt; pairs.as_slice() == [(1u8, 10u8), (2, 20)].as_slice());
+    /// ```
     pub fn into_pairs(self) -> Result<Vec<(K, V), A>, AllocError>
         ensures { IfOk result (λ pairs. pairs.items ≡ self) }
     {

@@ -42,6 +42,10 @@ impl<T: Ord, A: Allocator> Model for Set<T, A> {
 
 impl<T: Ord, A: Allocator> Set<T, A> {
     /// Returns the set without items.
+    /// ```
+    /// let none: Set<u8, Global> = Set::empty(alloc);
+    /// assert!(rt; none.is_empty());
+    /// ```
     pub fn empty(alloc: A) -> Self
         ensures { result ≡ [] }
     {
@@ -51,11 +55,20 @@ impl<T: Ord, A: Allocator> Set<T, A> {
     }
 
     /// Returns the allocator that the set was made on, which holds its items.
+    /// ```
+    /// let mut set = Set::try_from_array(alloc, [5u8, 1, 3])?;
+    /// let beside = Set::try_from_array(*set.allocator(), [7u8])?;
+    /// assert!(rt; beside.len() == 1);
+    /// ```
     pub fn allocator(&self) -> &A {
         self.items.allocator()
     }
 
     /// Returns how many items there are.
+    /// ```
+    /// let set = Set::try_from_array(alloc, [5u8, 1, 3])?;
+    /// assert!(rt; set.len() == 3);
+    /// ```
     pub fn len(&self) -> usize
         ensures { result ≡ length self.now }
     {
@@ -63,6 +76,10 @@ impl<T: Ord, A: Allocator> Set<T, A> {
     }
 
     /// Whether there are no items.
+    /// ```
+    /// let set = Set::try_from_array(alloc, [5u8, 1, 3])?;
+    /// assert!(rt; !set.is_empty());
+    /// ```
     pub fn is_empty(&self) -> bool
         ensures { result ≡ (length self.now == 0) }
     {
@@ -70,6 +87,10 @@ impl<T: Ord, A: Allocator> Set<T, A> {
     }
 
     /// Returns the item at a position, or `None` past the last.
+    /// ```
+    /// let set = Set::try_from_array(alloc, [5u8, 1, 3])?;
+    /// assert!(rt; set.get(1) == Some(&3) && set.get(3) == None);
+    /// ```
     pub fn get(&self, index: usize) -> Option<&T>
         ensures { IsItemAt self.now index result }
     {
@@ -77,6 +98,10 @@ impl<T: Ord, A: Allocator> Set<T, A> {
     }
 
     /// Returns the items in order.
+    /// ```
+    /// let set = Set::try_from_array(alloc, [5u8, 1, 3])?;
+    /// assert!(rt; set.as_slice() == [1u8, 3, 5].as_slice());
+    /// ```
     pub fn as_slice(&self) -> &[T]
         ensures items { result.now ≡ self.now }
         ensures strict { IsStrict T.cmp self.now }
@@ -85,6 +110,10 @@ impl<T: Ord, A: Allocator> Set<T, A> {
     }
 
     /// Returns the items at a range of positions. It requires that the range is ordered and inside.
+    /// ```
+    /// let set = Set::try_from_array(alloc, [5u8, 1, 3])?;
+    /// assert!(rt; set.len() == 3 && set.slice(1..3) == [3u8, 5].as_slice());
+    /// ```
     pub fn slice(&self, range: Range<usize>) -> &[T]
         requires ordered { range.start ≤ range.end }
         requires inside { range.end ≤ length self.now }
@@ -94,6 +123,10 @@ impl<T: Ord, A: Allocator> Set<T, A> {
     }
 
     /// Returns an iterator over the items in order, from both ends.
+    /// ```
+    /// let set = Set::try_from_array(alloc, [5u8, 1, 3])?;
+    /// assert!(rt; set.iter().eq([1u8, 3, 5].iter()));
+    /// ```
     pub fn iter(&self) -> slice::Iter<'_, T>
         ensures rest { iter_rest result ≡ self.now }
         ensures bound { length (iter_rest result) < 2 ^ 64 }
@@ -105,6 +138,10 @@ impl<T: Ord, A: Allocator> Set<T, A> {
 
     /// Returns the position of the item that equals the given one, or `None` where none does. It
     /// takes O(log n) comparisons.
+    /// ```
+    /// let set = Set::try_from_array(alloc, [5u8, 1, 3])?;
+    /// assert!(rt; set.position(&3) == Some(1) && set.position(&4) == None);
+    /// ```
     #[inline(always)]
     pub fn position(&self, item: &T) -> Option<usize>
         ensures place { IsPlaceOf T.eq self.now item.now result }
@@ -115,6 +152,10 @@ impl<T: Ord, A: Allocator> Set<T, A> {
     }
 
     /// Whether an item equals the given one. It takes O(log n) comparisons.
+    /// ```
+    /// let set = Set::try_from_array(alloc, [5u8, 1, 3])?;
+    /// assert!(rt; set.contains(&3) && !set.contains(&4));
+    /// ```
     #[inline(always)]
     pub fn contains(&self, item: &T) -> bool
         ensures value { result ≡ list_any (λ y. T.eq y item.now) self.now }
@@ -125,6 +166,10 @@ impl<T: Ord, A: Allocator> Set<T, A> {
 
     /// Returns the set of the items. It requires that they are strictly increasing: each is less
     /// than the next. It allocates nothing.
+    /// ```
+    /// let set = Set::from_strict(vec![in alloc; 1u8, 3, 5]?);
+    /// assert!(rt; set.as_slice() == [1u8, 3, 5].as_slice());
+    /// ```
     pub fn from_strict(items: Vec<T, A>) -> Self
         requires { IsStrict T.cmp items.items }
         ensures { result ≡ items.items }
@@ -135,6 +180,11 @@ impl<T: Ord, A: Allocator> Set<T, A> {
 
 impl<T: Ord + Drop, A: Allocator> Set<T, A> {
     /// Keeps the first `len` items, or all of them where there are no more.
+    /// ```
+    /// let mut set = Set::try_from_array(alloc, [5u8, 1, 3])?;
+    /// set.truncate(2);
+    /// assert!(rt; set.as_slice() == [1u8, 3].as_slice());
+    /// ```
     pub fn truncate(&mut self, len: usize)
         ensures { self.new ≡ take len self.old }
     {

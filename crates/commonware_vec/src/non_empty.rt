@@ -38,6 +38,10 @@ impl<T, A: Allocator> Model for NonEmptyVec<T, A> {
 impl<T, A: Allocator> NonEmptyVec<T, A> {
     /// Returns the list of the items of a vector. It requires that the vector isn't empty, and
     /// allocates nothing.
+    /// ```
+    /// let list = NonEmptyVec::from_unchecked(vec![in alloc; 3u8, 1, 2]?);
+    /// assert!(rt; list.as_slice() == [3u8, 1, 2].as_slice());
+    /// ```
     pub fn from_unchecked(items: Vec<T, A>) -> Self
         requires { 1 ≤ length items.items }
         ensures { result ≡ items.items }
@@ -46,6 +50,10 @@ impl<T, A: Allocator> NonEmptyVec<T, A> {
     }
 
     /// Returns how many items there are.
+    /// ```
+    /// let list = NonEmptyVec::try_from_array(alloc, [3u8, 1, 2])?;
+    /// assert!(rt; list.len() == NZUsize!(3));
+    /// ```
     pub fn len(&self) -> NonZeroUsize
         ensures { non_zero_usize_get result ≡ length self.now }
     {
@@ -53,6 +61,10 @@ impl<T, A: Allocator> NonEmptyVec<T, A> {
     }
 
     /// Whether there is exactly one item.
+    /// ```
+    /// let list = NonEmptyVec::try_from_array(alloc, [3u8, 1, 2])?;
+    /// assert!(rt; !list.is_singleton());
+    /// ```
     pub fn is_singleton(&self) -> bool
         ensures { result ≡ (length self.now == 1) }
     {
@@ -60,6 +72,10 @@ impl<T, A: Allocator> NonEmptyVec<T, A> {
     }
 
     /// Returns the items in order.
+    /// ```
+    /// let list = NonEmptyVec::try_from_array(alloc, [3u8, 1, 2])?;
+    /// assert!(rt; list.as_slice() == [3u8, 1, 2].as_slice());
+    /// ```
     pub fn as_slice(&self) -> &[T]
         ensures items { result.now ≡ self.now }
         ensures some { 1 ≤ length self.now }
@@ -68,6 +84,11 @@ impl<T, A: Allocator> NonEmptyVec<T, A> {
     }
 
     /// Returns a mutable borrow of the items in order.
+    /// ```
+    /// let mut list = NonEmptyVec::try_from_array(alloc, [3u8, 1, 2])?;
+    /// list.as_mut_slice().reverse();
+    /// assert!(rt; list.as_slice() == [2u8, 1, 3].as_slice());
+    /// ```
     pub fn as_mut_slice(&mut self) -> &mut [T]
         ensures* writes_back { sem 𝓛 (BorrowsItems T.row A.row A.Allocator self.entry result) }
         ensures items { result.now ≡ self.old }
@@ -77,6 +98,10 @@ impl<T, A: Allocator> NonEmptyVec<T, A> {
     }
 
     /// Returns the first item.
+    /// ```
+    /// let list = NonEmptyVec::try_from_array(alloc, [3u8, 1, 2])?;
+    /// assert!(rt; *list.first() == 3);
+    /// ```
     pub fn first(&self) -> &T
         ensures { slice_get self.now 0 ≡ Some result.now }
     {
@@ -84,6 +109,10 @@ impl<T, A: Allocator> NonEmptyVec<T, A> {
     }
 
     /// Returns the last item.
+    /// ```
+    /// let list = NonEmptyVec::try_from_array(alloc, [3u8, 1, 2])?;
+    /// assert!(rt; *list.last() == 2);
+    /// ```
     pub fn last(&self) -> &T
         ensures { slice_get self.now (length self.now - 1) ≡ Some result.now }
     {
@@ -91,6 +120,11 @@ impl<T, A: Allocator> NonEmptyVec<T, A> {
     }
 
     /// Returns a mutable borrow of the first item.
+    /// ```
+    /// let mut list = NonEmptyVec::try_from_array(alloc, [3u8, 1, 2])?;
+    /// *list.first_mut() = 4;
+    /// assert!(rt; list.as_slice() == [4u8, 1, 2].as_slice());
+    /// ```
     pub fn first_mut(&mut self) -> &mut T
         ensures* writes_back { sem 𝓛 (BorrowsItemAt T.row A.row A.Allocator self.entry 0 result) }
         ensures value { slice_get self.old 0 ≡ Some result.now }
@@ -99,6 +133,11 @@ impl<T, A: Allocator> NonEmptyVec<T, A> {
     }
 
     /// Returns a mutable borrow of the last item.
+    /// ```
+    /// let mut list = NonEmptyVec::try_from_array(alloc, [3u8, 1, 2])?;
+    /// *list.last_mut() = 4;
+    /// assert!(rt; list.as_slice() == [3u8, 1, 4].as_slice());
+    /// ```
     pub fn last_mut(&mut self) -> &mut T
         ensures* writes_back { sem 𝓛
             (BorrowsItemAt T.row A.row A.Allocator self.entry (length self.old - 1) result) }
@@ -109,6 +148,10 @@ impl<T, A: Allocator> NonEmptyVec<T, A> {
     }
 
     /// Appends an item. After an allocation failure it returns the item, and the list is as it was.
+    /// ```
+    /// let mut list = NonEmptyVec::try_from_array(alloc, [3u8, 1])?;
+    /// assert!(rt; list.push(2).is_ok() && list.as_slice() == [3u8, 1, 2].as_slice());
+    /// ```
     pub fn push(&mut self, value: T) -> Result<(), T>
         ensures { MatchResult result
             (λ _. self.new ≡ self.old ++ value ∷ [])
@@ -123,6 +166,10 @@ impl<T, A: Allocator> NonEmptyVec<T, A> {
     /// Inserts an item before the one at a position; at the length, it comes last. It requires that
     /// the position is at most the length. After an allocation failure it returns the item, and the
     /// list is as it was.
+    /// ```
+    /// let mut list = NonEmptyVec::try_from_array(alloc, [3u8, 1])?;
+    /// assert!(rt; list.insert(0, 2).is_ok() && list.as_slice() == [2u8, 3, 1].as_slice());
+    /// ```
     pub fn insert(&mut self, index: usize, value: T) -> Result<(), T>
         requires { index ≤ length self.old }
         ensures { MatchResult result
@@ -137,6 +184,10 @@ impl<T, A: Allocator> NonEmptyVec<T, A> {
 
     /// Removes the last item and returns it, or returns `None` where it is the only one, which
     /// stays.
+    /// ```
+    /// let mut list = NonEmptyVec::try_from_array(alloc, [3u8, 1])?;
+    /// assert!(rt; list.pop() == Some(1) && list.pop() == None);
+    /// ```
     pub fn pop(&mut self) -> Option<T>
         ensures last { MatchOption result
             ((length self.old ≡ 1) × (self.new ≡ self.old))
@@ -152,6 +203,10 @@ impl<T, A: Allocator> NonEmptyVec<T, A> {
 
     /// Removes the item at a position and returns it, or returns `None` where it is the only one,
     /// which stays. It requires that the position is inside.
+    /// ```
+    /// let mut list = NonEmptyVec::try_from_array(alloc, [3u8, 1])?;
+    /// assert!(rt; list.remove(0) == Some(3) && list.remove(0) == None);
+    /// ```
     pub fn remove(&mut self, index: usize) -> Option<T>
         requires { index < length self.old }
         ensures item { MatchOption result
@@ -168,6 +223,10 @@ impl<T, A: Allocator> NonEmptyVec<T, A> {
     }
 
     /// Returns the vector of the items. It allocates nothing.
+    /// ```
+    /// let list = NonEmptyVec::try_from_array(alloc, [3u8, 1, 2])?;
+    /// assert!(rt; list.into_vec().as_slice() == [3u8, 1, 2].as_slice());
+    /// ```
     pub fn into_vec(self) -> Vec<T, A>
         ensures items { result.items ≡ self }
         ensures some { 1 ≤ length self }

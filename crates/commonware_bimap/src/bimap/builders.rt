@@ -14,6 +14,10 @@ use std::hash::Hash;
 impl<K: Ord + Drop, V: Eq + Hash + Drop, A: Allocator + Copy> BiMap<K, V, A> {
     /// Returns the bimap of all the pairs; `DuplicateKey` where two of their keys are equal; else
     /// `DuplicateValue` where two of their values are, which are looked up in a hash set.
+    /// ```
+    /// let bimap = BiMap::try_from_vec(vec![in alloc; (2u8, 20u8), (1, 10)]?)?;
+    /// assert!(rt; bimap.get_key(&20) == Some(&2));
+    /// ```
     pub fn try_from_vec(vec: Vec<(K, V), A>) -> Result<Self, Error>
         ensures { IsWholeBiMap K.eq K.cmp V.eq vec.items result }
     {
@@ -41,6 +45,10 @@ impl<K: Ord + EqClone, V: EqClone + Hash, A: Allocator + Copy> BiMap<K, V, A> {
     /// Returns the bimap of clones of all the pairs; `DuplicateKey` where two of their keys are
     /// equal; else `DuplicateValue` where two of their values are, which are looked up in a hash
     /// set.
+    /// ```
+    /// let bimap = BiMap::try_from_slice(alloc, &[(2u8, 20u8), (1, 10)])?;
+    /// assert!(rt; bimap.get_key(&20) == Some(&2));
+    /// ```
     pub fn try_from_slice(alloc: A, pairs: &[(K, V)]) -> Result<Self, Error>
         ensures { IsWholeBiMapOfClones K.eq K.cmp V.eq
             (on_both K.is_clone V.is_clone) pairs.now result }
@@ -51,6 +59,10 @@ impl<K: Ord + EqClone, V: EqClone + Hash, A: Allocator + Copy> BiMap<K, V, A> {
     /// Returns the bimap of clones of all the pairs; `DuplicateKey` where two of their keys are
     /// equal; else `DuplicateValue` where two of their values are, which are looked up in a hash
     /// set. The array is dropped.
+    /// ```
+    /// let twice = BiMap::try_from_array(alloc, [(2u8, 20u8), (1, 20)]);
+    /// assert!(rt; twice.err() == Some(Error::DuplicateValue));
+    /// ```
     pub fn try_from_array<const N: usize>(alloc: A, pairs: [(K, V); N]) -> Result<Self, Error>
         ensures { IsWholeBiMapOfClones K.eq K.cmp V.eq
             (on_both K.is_clone V.is_clone) pairs result }
@@ -61,6 +73,10 @@ impl<K: Ord + EqClone, V: EqClone + Hash, A: Allocator + Copy> BiMap<K, V, A> {
     /// Returns the bimap of clones of all the pairs; `DuplicateKey` where two of their keys are
     /// equal; else `DuplicateValue` where two of their values are, which are looked up in a hash
     /// set.
+    /// ```
+    /// let bimap = BiMap::try_from_array_ref(alloc, &[(2u8, 20u8), (1, 10)])?;
+    /// assert!(rt; bimap.get_key(&20) == Some(&2));
+    /// ```
     pub fn try_from_array_ref<const N: usize>(alloc: A, pairs: &[(K, V); N]) -> Result<Self, Error>
         ensures { IsWholeBiMapOfClones K.eq K.cmp V.eq
             (on_both K.is_clone V.is_clone) pairs.now result }

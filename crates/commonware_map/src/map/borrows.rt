@@ -11,6 +11,13 @@ use std::alloc::Allocator;
 impl<K: Ord, V, A: Allocator> Map<K, V, A> {
     /// Returns a mutable borrow of the value of the key that equals the given one, or `None` where
     /// none does. It takes O(log n) comparisons.
+    /// ```
+    /// let mut map = Map::try_from_array(alloc, [(2u8, 20u8), (1, 10)])?;
+    /// if let Some(value) = map.get_value_mut(&2) {
+    ///     *value = 21;
+    /// }
+    /// assert!(rt; map.values() == [10u8, 21].as_slice());
+    /// ```
     pub fn get_value_mut(&mut self, key: &K) -> Option<&mut V>
         ensures* writes_back { sem 𝓛 (BorrowsValueOf K.row V.row A.row
             K.cmp K.eq K.partial_cmp A.Allocator self.entry (λ k. K.eq k key.now) result) }
@@ -23,6 +30,11 @@ impl<K: Ord, V, A: Allocator> Map<K, V, A> {
     }
 
     /// Returns a mutable borrow of the values in the order of their keys.
+    /// ```
+    /// let mut map = Map::try_from_array(alloc, [(2u8, 20u8), (1, 10)])?;
+    /// map.values_mut().reverse();
+    /// assert!(rt; map.get_value(&1) == Some(&20));
+    /// ```
     pub fn values_mut(&mut self) -> &mut [V]
         ensures* writes_back { sem 𝓛 (BorrowsValues K.row V.row A.row
             K.cmp K.eq K.partial_cmp A.Allocator self.entry result) }

@@ -17,6 +17,10 @@ impl<K: Ord + Drop, V: Drop, A: Allocator + Copy> Map<K, V, A> {
     /// Returns the map of the pairs that an iterator gives, where of equal keys the first pair
     /// stays. The only error is an allocation failure; it allocates for the pairs that stay. It
     /// takes O(n log n) comparisons.
+    /// ```
+    /// let map = Map::from_iter_dedup(alloc, [(2u8, 20u8), (1, 10), (2, 21)])?;
+    /// assert!(rt; map.get_value(&2) == Some(&20));
+    /// ```
     pub fn from_iter_dedup<I: IntoIterator<Item = (K, V)>>(
         alloc: A,
         iter: I,
@@ -32,6 +36,10 @@ impl<K: Ord + Drop, V: Drop, A: Allocator + Copy> Map<K, V, A> {
 
     /// Returns the map of all the pairs, or `DuplicateKey` where two of their keys are equal. It
     /// takes O(n log n) comparisons.
+    /// ```
+    /// let map = Map::try_from_vec(vec![in alloc; (2u8, 20u8), (1, 10)]?)?;
+    /// assert!(rt; map.get_value(&2) == Some(&20));
+    /// ```
     pub fn try_from_vec(vec: Vec<(K, V), A>) -> Result<Self, Error>
         ensures { IsWholeSet (on_keys K.eq) (on_keys K.cmp) vec.items result }
     {
@@ -64,6 +72,10 @@ impl<K: Ord + Drop, V: Drop, A: Allocator + Copy> TryFromIterator<(K, V), A> for
 impl<K: Ord + EqClone, V: Clone, A: Allocator + Copy> Map<K, V, A> {
     /// Returns the map of clones of all the pairs, or `DuplicateKey` where two of their keys are
     /// equal. It takes O(n log n) comparisons.
+    /// ```
+    /// let map = Map::try_from_slice(alloc, &[(2u8, 20u8), (1, 10)])?;
+    /// assert!(rt; map.get_value(&2) == Some(&20));
+    /// ```
     pub fn try_from_slice(alloc: A, pairs: &[(K, V)]) -> Result<Self, Error>
         ensures { IsWholeSetOfClones (on_keys K.eq) (on_keys K.cmp)
             (on_both K.is_clone V.is_clone) pairs.now result }
@@ -73,6 +85,10 @@ impl<K: Ord + EqClone, V: Clone, A: Allocator + Copy> Map<K, V, A> {
 
     /// Returns the map of clones of all the pairs, or `DuplicateKey` where two of their keys are
     /// equal. The array is dropped. It takes O(n log n) comparisons.
+    /// ```
+    /// let twice = Map::try_from_array(alloc, [(2u8, 20u8), (2, 21)]);
+    /// assert!(rt; twice.err() == Some(Error::DuplicateKey));
+    /// ```
     pub fn try_from_array<const N: usize>(alloc: A, pairs: [(K, V); N]) -> Result<Self, Error>
         ensures { IsWholeSetOfClones (on_keys K.eq) (on_keys K.cmp)
             (on_both K.is_clone V.is_clone) pairs result }
@@ -82,6 +98,10 @@ impl<K: Ord + EqClone, V: Clone, A: Allocator + Copy> Map<K, V, A> {
 
     /// Returns the map of clones of all the pairs, or `DuplicateKey` where two of their keys are
     /// equal. It takes O(n log n) comparisons.
+    /// ```
+    /// let map = Map::try_from_array_ref(alloc, &[(2u8, 20u8), (1, 10)])?;
+    /// assert!(rt; map.get_value(&2) == Some(&20));
+    /// ```
     pub fn try_from_array_ref<const N: usize>(alloc: A, pairs: &[(K, V); N]) -> Result<Self, Error>
         ensures { IsWholeSetOfClones (on_keys K.eq) (on_keys K.cmp)
             (on_both K.is_clone V.is_clone) pairs.now result }

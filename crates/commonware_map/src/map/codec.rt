@@ -89,6 +89,9 @@ impl<K: Ord + MaxEncodeSize, V, A: Allocator> Map<K, V, A> {
     /// each value takes at most `value` bytes: the size of `len` as a varint, twice, and `len`
     /// times the bound of a key and that of a value. It requires that `len` is at most 4294967295,
     /// and that the result fits a `usize`.
+    /// ```
+    /// assert!(rt; Map::<u8, u8, Global>::max_encode_size(10, 1) == 22);
+    /// ```
     pub fn max_encode_size(len: usize, value: usize) -> usize
         requires short { len < 2 ^ 32 }
         requires fits { map_size_bound len K.MAX_ENCODE_SIZE value < 2 ^ 64 }

@@ -9,6 +9,14 @@ use std::alloc::Allocator;
 
 impl<K: Ord, V, A: Allocator> Map<K, V, A> {
     /// Returns the pairs in the order of their keys, from both ends, with the exact number left.
+    /// ```
+    /// let map = Map::try_from_array(alloc, [(2u8, 20u8), (1, 10)])?;
+    /// let mut sum = 0u64;
+    /// for (key, value) in map.iter_pairs() {
+    ///     sum = sum.wrapping_add(u64::from(*key) * u64::from(*value));
+    /// }
+    /// assert!(rt; sum == 50);
+    /// ```
     pub fn iter_pairs(&self) -> Pairs<'_, K, V>
         ensures pairs { result ≡ self.now }
         ensures bound { length self.now < 2 ^ 64 }

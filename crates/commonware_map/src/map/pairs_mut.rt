@@ -11,6 +11,13 @@ use std::alloc::Allocator;
 impl<K: Ord, V, A: Allocator> Map<K, V, A> {
     /// Returns the pairs in the order of their keys, from both ends, with the exact number left.
     /// Each value may be written; keys and their number stay.
+    /// ```
+    /// let mut map = Map::try_from_array(alloc, [(2u8, 20u8), (1, 10)])?;
+    /// for (key, value) in map.iter_pairs_mut() {
+    ///     *value = *key;
+    /// }
+    /// assert!(rt; map.values() == [1u8, 2].as_slice());
+    /// ```
     pub fn iter_pairs_mut(&mut self) -> PairsMut<'_, K, V>
         ensures* writes_back { sem 𝓛 (BorrowsValuesTo K.row V.row A.row
             K.cmp K.eq K.partial_cmp A.Allocator self.entry (pairs_mut_name result)) }

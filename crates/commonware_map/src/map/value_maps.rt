@@ -15,6 +15,11 @@ impl<K: Ord + EqClone, V, A: Allocator + Copy> Map<K, V, A> {
     /// Returns the map with the same keys, each with what `f` returns for its pair, in the order of
     /// the keys. Room for all values is reserved before the first call, and the keys are cloned
     /// after the last one.
+    /// ```
+    /// let map = Map::try_from_array(alloc, [(2u8, 20u8), (1, 10)])?;
+    /// let wide = map.map_values(|_, value| u32::from(*value))?;
+    /// assert!(rt; wide.values() == [10u32, 20].as_slice());
+    /// ```
     pub fn map_values<'a, U: Drop, F: FnMut(&'a K, &'a V) -> U>(
         &'a self,
         mut f: F,
@@ -36,6 +41,11 @@ impl<K: Ord + EqClone, V, A: Allocator + Copy> Map<K, V, A> {
     /// the keys, or the first error of `f`. Room for all values is reserved before the first call,
     /// and the keys are cloned after the last one. After an error `f` isn't called, and no key is
     /// cloned.
+    /// ```
+    /// let map = Map::try_from_array(alloc, [(2u8, 20u8), (1, 10)])?;
+    /// let failed = map.try_map_values(|_, value| value.checked_sub(15).ok_or(*value));
+    /// assert!(rt; failed.err() == Some(MapError::Closure(10)));
+    /// ```
     pub fn try_map_values<'a, U: Drop, E, F: FnMut(&'a K, &'a V) -> Result<U, E>>(
         &'a self,
         mut f: F,
@@ -62,6 +72,11 @@ impl<K: Ord + EqClone, V, A: Allocator + Copy> Map<K, V, A> {
 impl<K: Ord + Drop, V: Drop, A: Allocator + Copy> Map<K, V, A> {
     /// Returns the map with these keys, each with what `f` returns for its pair, in the order of
     /// the keys. Room for all values is reserved before the first call.
+    /// ```
+    /// let map = Map::try_from_array(alloc, [(2u8, 20u8), (1, 10)])?;
+    /// let wide = map.map_values_into(|_, value| u32::from(value))?;
+    /// assert!(rt; wide.values() == [10u32, 20].as_slice());
+    /// ```
     pub fn map_values_into<U: Drop, F: FnMut(&K, V) -> U>(
         self,
         f: F,
@@ -79,6 +94,11 @@ impl<K: Ord + Drop, V: Drop, A: Allocator + Copy> Map<K, V, A> {
     /// Returns the map with these keys, each with what `f` returns for its pair, in the order of
     /// the keys, or the first error of `f`. Room for all values is reserved before the first call.
     /// After an error `f` isn't called.
+    /// ```
+    /// let map = Map::try_from_array(alloc, [(2u8, 20u8), (1, 10)])?;
+    /// let failed = map.try_map_values_into(|_, value| value.checked_sub(15).ok_or(value));
+    /// assert!(rt; failed.err() == Some(MapError::Closure(10)));
+    /// ```
     pub fn try_map_values_into<U: Drop, E, F: FnMut(&K, V) -> Result<U, E>>(
         self,
         mut f: F,

@@ -16,6 +16,10 @@ impl<T: Ord + Drop, A: Allocator + Copy> Set<T, A> {
     /// Returns the set of the items that an iterator gives, where of equal items the first stays.
     /// The only error is an allocation failure; it allocates for the distinct items. It takes O(n
     /// log n) comparisons.
+    /// ```
+    /// let set = Set::from_iter_dedup(alloc, [5u8, 1, 3, 1])?;
+    /// assert!(rt; set.as_slice() == [1u8, 3, 5].as_slice());
+    /// ```
     pub fn from_iter_dedup<I: IntoIterator<Item = T>>(alloc: A, iter: I) -> Result<Self, AllocError>
         requires { IsFiniteIterable I.into_iter_gives I.IntoIter.can_next
             I.IntoIter.remaining iter }
@@ -36,6 +40,10 @@ impl<T: Ord + Drop, A: Allocator + Copy> Set<T, A> {
     /// Returns the set of all the items, or `DuplicateKey` where two of them are equal. It takes
     /// O(n log n) comparisons; a list that is strictly increasing is taken as it is, without an
     /// allocation.
+    /// ```
+    /// let set = Set::try_from_vec(vec![in alloc; 5u8, 1, 3]?)?;
+    /// assert!(rt; set.as_slice() == [1u8, 3, 5].as_slice());
+    /// ```
     pub fn try_from_vec(vec: Vec<T, A>) -> Result<Self, Error>
         ensures { IsWholeSet T.eq T.cmp vec.items result }
     {
@@ -75,6 +83,10 @@ impl<T: Ord + Drop, A: Allocator + Copy> TryFromIterator<T, A> for Set<T, A> {
 impl<T: Ord + EqClone, A: Allocator + Copy> Set<T, A> {
     /// Returns the set of clones of all the items, or `DuplicateKey` where two of them are equal.
     /// It takes O(n log n) comparisons.
+    /// ```
+    /// let set = Set::try_from_slice(alloc, &[5u8, 1, 3])?;
+    /// assert!(rt; set.as_slice() == [1u8, 3, 5].as_slice());
+    /// ```
     pub fn try_from_slice(alloc: A, items: &[T]) -> Result<Self, Error>
         ensures { IsWholeSetOfClones T.eq T.cmp T.is_clone items.now result }
     {
@@ -83,6 +95,10 @@ impl<T: Ord + EqClone, A: Allocator + Copy> Set<T, A> {
 
     /// Returns the set of clones of all the items, or `DuplicateKey` where two of them are equal.
     /// The array is dropped. It takes O(n log n) comparisons.
+    /// ```
+    /// let twice = Set::try_from_array(alloc, [5u8, 1, 5]);
+    /// assert!(rt; twice.err() == Some(Error::DuplicateKey));
+    /// ```
     pub fn try_from_array<const N: usize>(alloc: A, items: [T; N]) -> Result<Self, Error>
         ensures { IsWholeSetOfClones T.eq T.cmp T.is_clone items result }
     {
@@ -91,6 +107,10 @@ impl<T: Ord + EqClone, A: Allocator + Copy> Set<T, A> {
 
     /// Returns the set of clones of all the items, or `DuplicateKey` where two of them are equal.
     /// It takes O(n log n) comparisons.
+    /// ```
+    /// let set = Set::try_from_array_ref(alloc, &[5u8, 1, 3])?;
+    /// assert!(rt; set.as_slice() == [1u8, 3, 5].as_slice());
+    /// ```
     pub fn try_from_array_ref<const N: usize>(alloc: A, items: &[T; N]) -> Result<Self, Error>
         ensures { IsWholeSetOfClones T.eq T.cmp T.is_clone items.now result }
     {

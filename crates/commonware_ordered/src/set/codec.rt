@@ -66,6 +66,9 @@ impl<T: Ord + MaxEncodeSize, A: Allocator> Set<T, A> {
     /// Returns the most bytes that the encoding of a set of at most `len` items can have: the size
     /// of `len` as a varint, and `len` times the bound of an item. It requires that `len` is at
     /// most 4294967295, and that the result fits a `usize`.
+    /// ```
+    /// assert!(rt; Set::<u8, Global>::max_encode_size(200) == 202);
+    /// ```
     pub fn max_encode_size(len: usize) -> usize
         requires short { len < 2 ^ 32 }
         requires fits { varint_size len + len * T.MAX_ENCODE_SIZE < 2 ^ 64 }

@@ -10,6 +10,10 @@ use std::alloc::Allocator;
 
 impl<T: Drop, A: Allocator> NonEmptyVec<T, A> {
     /// Returns the list of one item. The only error is an allocation failure.
+    /// ```
+    /// let one = NonEmptyVec::new(alloc, 7u8)?;
+    /// assert!(rt; one.as_slice() == [7u8].as_slice());
+    /// ```
     pub fn new(alloc: A, first: T) -> Result<Self, Error>
         ensures { MatchResult result (λ v. v ≡ first ∷ []) (λ error. error ≡ Memory) }
     {
@@ -58,6 +62,10 @@ impl<T: Drop, A: Allocator> TryFromIterator<T, A> for NonEmptyVec<T, A> {
 impl<T: Clone, A: Allocator> NonEmptyVec<T, A> {
     /// Returns the list of clones of all the items, or `Empty` where there are none, and then it
     /// allocates nothing.
+    /// ```
+    /// let list = NonEmptyVec::try_from_slice(alloc, &[3u8, 1, 2])?;
+    /// assert!(rt; list.as_slice() == [3u8, 1, 2].as_slice());
+    /// ```
     pub fn try_from_slice(alloc: A, items: &[T]) -> Result<Self, Error>
         ensures { IsWholeOfClones T.is_clone items.now result }
     {
@@ -70,6 +78,10 @@ impl<T: Clone, A: Allocator> NonEmptyVec<T, A> {
 
     /// Returns the list of clones of all the items, or `Empty` where there are none, and then it
     /// allocates nothing. The array is dropped.
+    /// ```
+    /// let none = NonEmptyVec::try_from_array(alloc, [0u8; 0]);
+    /// assert!(rt; none.err() == Some(Error::Empty));
+    /// ```
     pub fn try_from_array<const N: usize>(alloc: A, items: [T; N]) -> Result<Self, Error>
         ensures { IsWholeOfClones T.is_clone items result }
     {
@@ -78,6 +90,10 @@ impl<T: Clone, A: Allocator> NonEmptyVec<T, A> {
 
     /// Returns the list of clones of all the items, or `Empty` where there are none, and then it
     /// allocates nothing.
+    /// ```
+    /// let list = NonEmptyVec::try_from_array_ref(alloc, &[3u8, 1, 2])?;
+    /// assert!(rt; list.as_slice() == [3u8, 1, 2].as_slice());
+    /// ```
     pub fn try_from_array_ref<const N: usize>(alloc: A, items: &[T; N]) -> Result<Self, Error>
         ensures { IsWholeOfClones T.is_clone items.now result }
     {

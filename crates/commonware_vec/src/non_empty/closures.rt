@@ -16,6 +16,11 @@ impl<T, A: Allocator + Copy> NonEmptyVec<T, A> {
     /// Returns the list of what `f` returns for each item, in order. Room for all results is
     /// reserved before the first call. The only error is an allocation failure, and then nothing
     /// was called.
+    /// ```
+    /// let list = NonEmptyVec::try_from_array(alloc, [3u8, 1, 2])?;
+    /// let wide = list.map(|item| u32::from(*item))?;
+    /// assert!(rt; wide.as_slice() == [3u32, 1, 2].as_slice());
+    /// ```
     pub fn map<U, F: FnMut(&T) -> U>(&self, mut f: F) -> Result<NonEmptyVec<U, A>, Error>
         requires { CallableAlong (CalledAt F.FnMut) (TakesAt F.FnMut) f self.now }
         ensures items { IfOk result (λ v. CallsGiveAll (CalledAt F.FnMut) f self.now v) }
@@ -31,6 +36,11 @@ impl<T, A: Allocator + Copy> NonEmptyVec<T, A> {
     /// Returns the list of what `f` returns for each item, in order. Room for all results is
     /// reserved before the first call. The only error is an allocation failure, and then nothing
     /// was called, and the items are dropped.
+    /// ```
+    /// let list = NonEmptyVec::try_from_array(alloc, [3u8, 1, 2])?;
+    /// let wide = list.map_into(|item| u32::from(item))?;
+    /// assert!(rt; wide.as_slice() == [3u32, 1, 2].as_slice());
+    /// ```
     pub fn map_into<U, F: FnMut(T) -> U>(self, mut f: F) -> Result<NonEmptyVec<U, A>, Error>
     where
         T: Drop,
@@ -52,6 +62,11 @@ impl<T: Drop, A: Allocator> NonEmptyVec<T, A> {
     /// each place that is new, comes after them. Where it gets no longer, nothing is called, and
     /// there is no error; else room for all results is reserved before the first call. The only
     /// error is an allocation failure, and then nothing was called, and the list is as it was.
+    /// ```
+    /// let mut list = NonEmptyVec::new(alloc, 3u8)?;
+    /// list.resize_with(NZUsize!(3), || 9)?;
+    /// assert!(rt; list.as_slice() == [3u8, 9, 9].as_slice());
+    /// ```
     pub fn resize_with<F: FnMut() -> T>(&mut self, len: NonZeroUsize, f: F) -> Result<(), Error>
         requires { CallableTimes F.FnMut f (non_zero_usize_get len - length self.old) }
         ensures items { let size = non_zero_usize_get len in OnOk result

@@ -15,6 +15,11 @@ use std::vec::VecCloneMethods;
 impl<T: Drop, A: Allocator> NonEmptyVec<T, A> {
     /// Appends the items that an iterator gives. The only error is an allocation failure, and then
     /// the list is as it was.
+    /// ```
+    /// let mut list = NonEmptyVec::new(alloc, 3u8)?;
+    /// list.extend([1u8, 2])?;
+    /// assert!(rt; list.as_slice() == [3u8, 1, 2].as_slice());
+    /// ```
     pub fn extend<I: IntoIterator<Item = T>>(&mut self, iter: I) -> Result<(), Error>
         requires { IsFiniteIterable I.into_iter_gives I.IntoIter.can_next
             I.IntoIter.remaining iter }
@@ -37,6 +42,11 @@ impl<T: Clone, A: Allocator> NonEmptyVec<T, A> {
     /// Makes the list `len` items long: the first ones stay, and clones of `value` come after them,
     /// or `value` itself. Where it gets no longer, there is no error. The only error is an
     /// allocation failure, and then the list is as it was.
+    /// ```
+    /// let mut list = NonEmptyVec::new(alloc, 3u8)?;
+    /// list.resize(NZUsize!(3), 7)?;
+    /// assert!(rt; list.as_slice() == [3u8, 7, 7].as_slice());
+    /// ```
     pub fn resize(&mut self, len: NonZeroUsize, value: T) -> Result<(), Error>
         ensures items { let size = non_zero_usize_get len in OnOk result
             (AppendsClonesOf T.is_clone (take size self.old) self.new value) }
