@@ -7,8 +7,8 @@
 //     commonware.quorum(N3F1, 4); // 3
 
 import { LeftOver, NoMembers, NoMemory64, NoModel, RepeatedValue, WrongSize } from "./errors.js";
-import { ABSENT, OK, REPEATED_VALUE, ROOM, U64_MAX } from "./native.js";
-import { Counted, Native, Room, bytesOf, checked, isSupported, numberOf, wideOf } from "./native.js";
+import { Counted, Native, Room, U64_MAX, bytesOf, isSupported, numberOf, wideOf } from "./native.js";
+import { ABSENT, OK, REPEATED_VALUE, ROOM, checked } from "./statuses.js";
 
 export * from "./errors.js";
 export { isSupported } from "./native.js";

@@ -187,35 +187,3 @@ export class TooLight extends CommonwareError {
         super("the signers weigh less than a quorum");
     }
 }
-
-// The error of each status of the library, which is made of the view's number; ROOM and ABSENT are no errors here.
-const BY_STATUS = new Map([
-    [1, EndOfInput],
-    [2, InvalidVarint],
-    [3, InvalidLength],
-    [4, NotStrict],
-    [5, OutOfMemory],
-    [6, LeftOver],
-    [7, NoMembers],
-    [8, SameValue],
-    [9, Outside],
-    [10, TooFew],
-    [13, NoModel],
-    [14, NoSlot],
-    [15, OtherSlot],
-    [16, NoSize],
-    [17, NotWhole],
-    [19, RepeatedKey],
-    [20, ZeroWeight],
-    [21, WeightOverflow],
-    [22, TooLight],
-]);
-
-/** Returns the error of a view whose status isn't 0. */
-export function errorOf(view) {
-    const Class = BY_STATUS.get(view.status);
-    // Of an input, NotStrict has no index.
-    const error = Class === NotStrict ? new NotStrict(view.size === undefined ? null : view.number) : new Class(view.number);
-    error.which = view.which || null;
-    return error;
-}

@@ -1,13 +1,9 @@
 // The proved functions as the module has them: arguments go into its memory, and a view comes out. The other files
 // call them by this one alone.
 
-import { NoMemory64, OutOfMemory, OutOfRange, errorOf } from "./errors.js";
+import { NoMemory64, OutOfMemory, OutOfRange } from "./errors.js";
+import { MEMORY } from "./statuses.js";
 
-export const OK = 0;
-export const MEMORY = 5;
-export const ROOM = 11;
-export const ABSENT = 12;
-export const REPEATED_VALUE = 18;
 export const U32_MAX = 2 ** 32 - 1;
 export const U64_MAX = 2n ** 64n - 1n;
 
@@ -188,12 +184,4 @@ export class Native {
             }
         }
     }
-}
-
-/** Returns the view of a call that is to have status 0, or one of these. */
-export function checked(view, ...statuses) {
-    if (view.status !== OK && !statuses.includes(view.status)) {
-        throw errorOf(view);
-    }
-    return view;
 }

@@ -5,7 +5,7 @@
 //
 // Each thing that is tried is a line, 'ok WHAT' or 'not ok WHAT: WHY'.
 
-import { readFile, writeFile, mkdtemp, rm } from "node:fs/promises";
+import { mkdtemp, rm, writeFile } from "node:fs/promises";
 import { tmpdir } from "node:os";
 import { join, resolve } from "node:path";
 import { pathToFileURL } from "node:url";
@@ -42,12 +42,11 @@ const SHOWN = [
 ];
 
 async function tryModule(tab) {
-    const vectors = "/vectors";
     for (const name of Object.keys(FILES)) {
         const { count, wrong } = await tab.value(`(async () => {
             const { load } = await import("/bindings/web/commonware.js");
             const { tryVectors } = await import("/bindings/web/tests/vectors.js");
-            const file = await (await fetch("${vectors}/${name}.json")).json();
+            const file = await (await fetch("/vectors/${name}.json")).json();
             return tryVectors(await load(), "${name}", file);
         })()`);
         note(wrong.length === 0, `browser: ${count} vectors of ${name}`, wrong.slice(0, 3).join("; "));

@@ -1,30 +1,16 @@
 // A browser without a window, driven by its DevTools protocol over a pipe: no package is needed.
 
 import { spawn } from "node:child_process";
-import { createServer } from "node:http";
-import { mkdtemp, readFile, rm } from "node:fs/promises";
+import { mkdtemp, rm } from "node:fs/promises";
 import { tmpdir } from "node:os";
-import { extname, join, normalize } from "node:path";
+import { join } from "node:path";
 
-const TYPES = { ".html": "text/html", ".js": "text/javascript", ".css": "text/css", ".json": "application/json" };
-TYPES[".wasm"] = "application/wasm";
-
-/** Serves a folder, as `python3 -m http.server` does; returns its address and what ends it. */
+/** Serves a folder as README says; returns its address and what ends it. */
 export async function serve(folder) {
-    const server = createServer(async (request, response) => {
-        const { pathname } = new URL(request.url, "http://localhost");
-        const path = join(folder, normalize(decodeURIComponent(pathname)), pathname.endsWith("/") ? "index.html" : "");
-        try {
-            const body = await readFile(path);
-            response.writeHead(200, { "content-type": TYPES[extname(path)] ?? "application/octet-stream" });
-            response.end(body);
-        } catch {
-            response.writeHead(404);
-            response.end();
-        }
-    });
-    await new Promise((resolve) => server.listen(0, "127.0.0.1", resolve));
-    return { address: `http://127.0.0.1:${server.address().port}`, end: () => server.close() };
+    const words = ["-u", "-m", "http.server", "--bind", "127.0.0.1", "0"];
+    const server = spawn("python3", words, { cwd: folder, stdio: ["ignore", "pipe", "ignore"] });
+    const line = await new Promise((resolve) => server.stdout.once("data", (data) => resolve(String(data))));
+    return { address: `http://127.0.0.1:${line.match(/port (\d+)/)[1]}`, end: () => server.kill() };
 }
 
 export class Browser {
