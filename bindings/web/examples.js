@@ -42,7 +42,7 @@ export const EXAMPLES = [
         name: "A bimap whose values repeat",
         fields: { kind: "bimap", "key-size": 4, "value-size": 2, bytes: "03 00000001 00000002 000000ff 03 0a0a 0b0b 0a0a" },
     },
-    { name: "Ten members, f by f", fields: { bytes: `0a ${[..."0123456789"].map((it) => member(`${it}0`)).join(" ")}`, members: 10 }, at: "picture" },
+    { name: "Ten members", fields: { bytes: `0a ${[..."0123456789"].map((it) => member(`${it}0`)).join(" ")}`, members: 10 }, at: "picture" },
     {
         name: "Two slots accuse no one",
         fields: { second: "08 06 76 69 65 77 20 38 42 03 01 02 03" },

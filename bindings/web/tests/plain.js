@@ -228,7 +228,7 @@ export class Judge {
     }
 
     only(bytes) {
-        const { value, left } = read("certificate", bytes);
+        const { value, left } = read("certificate", bytes, [], [Infinity, Infinity]);
         if (left.length > 0) {
             throw new Fault("LeftOver", left.length);
         }

@@ -17,8 +17,8 @@ Object.assign(NUMBERS, { ZeroWeight: ["participant", "index"], WeightOverflow: [
 export const FILES = {
     set_u8: 60, set_u32: 60, set_member: 60, set_bytes20: 60, set_bytes33: 60, set_bytes48: 60, set_bytes96: 60,
     map_u8_u8: 60, map_member_u8: 60, map_member_u64: 60, bimap_u8_u8: 60, bimap_member_member: 60,
-    certificate: 20, build: 100, build_unique: 60, position: 100, faults: 60, quorum: 100, conflict: 100,
-    equivocation: 100, weights: 60, weighted_quorum: 100, weighted_conflict: 100, weighted_equivocation: 100,
+    certificate: 80, build: 80, build_unique: 20, position: 100, faults: 60, quorum: 100, conflict: 70,
+    equivocation: 100, weights: 100, weighted_quorum: 100, weighted_conflict: 80, weighted_equivocation: 90,
 };
 
 export const bytes = (hex) => Uint8Array.from(hex.match(/../g) ?? [], (it) => parseInt(it, 16));
