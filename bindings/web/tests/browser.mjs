@@ -223,7 +223,7 @@ try {
         for (const [scheme, index, name] of [["light", 1, "light"], ["dark", 0, "dark"]]) {
             await tab.scheme(scheme);
             await tab.value(`document.getElementById("example-${index}").click()`);
-            await writeFile(join(pictures, `${name}.png`), await tab.picture(900, 2900));
+            await writeFile(join(pictures, `${name}.png`), await tab.picture(860, 1525));
         }
     }
 } finally {

@@ -148,9 +148,10 @@ class Tab {
         await this.send("Emulation.setEmulatedMedia", { features: [{ name: "prefers-color-scheme", value }] });
     }
 
-    /** Takes a picture of the top of the page, or of all. */
+    /** Takes a picture of the top of the page. */
     async picture(width, height) {
         await this.send("Emulation.setDeviceMetricsOverride", { width, height, deviceScaleFactor: 1, mobile: false });
+        await this.send("Emulation.setScrollbarsHidden", { hidden: true });
         await this.value("scrollTo(0, 0)");
         const { data } = await this.send("Page.captureScreenshot", { format: "png" });
         return Buffer.from(data, "base64");
