@@ -1,0 +1,176 @@
+/** The types of commonware.js, which documents each function. */
+
+/** The k of the fault models N3f1 and N5f1. */
+export const N3F1: 3;
+export const N5F1: 5;
+/** How many bytes a member of a committee has. */
+export const MEMBER_SIZE: 32;
+
+/** A whole number below 2^64. */
+export type Wide = number | bigint;
+/** Items of one size: an array of each, or their bytes one after another. */
+export type Items = Iterable<Uint8Array> | Uint8Array;
+/** Pairs of a key and a value: an array of each, or their bytes one after another. */
+export type Pairs = Iterable<readonly [Uint8Array, Uint8Array]> | Uint8Array;
+
+/** How many items are allowed: all numbers where nothing is said. */
+export interface Limits {
+    least?: Wide;
+    most?: Wide;
+}
+
+export interface CertificateLimits {
+    mostBytes?: Wide;
+    mostSigners?: Wide;
+}
+
+/** What follows the value that was read. */
+export interface Left {
+    left: Uint8Array;
+}
+
+export interface Committee {
+    members: Uint8Array[];
+}
+
+export interface Keys {
+    keys: Uint8Array[];
+}
+
+/** Keys in order, and the value of each at its index. */
+export interface Pairing extends Keys {
+    values: Uint8Array[];
+}
+
+export interface BiMap extends Pairing {
+    /** The indices of the pairs in the order of their values. */
+    byValue: number[];
+}
+
+export interface Certificate {
+    value: Uint8Array;
+    /** The indices of the signers, strictly increasing. */
+    signers: number[];
+}
+
+/** A certificate that a quorum signed. */
+export interface Checked {
+    /** How many members signed. */
+    signers: number;
+    value: Uint8Array;
+    /** The slot of the value, and the decision for it; null where the value has none. */
+    slot: Uint8Array | null;
+    decision: Uint8Array | null;
+}
+
+export interface WeightedChecked extends Checked {
+    /** What the signers weigh. */
+    weight: bigint;
+}
+
+/** Who signed both of two certificates, and what they weigh. */
+export interface Named {
+    both: number[];
+    weight: bigint;
+}
+
+export interface WeightNumbers {
+    total: bigint;
+    /** What faulty members may weigh together. */
+    tolerated: bigint;
+    quorum: bigint;
+    smallerQuorum: bigint;
+}
+
+/** Tells whether WebAssembly here has memories of 64 bits. */
+export function isSupported(): boolean;
+/** Loads the module: that beside commonware.js, or the bytes that are given. */
+export function load(bytes?: BufferSource): Promise<Commonware>;
+
+export class Commonware {
+    constructor(module: WebAssembly.Module);
+    get version(): string;
+    maxFaults(k: number, n: number): number;
+    quorum(k: number, n: number): number;
+    smallerQuorum(k: number, n: number): number;
+    readCommittee(input: Uint8Array, limits?: Limits): Committee & Left;
+    decodeCommittee(input: Uint8Array, limits?: Limits): Uint8Array[];
+    encodeCommittee(members: Items): Uint8Array;
+    indexOfMember(members: Items, key: Uint8Array): number | null;
+    readSet(size: number, input: Uint8Array, limits?: Limits): Keys & Left;
+    decodeSet(size: number, input: Uint8Array, limits?: Limits): Uint8Array[];
+    encodeSet(size: number, keys: Items): Uint8Array;
+    indexOfKey(keys: Items, key: Uint8Array): number | null;
+    readMap(keySize: number, valueSize: number, input: Uint8Array, limits?: Limits): Pairing & Left;
+    decodeMap(keySize: number, valueSize: number, input: Uint8Array, limits?: Limits): Pairing;
+    encodeMap(keySize: number, valueSize: number, pairs: Pairs): Uint8Array;
+    encodeUniqueMap(keySize: number, valueSize: number, pairs: Pairs): Uint8Array;
+    readBiMap(keySize: number, valueSize: number, input: Uint8Array, limits?: Limits): BiMap & Left;
+    decodeBiMap(keySize: number, valueSize: number, input: Uint8Array, limits?: Limits): BiMap;
+    readCertificate(input: Uint8Array, limits?: CertificateLimits): Certificate & Left;
+    decodeCertificate(input: Uint8Array, limits?: CertificateLimits): Certificate;
+    encodeCertificate(value: Uint8Array, signers: Iterable<number>): Uint8Array;
+    encodeValue(slot: Uint8Array, decision: Uint8Array): Uint8Array;
+    checkQuorum(k: number, members: number, certificate: Uint8Array): Checked;
+    conflict(k: number, members: number, first: Uint8Array, second: Uint8Array): number[];
+    equivocation(k: number, members: number, first: Uint8Array, second: Uint8Array): number[];
+    weightNumbers(k: number, weights: Iterable<Wide>): WeightNumbers;
+    checkWeightedQuorum(k: number, weights: Iterable<Wide>, certificate: Uint8Array): WeightedChecked;
+    weightedConflict(k: number, weights: Iterable<Wide>, first: Uint8Array, second: Uint8Array): Named;
+    weightedEquivocation(k: number, weights: Iterable<Wide>, first: Uint8Array, second: Uint8Array): Named;
+}
+
+/** The base of all errors. */
+export class CommonwareError extends Error {
+    /** 1 or 2 where one of two certificates is what the error is about. */
+    which: 1 | 2 | null;
+}
+export class NoMemory64 extends CommonwareError {}
+export class OutOfMemory extends CommonwareError {}
+export class OutOfRange extends CommonwareError {
+    argument: string;
+    number: unknown;
+    most: Wide;
+}
+export class EndOfInput extends CommonwareError {}
+export class InvalidVarint extends CommonwareError {}
+export class InvalidLength extends CommonwareError {
+    length: number;
+}
+export class NotStrict extends CommonwareError {
+    /** The index of a signer that was to be written; null of an input. */
+    index: number | null;
+}
+export class LeftOver extends CommonwareError {
+    count: number;
+}
+export class RepeatedValue extends CommonwareError {
+    first: number;
+    second: number;
+}
+export class RepeatedKey extends CommonwareError {
+    index: number;
+}
+export class NoSize extends CommonwareError {}
+export class NotWhole extends CommonwareError {
+    count: number;
+}
+export class WrongSize extends CommonwareError {
+    index: number;
+    length: number;
+    size: number;
+}
+export class NoModel extends CommonwareError {}
+export class NoMembers extends CommonwareError {}
+export class SameValue extends CommonwareError {}
+export class Outside extends CommonwareError {}
+export class TooFew extends CommonwareError {}
+export class NoSlot extends CommonwareError {}
+export class OtherSlot extends CommonwareError {}
+export class ZeroWeight extends CommonwareError {
+    index: number;
+}
+export class WeightOverflow extends CommonwareError {
+    index: number;
+}
+export class TooLight extends CommonwareError {}

@@ -1,0 +1,382 @@
+// Committees, sets, maps, bimaps, certificates and quorums of consensus nodes, by the proved functions of
+// commonware.wasm: what is decoded, written and judged here, they decide. This file, which isn't proved but tested,
+// carries bytes in and out.
+//
+//     import { load } from "./commonware.js";
+//     const commonware = await load();
+//     commonware.quorum(N3F1, 4); // 3
+
+import { LeftOver, NoMembers, NoMemory64, NoModel, RepeatedValue, WrongSize } from "./errors.js";
+import { Counted, Native, Room, U64_MAX, bytesOf, isSupported, numberOf, wideOf } from "./native.js";
+import { ABSENT, OK, REPEATED_VALUE, ROOM, checked } from "./statuses.js";
+
+export * from "./errors.js";
+export { isSupported } from "./native.js";
+
+/** The k of the fault models N3f1 and N5f1, whose n participants are at least kf + 1. */
+export const N3F1 = 3;
+export const N5F1 = 5;
+
+/** How many bytes a member of a committee has. */
+export const MEMBER_SIZE = 32;
+
+/** Loads the module: that beside this file, or the bytes that are given. */
+export async function load(bytes = undefined) {
+    if (!isSupported()) {
+        throw new NoMemory64();
+    }
+    return new Commonware(await WebAssembly.compile(bytes ?? (await besideThis())));
+}
+
+/** Returns the bytes of the module beside this file, in a browser or in Node. */
+async function besideThis() {
+    const place = new URL("commonware.wasm", import.meta.url);
+    if (place.protocol === "file:" && typeof process === "object") {
+        const { readFile } = await import("node:fs/promises");
+        return readFile(place);
+    }
+    const answer = await fetch(place);
+    if (!answer.ok) {
+        throw new Error(`${place}: ${answer.status}`);
+    }
+    return answer.arrayBuffer();
+}
+
+/** Returns the least and the greatest number of items that are allowed. */
+function limitsOf({ least = 0, most = U64_MAX } = {}) {
+    return [wideOf("least", least), wideOf("most", most)];
+}
+
+/** Returns a size of items as the library has it. */
+function sizeOf(name, size) {
+    return BigInt(numberOf(name, size, Number.MAX_SAFE_INTEGER));
+}
+
+/** Returns the items of one size that stand from a place on. */
+function itemsAt(input, start, size, count) {
+    return Array.from({ length: count }, (_, index) => input.slice(start + index * size, start + (index + 1) * size));
+}
+
+/** Returns items of one size as bytes, one after another. */
+function joined(name, items, size) {
+    if (items instanceof Uint8Array) {
+        return items;
+    }
+    const list = Array.from(items, (it) => bytesOf(name, it));
+    const wrong = list.findIndex((it) => it.length !== size);
+    if (wrong >= 0) {
+        throw new WrongSize(wrong, list[wrong].length, size);
+    }
+    const all = new Uint8Array(list.reduce((sum, it) => sum + it.length, 0));
+    list.forEach((it, index) => all.set(it, index * size));
+    return all;
+}
+
+/** Returns the pairs of a map as bytes, one after another. */
+function joinedPairs(pairs, keySize, valueSize) {
+    if (pairs instanceof Uint8Array) {
+        return pairs;
+    }
+    const list = [...pairs];
+    const keys = joined("a key", list.map((it) => it[0]), keySize);
+    const values = joined("a value", list.map((it) => it[1]), valueSize);
+    const all = new Uint8Array(keys.length + values.length);
+    for (let index = 0; index < list.length; index++) {
+        const at = index * (keySize + valueSize);
+        all.set(keys.subarray(index * keySize, (index + 1) * keySize), at);
+        all.set(values.subarray(index * valueSize, (index + 1) * valueSize), at + keySize);
+    }
+    return all;
+}
+
+function signersOf(signers) {
+    return Uint32Array.from(signers, (it) => numberOf("a signer", it));
+}
+
+function weightsOf(weights) {
+    return BigUint64Array.from(weights, (it) => wideOf("a weight", it));
+}
+
+/** The functions of one instance of the module. */
+export class Commonware {
+    #native;
+
+    /** Makes an instance of a module: `new WebAssembly.Module(bytes)`. */
+    constructor(module) {
+        this.#native = new Native(module);
+    }
+
+    /** The version of the library, as "1.1.0". */
+    get version() {
+        const number = this.#native.number("version");
+        return [number / 1e6, (number / 1e3) % 1e3, number % 1e3].map(Math.floor).join(".");
+    }
+
+    /** How many of n participants may be faulty at a resilience n >= kf + 1: the greatest f that fits. */
+    maxFaults(k, n) {
+        return this.#ofModel("max_faults", k, n);
+    }
+
+    /** How many of n participants make a quorum, n - f. */
+    quorum(k, n) {
+        return this.#ofModel("quorum", k, n);
+    }
+
+    /** The least size whose subsets share f + 1 participants with each quorum, 2f + 1. */
+    smallerQuorum(k, n) {
+        return this.#ofModel("smaller_quorum", k, n);
+    }
+
+    #ofModel(name, k, n) {
+        if (numberOf("k", k) < 2) {
+            throw new NoModel();
+        }
+        if (numberOf("n", n) === 0) {
+            throw new NoMembers();
+        }
+        return this.#native.number(name, k, n);
+    }
+
+    /** Decodes a committee at the start of the input; `left` is what follows it. */
+    readCommittee(input, limits = {}) {
+        const { keys, left } = this.#keys("committee_read", [], MEMBER_SIZE, input, limits);
+        return { members: keys, left };
+    }
+
+    /** Decodes a committee that is the whole input: its members in order. */
+    decodeCommittee(input, limits = {}) {
+        return whole(this.readCommittee(input, limits)).members;
+    }
+
+    /** Encodes the committee of these members, which may come in any order and repeat. */
+    encodeCommittee(members) {
+        const bytes = joined("a member", members, MEMBER_SIZE);
+        const count = Math.floor(bytes.length / MEMBER_SIZE);
+        if (count * MEMBER_SIZE !== bytes.length) {
+            throw new WrongSize(count, bytes.length % MEMBER_SIZE, MEMBER_SIZE);
+        }
+        return this.#written("committee_write", [new Counted(bytes, count)], 5 + bytes.length);
+    }
+
+    /** Returns the index of a member, or null where the key is none. */
+    indexOfMember(members, key) {
+        const bytes = joined("a member", members, MEMBER_SIZE);
+        if (bytesOf("key", key).length !== MEMBER_SIZE) {
+            return null;
+        }
+        const list = new Counted(bytes, Math.floor(bytes.length / MEMBER_SIZE));
+        return this.#place("committee_index", [list, new Counted(key, null)]);
+    }
+
+    /** Decodes a set of keys of `size` bytes at the start of the input; `left` is what follows it. */
+    readSet(size, input, limits = {}) {
+        return this.#keys("set_read", [sizeOf("size", size)], size, input, limits);
+    }
+
+    #keys(name, sizes, size, input, limits) {
+        const bytes = bytesOf("input", input);
+        const view = checked(this.#native.call(name, "set", [...sizes, bytes, ...limitsOf(limits)]));
+        return { keys: itemsAt(bytes, view.start, size, view.count), left: bytes.slice(bytes.length - view.left) };
+    }
+
+    /** Decodes a set that is the whole input: its keys in order. */
+    decodeSet(size, input, limits = {}) {
+        return whole(this.readSet(size, input, limits)).keys;
+    }
+
+    /** Encodes the set of these keys of `size` bytes, which may come in any order and repeat. */
+    encodeSet(size, keys) {
+        const args = [sizeOf("size", size), joined("a key", keys, size)];
+        return this.#written("set_write", args, 5 + args[1].length);
+    }
+
+    /** Returns the index of a key among keys of as many bytes, in order, or null where it isn't there. */
+    indexOfKey(keys, key) {
+        const bytes = joined("a key", keys, bytesOf("key", key).length);
+        return this.#place("set_index", [bytes, key]);
+    }
+
+    /** Decodes a map of keys and values of these sizes at the start of the input; `left` is what follows it. */
+    readMap(keySize, valueSize, input, limits = {}) {
+        const bytes = bytesOf("input", input);
+        const args = [sizeOf("keySize", keySize), sizeOf("valueSize", valueSize), bytes, ...limitsOf(limits)];
+        const view = checked(this.#native.call("map_read", "map", args));
+        return columnsOf(keySize, valueSize, bytes, view);
+    }
+
+    /** Decodes a map that is the whole input: its keys in order, and the value of each. */
+    decodeMap(keySize, valueSize, input, limits = {}) {
+        const { keys, values } = whole(this.readMap(keySize, valueSize, input, limits));
+        return { keys, values };
+    }
+
+    /** Encodes the map of these pairs, `[key, value]` each, in any order. Of pairs with equal keys the first stays. */
+    encodeMap(keySize, valueSize, pairs) {
+        return this.#map("map_write", keySize, valueSize, pairs);
+    }
+
+    /** Encodes the map of these pairs, no two of which may have one key: RepeatedKey where two do. */
+    encodeUniqueMap(keySize, valueSize, pairs) {
+        return this.#map("map_write_unique", keySize, valueSize, pairs);
+    }
+
+    #map(name, keySize, valueSize, pairs) {
+        const sizes = [sizeOf("keySize", keySize), sizeOf("valueSize", valueSize)];
+        const bytes = joinedPairs(pairs, keySize, valueSize);
+        return this.#written(name, [...sizes, bytes], 10 + bytes.length);
+    }
+
+    /** Decodes a bimap, a map whose values all differ, at the start of the input; `left` is what follows it.
+     * `byValue` has the indices of the pairs in the order of their values. */
+    readBiMap(keySize, valueSize, input, limits = {}) {
+        const bytes = bytesOf("input", input);
+        const args = [sizeOf("keySize", keySize), sizeOf("valueSize", valueSize), bytes, ...limitsOf(limits)];
+        const read = (length) => this.#native.call("bimap_read", "bimap", [...args, new Room(Uint32Array, length)]);
+        const view = this.#withRoom(read, (it) => it.number, REPEATED_VALUE);
+        if (view.status === REPEATED_VALUE) {
+            throw new RepeatedValue(view.first, view.second);
+        }
+        return { ...columnsOf(keySize, valueSize, bytes, view), byValue: [...view.out] };
+    }
+
+    /** Decodes a bimap that is the whole input. */
+    decodeBiMap(keySize, valueSize, input, limits = {}) {
+        const { keys, values, byValue } = whole(this.readBiMap(keySize, valueSize, input, limits));
+        return { keys, values, byValue };
+    }
+
+    /** Decodes a certificate at the start of the input: its value, the indices of its signers in order, and `left`,
+     * which is what follows it. */
+    readCertificate(input, { mostBytes = U64_MAX, mostSigners = U64_MAX } = {}) {
+        const bytes = bytesOf("input", input);
+        const args = [bytes, wideOf("mostBytes", mostBytes), wideOf("mostSigners", mostSigners)];
+        const read = (length) =>
+            this.#native.call("certificate_read", "certificate", [...args, new Room(Uint32Array, length)]);
+        const view = this.#withRoom(read, (it) => it.signers);
+        const value = bytes.slice(view.valueStart, view.valueStart + view.valueLength);
+        return { value, signers: [...view.out], left: bytes.slice(bytes.length - view.left) };
+    }
+
+    /** Decodes a certificate that is the whole input. */
+    decodeCertificate(input, limits = {}) {
+        const { value, signers } = whole(this.readCertificate(input, limits));
+        return { value, signers };
+    }
+
+    /** Encodes the certificate of a value and of the indices of its signers, which are strictly increasing. */
+    encodeCertificate(value, signers) {
+        const indices = signersOf(signers);
+        const most = 10 + bytesOf("value", value).length + 5 * indices.length;
+        return this.#plain("certificate_write", [value, indices], most);
+    }
+
+    /** Encodes the value that a decision for a slot is. A slot is what a protocol decides once: a height and a
+     * view, say. Members sign this value. */
+    encodeValue(slot, decision) {
+        const most = 5 + bytesOf("slot", slot).length + bytesOf("decision", decision).length;
+        return this.#plain("value_write", [slot, decision], most);
+    }
+
+    /** Judges whether a quorum of a committee of `members` signed a certificate: returns how many signed, the value,
+     * and its slot and decision, which are null where it has none. No signature is looked at. */
+    checkQuorum(k, members, certificate) {
+        const bytes = bytesOf("certificate", certificate);
+        const args = [numberOf("k", k), numberOf("members", members), bytes];
+        return checkedOf(bytes, checked(this.#native.call("certificate_check", "check", args)));
+    }
+
+    /** Returns the indices of the members that signed both of two certificates for different values. No signature
+     * is looked at. */
+    conflict(k, members, first, second) {
+        return this.#both("conflict", "conflict", [numberOf("k", k), numberOf("members", members)], first, second).both;
+    }
+
+    /** The same of two certificates for different decisions for one slot: these members equivocated. */
+    equivocation(k, members, first, second) {
+        return this.#both("equivocation", "conflict", [numberOf("k", k), numberOf("members", members)], first, second).both;
+    }
+
+    /** What the weights of a committee allow, as bigints: what all weigh, what may be faulty, a quorum, and the least
+     * weight whose subsets share one more than may be faulty with each quorum. */
+    weightNumbers(k, weights) {
+        const args = [numberOf("k", k), weightsOf(weights)];
+        const view = checked(this.#native.call("weights_quorum", "weights", args));
+        const { total, tolerated, quorum, smallerQuorum } = view;
+        return { total, tolerated, quorum, smallerQuorum };
+    }
+
+    /** Judges whether members who weigh a quorum signed a certificate: what checkQuorum returns, and their weight. */
+    checkWeightedQuorum(k, weights, certificate) {
+        const bytes = bytesOf("certificate", certificate);
+        const args = [numberOf("k", k), weightsOf(weights), bytes];
+        const view = checked(this.#native.call("weighted_check", "weightedCheck", args));
+        return { ...checkedOf(bytes, view), weight: view.weight };
+    }
+
+    /** Returns the members that signed both of two certificates for different values, and what they weigh. */
+    weightedConflict(k, weights, first, second) {
+        const args = [numberOf("k", k), weightsOf(weights)];
+        return this.#both("weighted_conflict", "weightedConflict", args, first, second);
+    }
+
+    /** The same of two certificates for different decisions for one slot: these members equivocated. */
+    weightedEquivocation(k, weights, first, second) {
+        const args = [numberOf("k", k), weightsOf(weights)];
+        return this.#both("weighted_equivocation", "weightedConflict", args, first, second);
+    }
+
+    #both(name, kind, committee, first, second) {
+        const args = [...committee, bytesOf("first", first), bytesOf("second", second)];
+        const find = (length) => this.#native.call(name, kind, [...args, new Room(Uint32Array, length)]);
+        const view = this.#withRoom(find, (it) => it.count);
+        return kind === "conflict" ? { both: [...view.out] } : { both: [...view.out], weight: view.weight };
+    }
+
+    /** Calls with no room, and where some is needed again with as much. */
+    #withRoom(call, needed, ...statuses) {
+        const view = call(0);
+        return checked(view.status === ROOM ? call(needed(view)) : view, ...statuses);
+    }
+
+    #place(name, args) {
+        const view = checked(this.#native.call(name, "place", args), ABSENT);
+        return view.status === OK ? view.index : null;
+    }
+
+    #plain(name, args, most) {
+        const view = this.#native.call(name, "written", [...args, new Room(Uint8Array, most)]);
+        return checked(view).out.slice(0, view.size);
+    }
+
+    #written(name, args, most) {
+        const view = this.#native.allocating(name, [...args, new Room(Uint8Array, most)]);
+        return checked(view).out.slice(0, view.size);
+    }
+}
+
+/** Returns what was read, after which nothing may follow. */
+function whole(read) {
+    if (read.left.length > 0) {
+        throw new LeftOver(read.left.length);
+    }
+    return read;
+}
+
+function columnsOf(keySize, valueSize, input, view) {
+    return {
+        keys: itemsAt(input, view.keys, keySize, view.count),
+        values: itemsAt(input, view.values, valueSize, view.count),
+        left: input.slice(input.length - view.left),
+    };
+}
+
+function checkedOf(certificate, view) {
+    const part = (start, length) => certificate.slice(start, start + length);
+    const hasSlot = view.slotStart > 0;
+    return {
+        signers: view.signers,
+        value: part(view.valueStart, view.valueLength),
+        slot: hasSlot ? part(view.slotStart, view.slotLength) : null,
+        decision: hasSlot ? part(view.decisionStart, view.decisionLength) : null,
+    };
+}

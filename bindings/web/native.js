@@ -1,0 +1,187 @@
+// The proved functions as the module has them: arguments go into its memory, and a view comes out. The other files
+// call them by this one alone.
+
+import { NoMemory64, OutOfMemory, OutOfRange } from "./errors.js";
+import { MEMORY } from "./statuses.js";
+
+export const U32_MAX = 2 ** 32 - 1;
+export const U64_MAX = 2n ** 64n - 1n;
+
+// The smallest module with a 64-bit memory.
+const TINY = Uint8Array.of(0, 0x61, 0x73, 0x6d, 1, 0, 0, 0, 5, 3, 1, 4, 1);
+const PAGE = 65536;
+// Room for each view.
+const VIEW_SIZE = 128;
+
+// The fields of each view after its status, in their order. Those of 32 bits begin with u, the others have 64: a
+// weight is a bigint, and else a number, since no length here reaches 2^53.
+const VIEWS = {
+    set: ["ucount", "number", "start", "left"],
+    place: ["index"],
+    written: ["count", "number", "size"],
+    map: ["ucount", "number", "keys", "values", "left"],
+    bimap: ["ucount", "number", "keys", "values", "left", "first", "second"],
+    certificate: ["usigners", "number", "valueStart", "valueLength", "left"],
+    conflict: ["uwhich", "number", "count"],
+    weights: ["number", "total", "tolerated", "quorum", "smallerQuorum"],
+    weightedConflict: ["uwhich", "number", "count", "weight"],
+};
+VIEWS.check = ["usigners", "number", "valueStart", "valueLength", "slotStart", "slotLength"];
+VIEWS.check.push("decisionStart", "decisionLength");
+VIEWS.weightedCheck = [...VIEWS.check, "weight"];
+const WEIGHTS = new Set(["total", "tolerated", "quorum", "smallerQuorum", "weight"]);
+
+/** Tells whether WebAssembly here has memories of 64 bits. */
+export function isSupported() {
+    return typeof WebAssembly === "object" && WebAssembly.validate(TINY);
+}
+
+/** Returns an argument that is a whole number from 0 to `most`. */
+export function numberOf(name, number, most = U32_MAX) {
+    if (typeof number !== "number" || !Number.isInteger(number) || number < 0 || number > most) {
+        throw new OutOfRange(name, number, most);
+    }
+    return number;
+}
+
+/** Returns an argument of 64 bits, which is a number or a bigint. */
+export function wideOf(name, number) {
+    const wide = Number.isSafeInteger(number) ? BigInt(number) : number;
+    if (typeof wide !== "bigint" || wide < 0n || wide > U64_MAX) {
+        throw new OutOfRange(name, number, U64_MAX);
+    }
+    return wide;
+}
+
+/** Returns the bytes of an argument. Of a subclass, as Node's Buffer, `slice` may be another function. */
+export function bytesOf(name, data) {
+    if (!(data instanceof Uint8Array)) {
+        throw new TypeError(`${name} is a Uint8Array`);
+    }
+    return data.constructor === Uint8Array ? data : new Uint8Array(data.buffer, data.byteOffset, data.length);
+}
+
+function roundUp(number) {
+    return 16 * Math.ceil(number / 16);
+}
+
+/** Returns the view at a place in memory. */
+function viewAt(data, fields) {
+    const view = { status: data.getUint32(0, true) };
+    let at = 4;
+    for (const field of fields) {
+        if (field.startsWith("u")) {
+            view[field.slice(1)] = data.getUint32(at, true);
+            at += 4;
+            continue;
+        }
+        at = (at + 7) & ~7;
+        const wide = data.getBigUint64(at, true);
+        view[field] = WEIGHTS.has(field) ? wide : Number(wide);
+        at += 8;
+    }
+    return view;
+}
+
+/** Room for as many numbers of a type, which a function fills. */
+export class Room {
+    constructor(Type, length) {
+        this.Type = Type;
+        this.length = length;
+        this.byteLength = length * Type.BYTES_PER_ELEMENT;
+    }
+}
+
+/** Bytes whose length is told as a number of items, or isn't told where `count` is null. */
+export class Counted {
+    constructor(bytes, count) {
+        this.bytes = bytes;
+        this.length = count;
+        this.byteLength = bytes.byteLength;
+    }
+}
+
+/** An instance of the module. */
+export class Native {
+    #exports;
+    #base;
+    #Pages;
+
+    constructor(module) {
+        if (!isSupported()) {
+            throw new NoMemory64();
+        }
+        this.#exports = new WebAssembly.Instance(module, {}).exports;
+        this.#base = roundUp(Number(this.#exports.__heap_base.value));
+        try {
+            this.#exports.memory.grow(0n);
+            this.#Pages = BigInt;
+        } catch {
+            // Before memories of 64 bits were standard, they grew by a number.
+            this.#Pages = Number;
+        }
+    }
+
+    /** Calls a function of numbers alone. */
+    number(name, ...numbers) {
+        return this.#exports[`commonware_${name}`](...numbers) >>> 0;
+    }
+
+    /** Makes the memory as long as that, where it isn't yet. */
+    #grow(size) {
+        const { memory } = this.#exports;
+        const pages = Math.ceil((size - memory.buffer.byteLength) / PAGE);
+        if (pages > 0) {
+            try {
+                memory.grow(this.#Pages(pages));
+            } catch {
+                throw new OutOfMemory();
+            }
+        }
+    }
+
+    /** Calls a function, and returns its view, with what stands in a Room afterwards as `out`. The arguments are
+     * numbers, bigints, typed arrays, and the two classes above. At least `heap` bytes may be allocated. */
+    call(name, kind, args, heap = 0) {
+        // The view first, then each array, at multiples of 16.
+        let top = this.#base + VIEW_SIZE;
+        const words = [BigInt(this.#base)];
+        const placed = [];
+        for (const it of args) {
+            if (typeof it === "number" || typeof it === "bigint") {
+                words.push(it);
+                continue;
+            }
+            words.push(BigInt(top), ...(it.length === null ? [] : [BigInt(it.length)]));
+            placed.push([top, it]);
+            top = roundUp(top + it.byteLength);
+        }
+        this.#grow(top + heap);
+        const { buffer } = this.#exports.memory;
+        for (const [at, it] of placed) {
+            if (!(it instanceof Room)) {
+                const from = it.bytes ?? it;
+                new Uint8Array(buffer, at).set(new Uint8Array(from.buffer, from.byteOffset, from.byteLength));
+            }
+        }
+        this.#exports.commonware_heap_reset(BigInt(top), BigInt(buffer.byteLength - top));
+        this.#exports[`commonware_${name}`](...words);
+        const view = viewAt(new DataView(buffer, this.#base, VIEW_SIZE), VIEWS[kind]);
+        for (const [at, it] of placed.filter(([, it]) => it instanceof Room)) {
+            // A copy, since the next call takes the memory anew.
+            view.out = new it.Type(buffer, at, it.length).slice();
+        }
+        return view;
+    }
+
+    /** The same, of a function that allocates, with more and more memory as long as there is some. */
+    allocating(name, args) {
+        const given = args.reduce((sum, it) => sum + (it.byteLength ?? 0), 0);
+        for (let heap = PAGE + 4 * given; ; heap *= 4) {
+            const view = this.call(name, "written", args, heap);
+            if (view.status !== MEMORY) {
+                return view;
+            }
+        }
+    }
+}
