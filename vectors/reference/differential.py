@@ -1,9 +1,8 @@
 """Compares a program with the reference: python3 -B vectors/reference/differential.py [--seed N]
-[--count N] [--without TYPE].. PROGRAM [WORD]..
+[--count N] PROGRAM [WORD]..
 
 The program reads questions on standard input and writes an answer a line, as `judge` does. With
-`--also OTHER` another program is compared on the same questions. With `--without TYPE` nothing is
-asked about a type.
+`--also OTHER` another program is compared on the same questions.
 """
 
 import argparse
@@ -12,7 +11,6 @@ import sys
 
 from answers import answers_to
 from generate import questions
-from lines import type_of
 
 # How many differences are told.
 TOLD = 10
@@ -23,7 +21,6 @@ def parse():
     parser = argparse.ArgumentParser(description="Compares a program with the reference.")
     parser.add_argument("--seed", type=int, default=1, help="makes other questions (1)")
     parser.add_argument("--count", type=int, default=200000, help="how many questions (200000)")
-    parser.add_argument("--without", action="append", default=[], help="a type that isn't asked about")
     parser.add_argument("--also", action="append", default=[], help="another program")
     parser.add_argument("program", nargs=argparse.REMAINDER, help="the program and its words")
     asked = parser.parse_args()
@@ -50,7 +47,7 @@ def differences(lines, expected, command):
 def main():
     """Returns whether a program differs."""
     asked = parse()
-    lines = [it for it in questions(asked.seed, asked.count) if type_of(it) not in asked.without]
+    lines = questions(asked.seed, asked.count)
     expected = answers_to("\n".join(lines) + "\n")
     failed = False
     for command in [asked.program, *([it] for it in asked.also)]:

@@ -58,12 +58,6 @@ def word(name, value):
     return value or "-" if name in BYTES else str(value)
 
 
-def type_of(line):
-    """Returns the word of a question that is a type, where it has one; else another word."""
-    words = line.removesuffix("\r").split(" ")
-    return words[1] if WORDS.get(words[0], [])[:1] == ["type"] and len(words) > 1 else words[0]
-
-
 def line_of_parts(question):
     """Returns the line that the parts of a question make, each number without zeros before it."""
     ask = question["ask"]

@@ -88,8 +88,17 @@ fn are_answered(kind: &str, least: usize, ask: impl Fn(&[u8], usize, usize) -> S
 
 #[test]
 fn sets_are_decoded_as_the_vectors_say() {
-    for (kind, size) in [("set<u8>", 1), ("set<u32>", 4)] {
-        are_answered(kind, 60, |input, from, to| {
+    let kinds = [
+        ("set<u8>", 1, 60),
+        ("set<u32>", 4, 60),
+        ("set<member>", 32, 80),
+        ("set<bytes20>", 20, 80),
+        ("set<bytes33>", 33, 80),
+        ("set<bytes48>", 48, 80),
+        ("set<bytes96>", 96, 100),
+    ];
+    for (kind, size, least) in kinds {
+        are_answered(kind, least, |input, from, to| {
             let result = SetView::read(size, input, from..=to);
             answer(result.map(|(set, rest)| (set.len(), rest)))
         });
@@ -98,23 +107,32 @@ fn sets_are_decoded_as_the_vectors_say() {
 
 #[test]
 fn maps_are_decoded_as_the_vectors_say() {
-    are_answered("map<u8,u8>", 60, |input, from, to| {
-        let result = MapView::read(1, 1, input, from..=to);
-        answer(result.map(|(map, rest)| (map.len(), rest)))
-    });
+    let kinds = [
+        ("map<u8,u8>", 1, 1),
+        ("map<member,u8>", 32, 1),
+        ("map<member,u64>", 32, 8),
+    ];
+    for (kind, key_size, value_size) in kinds {
+        are_answered(kind, 60, |input, from, to| {
+            let result = MapView::read(key_size, value_size, input, from..=to);
+            answer(result.map(|(map, rest)| (map.len(), rest)))
+        });
+    }
 }
 
 #[test]
 fn bimaps_are_decoded_as_the_vectors_say() {
-    are_answered(
-        "bimap<u8,u8>",
-        60,
-        |input, from, to| match BiMapView::read(1, 1, input, from..=to) {
-            Ok((bimap, rest)) => answer(Ok((bimap.len(), rest))),
-            Err(BiMapError::Refused(refusal)) => answer(Err(refusal)),
-            Err(_) => "Invalid BiMap: duplicate value detected during deserialization".to_string(),
-        },
-    );
+    for (kind, size) in [("bimap<u8,u8>", 1), ("bimap<member,member>", 32)] {
+        are_answered(kind, 60, |input, from, to| {
+            match BiMapView::read(size, size, input, from..=to) {
+                Ok((bimap, rest)) => answer(Ok((bimap.len(), rest))),
+                Err(BiMapError::Refused(refusal)) => answer(Err(refusal)),
+                Err(_) => {
+                    "Invalid BiMap: duplicate value detected during deserialization".to_string()
+                }
+            }
+        });
+    }
 }
 
 #[test]

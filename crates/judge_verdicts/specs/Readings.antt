@@ -1,12 +1,12 @@
 -- What an input is read as: values, their encodings, which of them are read, and the first fault of every other input.
 use Rattle.std.specs.Prelude.{◌≡◌, ℕ, List, length, Bool, Result, Ok, Err, nat_eq}
 use Rattle.std.specs.Ordering.{nat_cmp}
-use Rattle.std.specs.Cmp.Lexicographic.{slice_cmp}
+use Rattle.std.specs.Cmp.Lexicographic.{pointwise, slice_cmp}
 use Rattle.std.specs.declared.cmp.Ordering.{Ordering}
 use Rattle.commonware_utils.specs.Codec.{Accepts, Bounds, Fault, Refuses, Within}
 use Rattle.commonware_utils.specs.Codec.{byte, byte_fault, IsByte, IsWord, word_bytes, word_fault, varint, varint_fault}
 use Rattle.commonware_utils.specs.Codec.{NumberFault}
-use Rattle.commonware_utils.specs.Sequence.{IsU64, u64_bytes, u64_fault}
+use Rattle.commonware_utils.specs.Sequence.{IsOfSize, IsU64, own_bytes, size_fault, u64_bytes, u64_fault}
 use Rattle.commonware_utils.specs.Codec.{list_enc, IsWritableList, IsAllowedList, IsListMemoryFree, ListFault}
 use Rattle.commonware_utils.specs.Ordered.{IsWritableSet, SetFault, map_enc, IsWritableMap, IsAllowedMap, MapFault}
 use Rattle.commonware_utils.specs.Ordered.{IsWritableBiMap, BiMapFault}
@@ -14,11 +14,13 @@ use Rattle.commonware_utils.specs.Vec.{IsWritableNonEmpty, NonEmptyFault}
 use Rattle.committee_certificates.specs.Certificates.{CertificateFault, IsAllowedCertificate, IsWritableCertificate}
 use Rattle.committee_certificates.specs.Certificates.{certificate_enc}
 use Rattle.judge_questions.specs.declared.form.Form.{Form}
-use Rattle.judge_questions.specs.declared.form.Form.TheVariants.{U8, U32, Varint, Usize, Participant, VecU8, VecU32}
-use Rattle.judge_questions.specs.declared.form.Form.TheVariants.{VecVecU8, VecVecVecU8}
-use Rattle.judge_questions.specs.declared.form.Form.TheVariants.{SetU8, SetU32, SetParticipant, SetSetU8, SetNonEmptyU8}
-use Rattle.judge_questions.specs.declared.form.Form.TheVariants.{MapU8U8, MapU8SetU8}
-use Rattle.judge_questions.specs.declared.form.Form.TheVariants.{VecMapU8U8, BiMapU8U8, NonEmptyU8, NonEmptyNonEmptyU8}
+use Rattle.judge_questions.specs.declared.form.Form.TheVariants.{U8, U32, U64, Varint, Usize, Participant, Member}
+use Rattle.judge_questions.specs.declared.form.Form.TheVariants.{VecU8, VecU32, VecU64, VecVecU8, VecVecVecU8, SetU8}
+use Rattle.judge_questions.specs.declared.form.Form.TheVariants.{SetU32, SetParticipant, SetMember, SetBytes20}
+use Rattle.judge_questions.specs.declared.form.Form.TheVariants.{SetBytes33, SetBytes48, SetBytes96, SetSetU8}
+use Rattle.judge_questions.specs.declared.form.Form.TheVariants.{SetNonEmptyU8, MapU8U8, MapU8SetU8, MapMemberU8}
+use Rattle.judge_questions.specs.declared.form.Form.TheVariants.{MapMemberU64, VecMapU8U8, BiMapU8U8}
+use Rattle.judge_questions.specs.declared.form.Form.TheVariants.{BiMapMemberMember, NonEmptyU8, NonEmptyNonEmptyU8}
 use Rattle.judge_questions.specs.declared.form.Form.TheVariants.{Certificate}
 use Rattle.judge_questions.specs.declared.limits.Limits.{Limits}
 use Rattle.judge_verdicts.specs.declared.verdict.Verdict.{Verdict}
@@ -123,6 +125,22 @@ a_u64 = record {
   items = λ _. 1;
 }
 
+-- bytes of one length, as they are
+abbrev pub bytes_of_size : ℕ → Reading
+bytes_of_size size = record {
+  Value = List ℕ;
+  enc = own_bytes;
+  Writable = IsOfSize size;
+  Allowed = λ _. Unit {0};
+  HasFault = size_fault size;
+  MemoryFree = λ _. Unit {0};
+  items = λ _. 1;
+}
+
+-- a member: a key of 32 bytes
+abbrev pub a_member : Reading
+a_member = bytes_of_size 32
+
 -- a list
 abbrev pub list_of : Bounds ℕ → Reading → Reading
 list_of range item = record {
@@ -201,26 +219,37 @@ a_certificate value signers = record {
 }
 
 -- what an input is read as, by the type's name and the ranges of its lengths: numbers are ordered as such, and lists by
--- the first item in which they differ
+-- the first item in which they differ, and so are members and other bytes of one length
 abbrev pub reading_of : Form → Limits → Reading
 reading_of U8 l = a_byte
 reading_of U32 l = a_word
+reading_of U64 l = a_u64
 reading_of Varint l = a_varint
 reading_of Usize l = a_number l.first
 reading_of Participant l = a_varint
+reading_of Member l = a_member
 reading_of VecU8 l = list_of l.first a_byte
 reading_of VecU32 l = list_of l.first a_word
+reading_of VecU64 l = list_of l.first a_u64
 reading_of VecVecU8 l = list_of l.first (list_of l.second a_byte)
 reading_of VecVecVecU8 l = list_of l.first (list_of l.second (list_of l.third a_byte))
 reading_of SetU8 l = set_of l.first a_byte nat_cmp
 reading_of SetU32 l = set_of l.first a_word nat_cmp
 reading_of SetParticipant l = set_of l.first a_varint nat_cmp
+reading_of SetMember l = set_of l.first a_member (slice_cmp nat_cmp)
+reading_of SetBytes20 l = set_of l.first (bytes_of_size 20) (slice_cmp nat_cmp)
+reading_of SetBytes33 l = set_of l.first (bytes_of_size 33) (slice_cmp nat_cmp)
+reading_of SetBytes48 l = set_of l.first (bytes_of_size 48) (slice_cmp nat_cmp)
+reading_of SetBytes96 l = set_of l.first (bytes_of_size 96) (slice_cmp nat_cmp)
 reading_of SetSetU8 l = set_of l.first (set_of l.second a_byte nat_cmp) (slice_cmp nat_cmp)
 reading_of SetNonEmptyU8 l = set_of l.first (non_empty_of l.second a_byte) (slice_cmp nat_cmp)
 reading_of MapU8U8 l = map_of l.first a_byte nat_cmp a_byte
 reading_of MapU8SetU8 l = map_of l.first a_byte nat_cmp (set_of l.second a_byte nat_cmp)
+reading_of MapMemberU8 l = map_of l.first a_member (slice_cmp nat_cmp) a_byte
+reading_of MapMemberU64 l = map_of l.first a_member (slice_cmp nat_cmp) a_u64
 reading_of VecMapU8U8 l = list_of l.first (map_of l.second a_byte nat_cmp a_byte)
 reading_of BiMapU8U8 l = bimap_of l.first a_byte nat_cmp a_byte nat_eq
+reading_of BiMapMemberMember l = bimap_of l.first a_member (slice_cmp nat_cmp) a_member (pointwise nat_eq)
 reading_of NonEmptyU8 l = non_empty_of l.first a_byte
 reading_of NonEmptyNonEmptyU8 l = non_empty_of l.first (non_empty_of l.second a_byte)
 reading_of Certificate l = a_certificate l.first l.second

@@ -5,11 +5,13 @@ ghost use Rattle.judge_verdicts.specs.Builds.{MayFailToAllocateToBuild};
 ghost use Rattle.judge_verdicts.specs.Collections.{IsBuilt, IsFoundIn, MayFailToAllocateToFindIn, lists_of};
 ghost use Rattle.judge_verdicts.specs.Whole.{items_of};
 
+use crate::member::Member;
 use crate::pairs::{build_bimap, build_map};
 use crate::places::{Found, position_as};
 use crate::sets::{NotBuilt, build_set};
 use commonware_utils::Participant;
 use commonware_utils::ordered::Set;
+use commonware_utils::sequence::{FixedBytes, U64};
 use commonware_utils::vec::NonEmptyVec;
 use judge_questions::{Collection, Limit, SetForm};
 use std::alloc::{AllocError, Allocator};
@@ -32,7 +34,19 @@ pub fn build<A: Allocator + Copy>(
         Collection::MapU8SetU8 => {
             build_map::<u8, Set<u8, A>, A>(alloc, unique, text, &(all, (), (all, ())))
         }
+        Collection::MapMemberU8 => build_map::<Member, u8, A>(alloc, unique, text, &(all, (), ())),
+        Collection::MapMemberU64 => build_map::<Member, U64, A>(
+            alloc,
+            unique,
+            text,
+            &(all, (), ()),
+        ),
         Collection::BiMapU8U8 => build_bimap::<u8, u8, A>(alloc, text, &(all, (), ())),
+        Collection::BiMapMemberMember => build_bimap::<Member, Member, A>(
+            alloc,
+            text,
+            &(all, (), ()),
+        ),
     }
 }
 
@@ -53,6 +67,11 @@ fn build_form<A: Allocator + Copy>(
         SetForm::U8 => build_set::<u8, A>(alloc, unique, text, &(all, ())),
         SetForm::U32 => build_set::<u32, A>(alloc, unique, text, &(all, ())),
         SetForm::Participant => build_set::<Participant, A>(alloc, unique, text, &(all, ())),
+        SetForm::Member => build_set::<Member, A>(alloc, unique, text, &(all, ())),
+        SetForm::Bytes20 => build_set::<FixedBytes<20>, A>(alloc, unique, text, &(all, ())),
+        SetForm::Bytes33 => build_set::<FixedBytes<33>, A>(alloc, unique, text, &(all, ())),
+        SetForm::Bytes48 => build_set::<FixedBytes<48>, A>(alloc, unique, text, &(all, ())),
+        SetForm::Bytes96 => build_set::<FixedBytes<96>, A>(alloc, unique, text, &(all, ())),
         SetForm::SetU8 => build_set::<Set<u8, A>, A>(alloc, unique, text, &(all, (all, ()))),
         SetForm::NonEmptyU8 => {
             let some = Limit::full().non_zero();
@@ -78,6 +97,11 @@ pub fn position<A: Allocator + Copy>(
         SetForm::U8 => position_as::<u8, A>(alloc, set, item, &(all, ())),
         SetForm::U32 => position_as::<u32, A>(alloc, set, item, &(all, ())),
         SetForm::Participant => position_as::<Participant, A>(alloc, set, item, &(all, ())),
+        SetForm::Member => position_as::<Member, A>(alloc, set, item, &(all, ())),
+        SetForm::Bytes20 => position_as::<FixedBytes<20>, A>(alloc, set, item, &(all, ())),
+        SetForm::Bytes33 => position_as::<FixedBytes<33>, A>(alloc, set, item, &(all, ())),
+        SetForm::Bytes48 => position_as::<FixedBytes<48>, A>(alloc, set, item, &(all, ())),
+        SetForm::Bytes96 => position_as::<FixedBytes<96>, A>(alloc, set, item, &(all, ())),
         SetForm::SetU8 => position_as::<Set<u8, A>, A>(alloc, set, item, &(all, (all, ()))),
         SetForm::NonEmptyU8 => {
             let some = Limit::full().non_zero();

@@ -5,6 +5,7 @@ use committee_certificates::Certificate;
 use commonware_utils::Participant;
 use commonware_utils::codec::UInt;
 use commonware_utils::ordered::{BiMap, Map, Set};
+use commonware_utils::sequence::{FixedBytes, U64};
 use commonware_utils::vec::NonEmptyVec;
 use std::alloc::Allocator;
 use std::hash::Hash;
@@ -38,6 +39,14 @@ impl CountItems for u32 {
     }
 }
 
+impl CountItems for U64 {
+    ghost items = { λ _. 1 };
+
+    fn count(&self) -> usize {
+        1
+    }
+}
+
 impl CountItems for usize {
     ghost items = { λ _. 1 };
 
@@ -55,6 +64,14 @@ impl CountItems for UInt {
 }
 
 impl CountItems for Participant {
+    ghost items = { λ _. 1 };
+
+    fn count(&self) -> usize {
+        1
+    }
+}
+
+impl<const N: usize> CountItems for FixedBytes<N> {
     ghost items = { λ _. 1 };
 
     fn count(&self) -> usize {

@@ -4,11 +4,13 @@ ghost use Rattle.judge_questions.specs.Questions.{IsFit};
 ghost use Rattle.judge_verdicts.specs.Readings.{IsJudged, Reading, reading_of};
 
 use crate::count_items::CountItems;
+use crate::member::Member;
 use crate::verdict::Verdict;
 use committee_certificates::Certificate;
 use commonware_utils::Participant;
 use commonware_utils::codec::{Error, Read, Source, UInt};
 use commonware_utils::ordered::{BiMap, Map, Set};
+use commonware_utils::sequence::{FixedBytes, U64};
 use commonware_utils::vec::NonEmptyVec;
 use judge_questions::{Form, Limits};
 use std::alloc::{AllocError, Allocator};
@@ -60,11 +62,14 @@ pub fn judge<A: Allocator + Copy>(
     match form {
         Form::U8 => judge_as::<u8, A>(alloc, text, &()),
         Form::U32 => judge_as::<u32, A>(alloc, text, &()),
+        Form::U64 => judge_as::<U64, A>(alloc, text, &()),
         Form::Varint => judge_as::<UInt, A>(alloc, text, &()),
         Form::Usize => judge_as::<usize, A>(alloc, text, &first),
         Form::Participant => judge_as::<Participant, A>(alloc, text, &()),
+        Form::Member => judge_as::<Member, A>(alloc, text, &()),
         Form::VecU8 => judge_as::<Vec<u8, A>, A>(alloc, text, &(first, ())),
         Form::VecU32 => judge_as::<Vec<u32, A>, A>(alloc, text, &(first, ())),
+        Form::VecU64 => judge_as::<Vec<U64, A>, A>(alloc, text, &(first, ())),
         Form::VecVecU8 => { judge_as::<Vec<Vec<u8, A>, A>, A>(alloc, text, &(first, (second, ()))) }
         Form::VecVecVecU8 => judge_as::<Vec<Vec<Vec<u8, A>, A>, A>, A>(
             alloc,
@@ -74,6 +79,11 @@ pub fn judge<A: Allocator + Copy>(
         Form::SetU8 => judge_as::<Set<u8, A>, A>(alloc, text, &(first, ())),
         Form::SetU32 => judge_as::<Set<u32, A>, A>(alloc, text, &(first, ())),
         Form::SetParticipant => judge_as::<Set<Participant, A>, A>(alloc, text, &(first, ())),
+        Form::SetMember => judge_as::<Set<Member, A>, A>(alloc, text, &(first, ())),
+        Form::SetBytes20 => judge_as::<Set<FixedBytes<20>, A>, A>(alloc, text, &(first, ())),
+        Form::SetBytes33 => judge_as::<Set<FixedBytes<33>, A>, A>(alloc, text, &(first, ())),
+        Form::SetBytes48 => judge_as::<Set<FixedBytes<48>, A>, A>(alloc, text, &(first, ())),
+        Form::SetBytes96 => judge_as::<Set<FixedBytes<96>, A>, A>(alloc, text, &(first, ())),
         Form::SetSetU8 => { judge_as::<Set<Set<u8, A>, A>, A>(alloc, text, &(first, (second, ()))) }
         Form::SetNonEmptyU8 => {
             let second = limits.second.non_zero();
@@ -83,10 +93,17 @@ pub fn judge<A: Allocator + Copy>(
         Form::MapU8SetU8 => {
             judge_as::<Map<u8, Set<u8, A>, A>, A>(alloc, text, &(first, (), (second, ())))
         }
+        Form::MapMemberU8 => judge_as::<Map<Member, u8, A>, A>(alloc, text, &(first, (), ())),
+        Form::MapMemberU64 => judge_as::<Map<Member, U64, A>, A>(alloc, text, &(first, (), ())),
         Form::VecMapU8U8 => {
             judge_as::<Vec<Map<u8, u8, A>, A>, A>(alloc, text, &(first, (second, (), ())))
         }
         Form::BiMapU8U8 => judge_as::<BiMap<u8, u8, A>, A>(alloc, text, &(first, (), ())),
+        Form::BiMapMemberMember => judge_as::<BiMap<Member, Member, A>, A>(
+            alloc,
+            text,
+            &(first, (), ()),
+        ),
         Form::NonEmptyU8 => {
             let first = limits.first.non_zero();
             judge_as::<NonEmptyVec<u8, A>, A>(alloc, text, &(first, ()))

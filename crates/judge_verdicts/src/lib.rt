@@ -11,6 +11,7 @@ mod conflict;
 mod count_items;
 mod equivocation;
 mod judgement;
+mod member;
 mod numbers;
 mod pairs;
 mod places;

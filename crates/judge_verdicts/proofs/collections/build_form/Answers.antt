@@ -7,7 +7,7 @@ use Rattle.judge_questions.specs.Limits.{full}
 use Rattle.judge_questions.specs.declared.collection.Collection.TheVariants as collections
 use Rattle.judge_verdicts.specs.Builds.{IsSetBuilt, MayFailToAllocateToBuild}
 use Rattle.judge_verdicts.specs.Collections.{IsBuilt, lists_of}
-use Rattle.judge_verdicts.specs.Readings.{a_byte, a_varint, a_word, list_of, non_empty_of, set_of}
+use Rattle.judge_verdicts.specs.Readings.{a_byte, a_member, a_varint, a_word, bytes_of_size, list_of, non_empty_of, set_of}
 use Rattle.judge_verdicts.specs.Whole.{items_of}
 use Rattle.judge_verdicts.proofs.collections.build_form.Goals as goal
 
@@ -25,6 +25,31 @@ pub returns-in-Participant-clause-built : goal.returns-in-Participant-clause-bui
 returns-in-Participant-clause-built g c =
     let all : c.range-all.result ≡ full = c.range-all.ensures ∙ c.full.ensures in
     subst (λ form. IfOk c.build_set-in-Participant.result (λ built. IsBuilt (collections.Set form) c.args.unique c.args.text.now (items_of built))) (sym c.in-Participant.is) (subst (λ (r : Bounds ℕ). IfOk c.build_set-in-Participant.result (λ built. IsSetBuilt c.args.unique r a_varint nat_eq nat_cmp c.args.text.now (items_of built))) all c.build_set-in-Participant.ensures.built)
+
+pub returns-in-Member-clause-built : goal.returns-in-Member-clause-built
+returns-in-Member-clause-built g c =
+    let all : c.range-all.result ≡ full = c.range-all.ensures ∙ c.full.ensures in
+    subst (λ form. IfOk c.build_set-in-Member.result (λ built. IsBuilt (collections.Set form) c.args.unique c.args.text.now (items_of built))) (sym c.in-Member.is) (subst (λ (r : Bounds ℕ). IfOk c.build_set-in-Member.result (λ built. IsSetBuilt c.args.unique r a_member (pointwise nat_eq) (slice_cmp nat_cmp) c.args.text.now (items_of built))) all c.build_set-in-Member.ensures.built)
+
+pub returns-in-Bytes20-clause-built : goal.returns-in-Bytes20-clause-built
+returns-in-Bytes20-clause-built g c =
+    let all : c.range-all.result ≡ full = c.range-all.ensures ∙ c.full.ensures in
+    subst (λ form. IfOk c.build_set-in-Bytes20.result (λ built. IsBuilt (collections.Set form) c.args.unique c.args.text.now (items_of built))) (sym c.in-Bytes20.is) (subst (λ (r : Bounds ℕ). IfOk c.build_set-in-Bytes20.result (λ built. IsSetBuilt c.args.unique r (bytes_of_size 20) (pointwise nat_eq) (slice_cmp nat_cmp) c.args.text.now (items_of built))) all c.build_set-in-Bytes20.ensures.built)
+
+pub returns-in-Bytes33-clause-built : goal.returns-in-Bytes33-clause-built
+returns-in-Bytes33-clause-built g c =
+    let all : c.range-all.result ≡ full = c.range-all.ensures ∙ c.full.ensures in
+    subst (λ form. IfOk c.build_set-in-Bytes33.result (λ built. IsBuilt (collections.Set form) c.args.unique c.args.text.now (items_of built))) (sym c.in-Bytes33.is) (subst (λ (r : Bounds ℕ). IfOk c.build_set-in-Bytes33.result (λ built. IsSetBuilt c.args.unique r (bytes_of_size 33) (pointwise nat_eq) (slice_cmp nat_cmp) c.args.text.now (items_of built))) all c.build_set-in-Bytes33.ensures.built)
+
+pub returns-in-Bytes48-clause-built : goal.returns-in-Bytes48-clause-built
+returns-in-Bytes48-clause-built g c =
+    let all : c.range-all.result ≡ full = c.range-all.ensures ∙ c.full.ensures in
+    subst (λ form. IfOk c.build_set-in-Bytes48.result (λ built. IsBuilt (collections.Set form) c.args.unique c.args.text.now (items_of built))) (sym c.in-Bytes48.is) (subst (λ (r : Bounds ℕ). IfOk c.build_set-in-Bytes48.result (λ built. IsSetBuilt c.args.unique r (bytes_of_size 48) (pointwise nat_eq) (slice_cmp nat_cmp) c.args.text.now (items_of built))) all c.build_set-in-Bytes48.ensures.built)
+
+pub returns-in-Bytes96-clause-built : goal.returns-in-Bytes96-clause-built
+returns-in-Bytes96-clause-built g c =
+    let all : c.range-all.result ≡ full = c.range-all.ensures ∙ c.full.ensures in
+    subst (λ form. IfOk c.build_set-in-Bytes96.result (λ built. IsBuilt (collections.Set form) c.args.unique c.args.text.now (items_of built))) (sym c.in-Bytes96.is) (subst (λ (r : Bounds ℕ). IfOk c.build_set-in-Bytes96.result (λ built. IsSetBuilt c.args.unique r (bytes_of_size 96) (pointwise nat_eq) (slice_cmp nat_cmp) c.args.text.now (items_of built))) all c.build_set-in-Bytes96.ensures.built)
 
 pub returns-in-SetU8-clause-built : goal.returns-in-SetU8-clause-built
 returns-in-SetU8-clause-built g c =
@@ -51,6 +76,31 @@ pub returns-in-Participant-clause-memory : goal.returns-in-Participant-clause-me
 returns-in-Participant-clause-memory g c =
     let all : c.range-all.result ≡ full = c.range-all.ensures ∙ c.full.ensures in
     subst (λ form. IfErr c.build_set-in-Participant.result (λ _. MayFailToAllocateToBuild (lists_of (collections.Set form)) c.args.text.now)) (sym c.in-Participant.is) (subst (λ (r : Bounds ℕ). IfErr c.build_set-in-Participant.result (λ _. MayFailToAllocateToBuild (list_of r a_varint) c.args.text.now)) all c.build_set-in-Participant.ensures.memory)
+
+pub returns-in-Member-clause-memory : goal.returns-in-Member-clause-memory
+returns-in-Member-clause-memory g c =
+    let all : c.range-all.result ≡ full = c.range-all.ensures ∙ c.full.ensures in
+    subst (λ form. IfErr c.build_set-in-Member.result (λ _. MayFailToAllocateToBuild (lists_of (collections.Set form)) c.args.text.now)) (sym c.in-Member.is) (subst (λ (r : Bounds ℕ). IfErr c.build_set-in-Member.result (λ _. MayFailToAllocateToBuild (list_of r a_member) c.args.text.now)) all c.build_set-in-Member.ensures.memory)
+
+pub returns-in-Bytes20-clause-memory : goal.returns-in-Bytes20-clause-memory
+returns-in-Bytes20-clause-memory g c =
+    let all : c.range-all.result ≡ full = c.range-all.ensures ∙ c.full.ensures in
+    subst (λ form. IfErr c.build_set-in-Bytes20.result (λ _. MayFailToAllocateToBuild (lists_of (collections.Set form)) c.args.text.now)) (sym c.in-Bytes20.is) (subst (λ (r : Bounds ℕ). IfErr c.build_set-in-Bytes20.result (λ _. MayFailToAllocateToBuild (list_of r (bytes_of_size 20)) c.args.text.now)) all c.build_set-in-Bytes20.ensures.memory)
+
+pub returns-in-Bytes33-clause-memory : goal.returns-in-Bytes33-clause-memory
+returns-in-Bytes33-clause-memory g c =
+    let all : c.range-all.result ≡ full = c.range-all.ensures ∙ c.full.ensures in
+    subst (λ form. IfErr c.build_set-in-Bytes33.result (λ _. MayFailToAllocateToBuild (lists_of (collections.Set form)) c.args.text.now)) (sym c.in-Bytes33.is) (subst (λ (r : Bounds ℕ). IfErr c.build_set-in-Bytes33.result (λ _. MayFailToAllocateToBuild (list_of r (bytes_of_size 33)) c.args.text.now)) all c.build_set-in-Bytes33.ensures.memory)
+
+pub returns-in-Bytes48-clause-memory : goal.returns-in-Bytes48-clause-memory
+returns-in-Bytes48-clause-memory g c =
+    let all : c.range-all.result ≡ full = c.range-all.ensures ∙ c.full.ensures in
+    subst (λ form. IfErr c.build_set-in-Bytes48.result (λ _. MayFailToAllocateToBuild (lists_of (collections.Set form)) c.args.text.now)) (sym c.in-Bytes48.is) (subst (λ (r : Bounds ℕ). IfErr c.build_set-in-Bytes48.result (λ _. MayFailToAllocateToBuild (list_of r (bytes_of_size 48)) c.args.text.now)) all c.build_set-in-Bytes48.ensures.memory)
+
+pub returns-in-Bytes96-clause-memory : goal.returns-in-Bytes96-clause-memory
+returns-in-Bytes96-clause-memory g c =
+    let all : c.range-all.result ≡ full = c.range-all.ensures ∙ c.full.ensures in
+    subst (λ form. IfErr c.build_set-in-Bytes96.result (λ _. MayFailToAllocateToBuild (lists_of (collections.Set form)) c.args.text.now)) (sym c.in-Bytes96.is) (subst (λ (r : Bounds ℕ). IfErr c.build_set-in-Bytes96.result (λ _. MayFailToAllocateToBuild (list_of r (bytes_of_size 96)) c.args.text.now)) all c.build_set-in-Bytes96.ensures.memory)
 
 pub returns-in-SetU8-clause-memory : goal.returns-in-SetU8-clause-memory
 returns-in-SetU8-clause-memory g c =
