@@ -7,6 +7,7 @@
 import { readFile } from "node:fs/promises";
 import { resolve } from "node:path";
 import * as module from "../commonware.js";
+import { tryFaults } from "./faults.js";
 import { numbers } from "./plain.js";
 import { tryRandom } from "./random.js";
 import { FILES, bytes, hex, tryVectors } from "./vectors.js";
@@ -109,6 +110,8 @@ if (!module.isSupported()) {
     }
     const { wrong, met } = tryRandom(commonware, cases, 2 ** 31);
     note(wrong.length === 0, `node: ${cases} random cases, ${Object.keys(met).length} results of calls`, wrong.join("; "));
+    const faults = tryFaults(commonware, Math.ceil(cases / 5));
+    note(faults.wrong.length === 0, `node: the place of each fault of ${faults.refused} random inputs`, faults.wrong.join("; "));
     tryArguments(commonware);
     trySizes(commonware);
     tryTotals(commonware);

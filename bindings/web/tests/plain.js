@@ -52,6 +52,7 @@ export class Reader {
 
     /** A number of up to 32 bits, seven in each byte, the lowest first. Its last byte isn't 0, but for the number 0. */
     varint() {
+        this.from = this.at;
         let number = 0;
         for (let index = 0; index < 5; index++) {
             const byte = this.byte();

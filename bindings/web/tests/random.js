@@ -4,7 +4,7 @@ import { CommonwareError } from "../commonware.js";
 import * as plain from "./plain.js";
 
 /** A generator of numbers below 2^32 (mulberry32), so that a case can be tried again by its seed. */
-class Chance {
+export class Chance {
     constructor(seed) {
         this.state = seed >>> 0;
     }
