@@ -1,10 +1,12 @@
 #!/usr/bin/env python3
-"""Draws tables that measure.py wrote: ratios.svg and growth.svg, beside this file.
+"""Draws what speed measured.
 
-Usage: draw.py BESIDE_RUST.csv
+Usage: draw.py BESIDE_RUST.csv         draws a table that measure.py wrote: ratios.svg and growth.svg, beside this file
+       draw.py --lines FILE.svg        draws the lines of a run of speed, which it reads on standard input
 
-It needs matplotlib.
+It needs matplotlib (python3-matplotlib of Debian). The gate doesn't run it.
 """
+import collections
 import csv
 import math
 import pathlib
@@ -44,9 +46,18 @@ def rows_of(path):
     return found
 
 
-def save(figure, name):
+def curves_of(lines):
+    """Returns the nanoseconds an entry by call and number of entries, of lines `CALL N SUM HUNDREDTHS`."""
+    found = collections.defaultdict(list)
+    for call, n, _, hundredths in (it.split() for it in lines):
+        # What takes no hundredth of a nanosecond has no place on a logarithmic axis.
+        found[call].append((int(n), max(int(hundredths), 1) / 100))
+    return [(call, "-", "o", sorted(points)) for call, points in found.items()]
+
+
+def save(figure, path):
     """Writes a figure on white, so that it can be read on a dark page too."""
-    figure.savefig(HERE / name, facecolor="white", bbox_inches="tight", metadata={"Date": None})
+    figure.savefig(path, facecolor="white", bbox_inches="tight", metadata={"Date": None})
 
 
 def draw_ratios(calls):
@@ -68,7 +79,7 @@ def draw_ratios(calls):
     axes.set_yticks(range(len(names)), names)
     axes.grid(axis="both", color="0.9")
     axes.legend(loc="lower left", bbox_to_anchor=(0, 1), ncols=3, frameon=False)
-    save(figure, "ratios.svg")
+    save(figure, HERE / "ratios.svg")
 
 
 def apart(places, least):
@@ -79,26 +90,36 @@ def apart(places, least):
     return moved
 
 
-def draw_growth(calls):
-    """Draws the nanoseconds an entry of a few calls against the number of entries, each named at its end."""
-    figure, axes = plot.subplots(figsize=(8, 5.5))
+def draw_curves(curves, height, path):
+    """Draws nanoseconds an entry against the number of entries: curves of a name, a line, a mark and points, named at their end."""
+    figure, axes = plot.subplots(figsize=(8, height))
     axes.set(xscale="log", yscale="log", xlabel="entries", ylabel="nanoseconds an entry")
     ends = []
-    for name, (label, line, mark) in GROWTH.items():
-        points = sorted((n, row["nanoseconds"]) for n, row in calls[name].items())
+    for name, line, mark, points in curves:
         axes.plot(*zip(*points), line, marker=mark, color="black", linewidth=1, markersize=5, markerfacecolor="white")
-        ends.append((math.log10(points[-1][1]), label, points[-1][0]))
+        ends.append((math.log10(points[-1][1]), name, points[-1][0]))
     ends.sort()
-    for place, (_, label, n) in zip(apart([end for end, _, _ in ends], 0.16), ends):
-        axes.text(1.4 * n, 10**place, label, va="center")
+    # A name takes as much of the height as 0.16 of a decade did of 5.5 inches and 4 decades.
+    decades = max(4, ends[-1][0] - ends[0][0])
+    for place, (_, name, n) in zip(apart([end for end, _, _ in ends], 0.16 * decades / 4 * 5.5 / height), ends):
+        axes.text(1.4 * n, 10**place, name, va="center")
     axes.grid(color="0.9")
     axes.set_xlim(7, 40_000_000)
     axes.set_xticks([10, 1_000, 100_000, 1_000_000], ["10", "1,000", "100,000", "1,000,000"])
     axes.xaxis.set_minor_locator(matplotlib.ticker.NullLocator())
-    save(figure, "growth.svg")
+    save(figure, path)
+
+
+def draw_growth(calls):
+    """Draws a few calls."""
+    points = lambda call: sorted((n, row["nanoseconds"]) for n, row in calls[call].items())
+    draw_curves([(*GROWTH[call], points(call)) for call in GROWTH], 5.5, HERE / "growth.svg")
 
 
 if __name__ == "__main__":
-    found = rows_of(sys.argv[1])
-    draw_ratios(found)
-    draw_growth(found)
+    if sys.argv[1] == "--lines":
+        draw_curves(curves_of(sys.stdin), 9, sys.argv[2])
+    else:
+        found = rows_of(sys.argv[1])
+        draw_ratios(found)
+        draw_growth(found)

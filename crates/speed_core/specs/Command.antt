@@ -2,7 +2,7 @@
 use Rattle.std.specs.Prelude.{◌≡◌, ◌≢◌, ℕ, ◌<◌, ◌≤◌, ◌^◌, List, [], ◌∷◌, codes, slice_index}
 use Rattle.std.specs.Str.Parse.{IsNumeral, digits_value}
 use Rattle.speed_core.specs.declared.command.Command.{Command}
-use Rattle.speed_core.specs.declared.command.Command.TheVariants.{Help, Version, Time, Plot}
+use Rattle.speed_core.specs.declared.command.Command.TheVariants.{Help, Version, Time}
 
 -- the word is digits, the first of which no plus precedes, and in decimal they write n, from 10 on and below 2^32
 pub record IsSize (word : List ℕ) (n : ℕ) : Type 0 where
@@ -16,7 +16,6 @@ pub record IsSize (word : List ℕ) (n : ℕ) : Type 0 where
 abbrev pub AsksFor : List ℕ → Command → Type 0
 AsksFor word Help = word ≡ codes "--help"
 AsksFor word Version = word ≡ codes "--version"
-AsksFor word Plot = word ≡ codes "plot"
 AsksFor word (Time n) = IsSize word n
 
 -- these words are one word that asks for the command

@@ -18,13 +18,11 @@ pub enum Command {
     Version,
     /// Time the calls at sizes up to this one.
     Time(u32),
-    /// Draw the times of standard input.
-    Plot,
 }
 
-/// The command that the words ask for: `--help`, `--version` or `plot` alone, or a number alone,
-/// which is `Command::Time`: decimal digits, from 10 to 4294967295. It returns `None` exactly
-/// where the words ask for no command.
+/// The command that the words ask for: `--help` or `--version` alone, or a number alone, which is
+/// `Command::Time`: decimal digits, from 10 to 4294967295. It returns `None` exactly where the
+/// words ask for no command.
 pub(crate) fn parse_args<A: Allocator>(words: &[String<A>]) -> Option<Command>
     ensures asked { IfSome result (IsAskedFor (map string_bytes words.now)) }
     ensures other { IfNone result (AskForNone (map string_bytes words.now)) }
@@ -45,9 +43,6 @@ fn parse_word(word: &str) -> Option<Command>
     }
     if word == "--version" {
         return Some(Command::Version);
-    }
-    if word == "plot" {
-        return Some(Command::Plot);
     }
     match parse_size(word) {
         Some(greatest) => Some(Command::Time(greatest)),

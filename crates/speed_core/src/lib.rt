@@ -1,30 +1,21 @@
-//! The library of the program `speed`, which times calls, entry by entry, and draws such times.
-//!
-//! Which calls it times is a type parameter, a `Timer`: the crate names no collection.
+//! The library of the program `speed`, which times the calls of the collections, entry by entry.
 #![tactic(auto)]
 
-mod axis;
 mod bench;
+mod calls;
 mod command;
 mod error;
 mod host;
-mod input;
-mod labels;
-pub mod logarithm;
 mod numbers;
-mod plot;
 mod runs;
-mod sample;
 mod sessions;
 mod timer;
 
-pub use axis::Axis;
 pub use bench::{Bench, Work};
+pub use calls::{time_bimaps, time_size};
 pub use command::Command;
 pub use error::Failure;
 pub use host::on_host;
-pub use input::failed_read;
 pub use numbers::{random, rising, wide_bytes};
-pub use sample::{Sample, parse_line};
 pub use sessions::session;
 pub use timer::Timer;

@@ -4,20 +4,17 @@ ghost use Rattle.std.specs.Prelude.{◌≡◌, IfErr};
 use crate::bench::Bench;
 use crate::command::Command;
 use crate::error::Failure;
-use crate::input::read_text;
-use crate::plot::draw;
 use crate::timer::Timer;
 use program_io::{Watched, write_whole};
 use std::alloc::Global;
-use std::io::{Read, Write};
+use std::io::Write;
 use std::time::Clock;
 
 /// What `--help` says.
 const HELP: &str = "\
-usage: speed <greatest n>, or speed plot
+usage: speed <greatest n>
 
 speed <greatest n>  times the calls at sizes from 10 up to n, a line a call
-speed plot          draws such lines, which it reads on standard input, as SVG
 speed --help        says this
 speed --version     says the version
 ";
@@ -26,30 +23,17 @@ speed --version     says the version
 const VERSION: &str = "speed 1.0.0\n";
 
 /// Does what the command asks for.
-pub(crate) fn run<T: Timer, C: Clock + Drop, R: Read + Drop, W: Write + Drop>(
+pub(crate) fn run<T: Timer, C: Clock + Drop, W: Write + Drop>(
     alloc: Global,
     command: Command,
     clock: C,
-    input: R,
     output: W,
 ) -> Result<(), Failure> {
     match command {
         Command::Help => write(output, HELP),
         Command::Version => write(output, VERSION),
         Command::Time(greatest) => T::time_sizes(&mut Bench::new(alloc, clock, output), greatest),
-        Command::Plot => plot(alloc, input, output),
     }
-}
-
-/// Draws the lines of the input.
-fn plot<R: Read + Drop, W: Write + Drop>(
-    alloc: Global,
-    input: R,
-    output: W,
-) -> Result<(), Failure> {
-    let text = read_text(alloc, input)?;
-    let drawing = draw(alloc, text.as_str())?;
-    write(output, drawing.as_str())
 }
 
 /// Writes the text, and flushes.

@@ -7,23 +7,24 @@ use crate::runs::run;
 use crate::timer::Timer;
 use program_io::say;
 use std::alloc::Global;
-use std::io::{Read, Write};
+use std::io::Write;
 use std::time::Clock;
 
 /// The line on the words that the program takes.
-const USAGE: &str = "usage: speed <greatest n>, or speed plot";
+const USAGE: &str = "usage: speed <greatest n>";
+
+/// The status of a run that has stopped.
+pub(crate) const FAILED: u8 = 3;
 
 /// Does what the words after the program's name ask for, and returns the exit status.
 ///
-/// It is 0 where all that was asked for was written, 1 where a line that was to be drawn can't be
-/// read, 2 where the words ask for nothing, and 3 where an allocation, the clock, the reader or the
-/// writer failed. Unless it is 0, a line on `errors` says why; where `errors` fails, the status is
-/// the same.
-pub fn session<T: Timer, C: Clock + Drop, R: Read + Drop, W: Write + Drop, E: Write>(
+/// It is 0 where all that was asked for was written, 2 where the words ask for nothing, and 3 where
+/// an allocation, the clock or the writer failed. Unless it is 0, a line on `errors` says why;
+/// where `errors` fails, the status is the same.
+pub fn session<T: Timer, C: Clock + Drop, W: Write + Drop, E: Write>(
     alloc: Global,
     words: &[String],
     clock: C,
-    input: R,
     output: W,
     errors: &mut E,
 ) -> u8
@@ -33,11 +34,11 @@ pub fn session<T: Timer, C: Clock + Drop, R: Read + Drop, W: Write + Drop, E: Wr
     let Some(command) = parse_args(words) else {
         return misuse(errors);
     };
-    match run::<T, _, _, _>(alloc, command, clock, input, output) {
+    match run::<T, _, _>(alloc, command, clock, output) {
         Ok(()) => 0,
         Err(failure) => {
             say(errors, &failure);
-            failure.status()
+            FAILED
         }
     }
 }

@@ -1,14 +1,11 @@
-//! Numbers, logarithms, axes and lines, and rounds and sessions over a clock of their own.
+//! Random numbers, and rounds and sessions over a clock of their own.
 
 use crate::devices::TAKEN;
-use speed_calls::{time_bimaps, time_size};
-use speed_core::logarithm::logarithm;
-use speed_core::{Axis, Bench, Failure, Timer, Work, failed_read, parse_line, random, session};
+use speed_core::{Bench, Failure, Timer, Work, random, session, time_bimaps, time_size};
 use std::alloc::{AllocError, Global};
 use std::cell::Cell;
 use std::io;
-use std::io::{ErrorKind, Write};
-use std::num::NonZeroU64;
+use std::io::Write;
 use std::time::{Clock, Duration};
 
 /// A clock that goes on by a millisecond whenever it is read.
@@ -46,48 +43,6 @@ fn random_numbers_have_their_sum(rt: HostRuntime) {
             .fold(0u64, |sum, number| sum.wrapping_add(u64::from(*number)));
         assert!(rt; found == sum, "{count}");
     }
-}
-
-#[test]
-fn logarithms_are_rounded_down(rt: HostRuntime) {
-    let rows = [
-        (1, 0),
-        (2, 30),
-        (9, 95),
-        (10, 100),
-        (999, 299),
-        (1_000, 300),
-        (123_456_789, 809),
-        (u64::MAX, 1926),
-    ];
-    for (number, hundredths) in rows {
-        let number = NonZeroU64::new(number).expect(&rt, "no number");
-        assert!(rt; logarithm(number) == hundredths, "{number}");
-    }
-}
-
-#[test]
-fn logarithms_have_their_places_on_an_axis(rt: HostRuntime) {
-    let axis = Axis::around(&[265, 430, 120], 800);
-    assert!(rt; (axis.first, axis.last, axis.length) == (1, 5, 800));
-    for (logarithm, place) in [
-        (0, 0),
-        (100, 0),
-        (300, 400),
-        (301, 402),
-        (500, 800),
-        (501, 800),
-    ] {
-        assert!(rt; axis.place(logarithm) == place, "{logarithm}");
-    }
-    assert!(rt; Axis::around(&[], 9).place(50) == 4);
-}
-
-#[test]
-fn a_line_says_logarithms(rt: HostRuntime) {
-    let sample = parse_line("set_read 1000 1000000 451").expect(&rt, "no sample");
-    assert!(rt; (sample.name, sample.entries, sample.cost) == ("set_read", 300, 265));
-    assert!(rt; parse_line("set_read 0 1000000 451").is_none());
 }
 
 /// The lines of two rounds of ten entries, each of which takes a millisecond.
@@ -136,17 +91,6 @@ fn two_rounds_have_their_check_sums(rt: HostRuntime) {
     assert!(rt; timed && text.as_slice() == LINES.as_bytes());
 }
 
-#[test]
-fn reads_that_fail(rt: HostRuntime) {
-    for (kind, failure) in [
-        (ErrorKind::OutOfMemory, Failure::Memory),
-        (ErrorKind::InvalidData, Failure::Read),
-        (ErrorKind::Other, Failure::Read),
-    ] {
-        assert!(rt; failed_read(&io::Error::from(kind)) == failure);
-    }
-}
-
 /// Times one call, which says the greatest size.
 struct Greatest;
 
@@ -167,14 +111,7 @@ fn session_of(alloc: Global, word: &str) -> Result<(u8, Vec<u8>), AllocError> {
     words.push(String::from_str(alloc, word)?)?;
     let mut text = Vec::new(alloc);
     let mut errors = TAKEN.writer(alloc);
-    let status = session::<Greatest, _, _, _, _>(
-        alloc,
-        &words,
-        new_clock(),
-        b"".as_slice(),
-        &mut text,
-        &mut errors,
-    );
+    let status = session::<Greatest, _, _, _>(alloc, &words, new_clock(), &mut text, &mut errors);
     Ok((status, text))
 }
 

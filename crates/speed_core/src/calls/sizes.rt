@@ -1,13 +1,16 @@
 //! All lines, size by size.
 
-use crate::bimaps::time_bimaps;
-use crate::bytes::time_bytes;
-use crate::certificates::time_committees;
-use crate::lists::time_lists;
-use crate::maps::time_maps;
-use crate::sets::time_sets;
-use crate::wide::time_wide;
-use speed_core::{Bench, Failure, Timer, random};
+use crate::bench::Bench;
+use crate::calls::bimaps::time_bimaps;
+use crate::calls::bytes::time_bytes;
+use crate::calls::certificates::time_committees;
+use crate::calls::lists::time_lists;
+use crate::calls::maps::time_maps;
+use crate::calls::sets::time_sets;
+use crate::calls::wide::time_wide;
+use crate::error::Failure;
+use crate::numbers::random;
+use crate::timer::Timer;
 use std::io::Write;
 use std::time::Clock;
 

@@ -1,10 +1,11 @@
 //! Sets as committees, and certificates that all members signed.
 
-use crate::sets::set_of;
+use crate::bench::{Bench, Work};
+use crate::calls::sets::set_of;
+use crate::error::Failure;
 use committee_certificates::{Certificate, ConflictError, conflict};
 use commonware_utils::ordered::{Quorum, Set};
 use commonware_utils::{N3f1, Participant};
-use speed_core::{Bench, Failure, Work};
 use std::alloc::{AllocError, Global};
 use std::io::Write;
 use std::time::Clock;

@@ -2,11 +2,13 @@
 ghost use Rattle.std.specs.Prelude.{◌≡◌, ◌-◌, ◌++◌, ◌≤◌, replicate};
 ghost use Rattle.commonware_utils.specs.Codec.{word_bytes};
 
-use crate::codec::{read, written};
+use crate::bench::{Bench, Work};
+use crate::calls::codec::{read, written};
+use crate::error::Failure;
+use crate::numbers::wide_bytes;
 use commonware_utils::codec::RangeCfg;
 use commonware_utils::ordered::Set;
 use commonware_utils::sequence::FixedBytes;
-use speed_core::{Bench, Failure, Work, wide_bytes};
 use std::alloc::{AllocError, Global};
 use std::io::Write;
 use std::time::Clock;

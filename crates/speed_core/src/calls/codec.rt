@@ -1,8 +1,8 @@
 //! The bytes of a value, and the value of bytes.
 ghost use Rattle.std.specs.Prelude.{◌≡◌, IfOk, IfSome};
 
+use crate::error::Failure;
 use commonware_utils::codec::{Error, Read, Source, Write};
-use speed_core::Failure;
 use std::alloc::{AllocError, Global};
 
 /// The bytes of a value, or no bytes where it can't be written.

@@ -1,9 +1,10 @@
 //! Non-empty lists.
 
-use crate::codec::{read, written};
+use crate::bench::{Bench, Work};
+use crate::calls::codec::{read, written};
+use crate::error::Failure;
 use commonware_utils::codec::RangeCfg;
 use commonware_utils::vec::{Error, NonEmptyVec};
-use speed_core::{Bench, Failure, Work};
 use std::alloc::Global;
 use std::io::Write;
 use std::time::Clock;

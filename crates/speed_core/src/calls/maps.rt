@@ -1,9 +1,10 @@
 //! Maps of numbers to numbers.
 
-use crate::codec::{read, written};
+use crate::bench::{Bench, Work};
+use crate::calls::codec::{read, written};
+use crate::error::Failure;
 use commonware_utils::codec::RangeCfg;
 use commonware_utils::ordered::Map;
-use speed_core::{Bench, Failure, Work};
 use std::alloc::{AllocError, Global};
 use std::io::Write;
 use std::time::Clock;

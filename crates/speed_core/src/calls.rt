@@ -1,5 +1,4 @@
 //! The calls that the program `speed` times: those of the collections, size by size.
-#![tactic(auto)]
 
 mod bimaps;
 mod built;

@@ -1,10 +1,12 @@
 //! Sets of numbers.
 
-use crate::built::count_built;
-use crate::codec::{read, written};
+use crate::bench::{Bench, Work};
+use crate::calls::built::count_built;
+use crate::calls::codec::{read, written};
+use crate::error::Failure;
+use crate::numbers::rising;
 use commonware_utils::codec::RangeCfg;
 use commonware_utils::ordered::Set;
-use speed_core::{Bench, Failure, Work, rising};
 use std::alloc::{AllocError, Global};
 use std::hash::{DefaultHasher, Hash, Hasher};
 use std::io::Write;

@@ -1,9 +1,11 @@
 //! Bimaps of numbers and numbers.
 
-use crate::built::count_built;
+use crate::bench::{Bench, Work};
+use crate::calls::built::count_built;
+use crate::error::Failure;
+use crate::numbers::random;
 use commonware_utils::TryFromIterator;
 use commonware_utils::ordered::{BiMap, Error};
-use speed_core::{Bench, Failure, Work, random};
 use std::alloc::Global;
 use std::io::Write;
 use std::time::Clock;

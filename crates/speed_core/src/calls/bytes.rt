@@ -1,8 +1,9 @@
 //! Lists of bytes, written and read.
 
-use crate::codec::{read, written};
+use crate::bench::{Bench, Work};
+use crate::calls::codec::{read, written};
+use crate::error::Failure;
 use commonware_utils::codec::RangeCfg;
-use speed_core::{Bench, Failure, Work};
 use std::alloc::{AllocError, Global};
 use std::io::Write;
 use std::time::Clock;

@@ -1,7 +1,7 @@
 //! What a collection that was built counts as.
 
+use crate::error::Failure;
 use commonware_utils::ordered;
-use speed_core::Failure;
 
 /// What a collection that was built counts as: its length, or 1 where it was refused for the
 /// entries that it was to have.
