@@ -25,12 +25,12 @@ export async function load(bytes = undefined) {
     if (!isSupported()) {
         throw new NoMemory64();
     }
-    return new Commonware(await WebAssembly.compile(bytes ?? (await besideThis())));
+    return new Commonware(await WebAssembly.compile(bytes ?? (await prebuilt())));
 }
 
-/** Returns the bytes of the module beside this file, in a browser or in Node. */
-async function besideThis() {
-    const place = new URL("commonware.wasm", import.meta.url);
+/** Returns the bytes of the module as the repository has it, in a browser or in Node. */
+async function prebuilt() {
+    const place = new URL("../prebuilt/wasm64/commonware.wasm", import.meta.url);
     if (place.protocol === "file:" && typeof process === "object") {
         const { readFile } = await import("node:fs/promises");
         return readFile(place);
