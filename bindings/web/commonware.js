@@ -20,7 +20,7 @@ export const N5F1 = 5;
 /** How many bytes a member of a committee has. */
 export const MEMBER_SIZE = 32;
 
-/** Loads the module: that beside this file, or the bytes that are given. */
+/** Loads the module: that of bindings/prebuilt, or the bytes that are given. */
 export async function load(bytes = undefined) {
     if (!isSupported()) {
         throw new NoMemory64();
