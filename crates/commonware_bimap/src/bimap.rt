@@ -20,8 +20,7 @@ mod iterators;
 mod refs;
 
 pub use codec::bimap_fault_law;
-use commonware_columns::has_equal_values;
-use commonware_map::{Map, Pairs};
+use commonware_map::{Map, Pairs, has_equal_values};
 use commonware_ordered::{Counter, Error, Set, Uncounted};
 use std::alloc::{AllocError, Allocator};
 use std::hash::Hash;

@@ -1,6 +1,10 @@
+pub mod ByKeys
 pub mod Calls
 pub mod Columns
+pub mod Entries
 pub mod Lookups
 pub mod MapReads
+pub mod NoneEqual
 pub mod Stepped
+pub mod Walked
 pub mod Zipped

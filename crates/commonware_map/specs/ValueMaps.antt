@@ -1,5 +1,5 @@
 -- What a map of the values calls, and what it returns.
-pub use Rattle.commonware_columns.specs.ValueCalls.{CalledAtPair, TakesPair}
+pub use Rattle.commonware_map.specs.ValueCalls.{CalledAtPair, TakesPair}
 use Rattle.std.specs.Prelude.{◌≡◌, List, ◌∷◌, ◌++◌, Ok, Err}
 use Rattle.std.specs.Borrow.{Bor}
 use Rattle.std.specs.Fn.{Called, Mut, Takes}

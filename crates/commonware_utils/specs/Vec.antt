@@ -8,5 +8,5 @@ pub use Rattle.commonware_vec.specs.NonEmpty.{NonEmptyFault, bad_list, no_items}
 pub use Rattle.commonware_vec.specs.NonEmpty.{NonEmptyCase, at_end, at_list, non_empty_case}
 pub use Rattle.commonware_vec.specs.Refusals.{EmptyOrMemory, IsAll, IsRefusedForDrawn}
 pub use Rattle.commonware_vec.specs.Refusals.{IsWholeOfClones}
-pub use Rattle.commonware_queue.specs.Queues.{Queue}
-pub use Rattle.commonware_queue.specs.laws.QueueLaws.{capacities_alike}
+pub use Rattle.commonware_vec.specs.Queues.{Queue}
+pub use Rattle.commonware_vec.specs.laws.QueueLaws.{capacities_alike}

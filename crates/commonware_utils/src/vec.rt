@@ -1,4 +1,3 @@
 //! Non-empty lists, and queues of a fixed capacity.
 
-pub use commonware_queue::Bounded;
-pub use commonware_vec::{Error, Mutate, NonEmptyVec, non_empty_fault_law};
+pub use commonware_vec::{Bounded, Error, Mutate, NonEmptyVec, non_empty_fault_law};

@@ -1,1 +1,2 @@
 pub mod NonEmptyLaws
+pub mod QueueLaws

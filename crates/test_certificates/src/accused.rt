@@ -5,7 +5,7 @@ use commonware_utils::ordered::Set;
 use commonware_utils::{N3f1, N5f1, Participant};
 use std::alloc::Global;
 use std::process::Abort;
-use uses_certificates::{accused, conflict_under};
+use uses::{accused, conflict_under};
 
 /// The signers of two certificates for different values, of a committee of this many members; those
 /// of both, or the error, under `N3f1` and under `N5f1`.

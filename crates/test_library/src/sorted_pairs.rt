@@ -1,6 +1,6 @@
 //! Pairs that are inserted at their places: the room that is reserved for them, and what is left of
 //! them after an allocation failure.
-use commonware_columns::SortedEntries;
+use commonware_map::SortedEntries;
 use std::alloc::{AllocError, Global};
 use test_equipment::Refusing;
 use test_equipment::walk::Heap;

@@ -1,8 +1,12 @@
-//! The library as a user calls it, who names `commonware_utils` alone: one file for each module.
+//! The library as a user calls it: one file for each module of `commonware_utils`, which names
+//! nothing else; certificates and weights, over crates of their own; and examples.
 #![tactic(auto)]
 
+mod accusations;
+mod accused_weights;
 mod committees;
 mod costs;
+mod double_signers;
 mod messages;
 mod models;
 mod peers;
@@ -10,12 +14,16 @@ mod queues;
 mod ranges;
 mod registries;
 mod roots;
+mod stakes;
 mod views;
 mod voters;
 mod weights;
 
+pub use accusations::new_accused;
+pub use accused_weights::accused_weight;
 pub use committees::{is_member, signatures_needed};
 pub use costs::members_among;
+pub use double_signers::{accused, conflict_under};
 pub use messages::{read_members, write_members};
 pub use models::{N2f1, N4f1, crash_numbers, fourth_numbers, is_safe};
 pub use peers::{Peer, read_peers};
@@ -23,6 +31,10 @@ pub use queues::{doubled, keep_the_first, latest, remember};
 pub use ranges::{only, only_one_above_zero};
 pub use registries::{owner, powers, registry, registry_of};
 pub use roots::{first, is_before, room, signed_text};
+pub use stakes::two_thirds_of;
 pub use views::{first_in_shard, first_with_weight, weight_in};
 pub use voters::has_quorum;
 pub use weights::{Weights, read_weights};
+
+#[cfg(test)]
+mod examples;

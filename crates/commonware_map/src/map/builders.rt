@@ -8,8 +8,9 @@ ghost use Rattle.commonware_ordered.specs.Strict.{IsStrict};
 ghost use Rattle.commonware_ordered.specs.Whole.{IsRefusedFor, IsSetOfAll, IsWholeSet, IsWholeSetOfClones};
 
 use super::Map;
+use crate::SortedEntries;
+use crate::gathered::dedup_columns;
 use commonware_base::{EqClone, TryFromIterator};
-use commonware_columns::{SortedEntries, dedup_columns};
 use commonware_ordered::{Error, Set};
 use std::alloc::{AllocError, Allocator};
 

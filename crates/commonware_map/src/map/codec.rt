@@ -16,10 +16,10 @@ ghost use Rattle.commonware_ordered.specs.Costs.{IsOrderCost};
 ghost use Rattle.commonware_ordered.specs.Sets.{IsWritableSet};
 
 use super::Map;
+use crate::values::read_values;
 use commonware_base::codec::{
     Canonical, EncodeSize, Error, MaxEncodeSize, RangeCfg, Read, Source, UInt, Write,
 };
-use commonware_columns::read_values;
 use commonware_ordered::{Counter, Set, Uncounted, read_set_counted};
 use std::alloc::{AllocError, Allocator};
 

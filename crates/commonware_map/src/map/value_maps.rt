@@ -7,8 +7,8 @@ ghost use Rattle.commonware_map.specs.ValueMaps.{CalledAtPair, CalledAtRefs, IfC
 
 use super::Map;
 use crate::MapError;
+use crate::values::called_values;
 use commonware_base::EqClone;
-use commonware_columns::called_values;
 use std::alloc::{AllocError, Allocator};
 
 impl<K: Ord + EqClone, V, A: Allocator + Copy> Map<K, V, A> {

@@ -1,7 +1,7 @@
 use Rattle.std.proofs.Common.{◌∙◌, Bor, ℕ, List, subst, sym}
 use Rattle.std.specs.List.{zip}
-use Rattle.commonware_columns.proofs.ByKeys.{strict_by_keys}
-use Rattle.commonware_columns.proofs.Columns.{zip-parts}
+use Rattle.commonware_map.proofs.ByKeys.{strict_by_keys}
+use Rattle.commonware_map.proofs.Columns.{zip-parts}
 use Rattle.commonware_ordered.specs.Strict.{IsStrict}
 use Rattle.commonware_sequence.specs.FixedBytes.{bytes_cmp}
 use Rattle.commonware_c.proofs.unique.map_of_entries.Goals as goal

@@ -1,7 +1,7 @@
 -- The values are refused for one reason, and with their keys they are the pairs.
 use Rattle.std.proofs.Common.{Err, List, ℕ, ap, subst, zip, ◌≡◌, ◌∙◌}
 use Rattle.std.specs.Map.{keys_of, values_of}
-use Rattle.commonware_columns.proofs.Columns.{zip-parts}
+use Rattle.commonware_map.proofs.Columns.{zip-parts}
 use Rattle.committee_weights.specs.Refusals.{IsRefusedAs}
 use Rattle.committee_weights.specs.declared.weights.error.MapWeightsError.TheVariants.{Refused}
 use Rattle.committee_weights.specs.declared.weights.error.WeightsError.{WeightsError}

@@ -2,7 +2,7 @@ use Rattle.std.proofs.Common.{◌≡◌, length, ap, subst, sym, ◌∙◌}
 use Rattle.std.specs.List.{zip}
 use Rattle.std.proofs.lemmas.Map.Entries.{length-keys_of}
 use Rattle.commonware_base.specs.Calls.{CallableAlong, CallsGiveAll}
-use Rattle.commonware_columns.proofs.Columns.{zip-parts}
+use Rattle.commonware_map.proofs.Columns.{zip-parts}
 use Rattle.commonware_map.specs.ValueMaps.{CalledAtPair, TakesPair}
 use Rattle.commonware_map.proofs.Calls.{as_many, keys_are, values_are}
 use Rattle.commonware_map.proofs.map.Map.map_values_into.Goals as goal

@@ -5,7 +5,7 @@ use Rattle.std.specs.Slice.Iter.{iter_rest}
 use Rattle.commonware_base.specs.laws.CallLaws.{so_far_more, so_far_none, takes_next}
 use Rattle.commonware_map.specs.ValueMaps.{CalledAtPair, Succeeds, TakesPair}
 use Rattle.commonware_map.proofs.Calls.{as_many, first_error, keys_are, values_are}
-use Rattle.commonware_columns.proofs.Walked.{all_called, counted_still, walk_starts, walked_one}
+use Rattle.commonware_map.proofs.Walked.{all_called, counted_still, walk_starts, walked_one}
 use Rattle.commonware_map.proofs.map.Map.try_map_values_into.Goals as goal
 
 pub loop-key-init : goal.loop-key-init

@@ -2,7 +2,7 @@ use Rattle.std.proofs.Common.{length, ◌+◌, ◌≤◌, vec_len}
 use Rattle.std.specs.Vec.{vec_capacity}
 use Rattle.commonware_base.specs.laws.CallLaws.{CallsSoFar}
 use Rattle.commonware_map.specs.ValueMaps.{CalledAtPair, Succeeds}
-use Rattle.commonware_columns.proofs.Walked.{IsCounted, pairs_left}
+use Rattle.commonware_map.proofs.Walked.{IsCounted, pairs_left}
 use Rattle.commonware_map.proofs.map.Map.try_map_values_into.Given as goal
 
 abbrev pub invariant-loop-key : goal.invariant-loop-key

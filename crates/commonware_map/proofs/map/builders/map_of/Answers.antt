@@ -2,8 +2,8 @@ use Rattle.std.proofs.Common.{ap, length, subst, sym, ◌≡◌, ◌∙◌}
 use Rattle.std.specs.List.{zip}
 use Rattle.std.proofs.lemmas.Map.Entries.{length-keys_of, length-values_of}
 use Rattle.commonware_ordered.specs.Strict.{IsStrict}
-use Rattle.commonware_columns.proofs.Columns.{zip-parts}
-use Rattle.commonware_columns.proofs.ByKeys.{strict_by_keys}
+use Rattle.commonware_map.proofs.Columns.{zip-parts}
+use Rattle.commonware_map.proofs.ByKeys.{strict_by_keys}
 use Rattle.commonware_map.proofs.map.builders.map_of.Given.{Over}
 use Rattle.commonware_map.proofs.map.builders.map_of.Goals as goal
 

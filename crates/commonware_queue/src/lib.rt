@@ -1,6 +1,0 @@
-//! Queues of a fixed capacity.
-#![tactic(auto)]
-
-mod bounded;
-
-pub use bounded::Bounded;
