@@ -1,6 +1,6 @@
 """Reads the mutations of a crate.
 
-wrong-bodies/SOURCE.edits has those of one source: a line 'file: PATH', and of each mutation a line '[NAME]', a line
+wrong-bodies/*.edits has for each source a line 'file: PATH', and below it of each of its mutations a line '[NAME]', a line
 'function: PATH', as rt check prints it, that names the function to be refused, and pairs of lines 'old: TEXT' and 'new: TEXT',
 which are read as those of a must-fail edit. A mutation of what is in no function has no line 'function:'. wrong-bodies/NAME.answers
 has answers for the goals of that mutation.
@@ -67,7 +67,7 @@ def is_copy(edit):
 
 
 def read(text):
-    """Returns the file that the mutations of this text change, and of each its name, its function and its pairs of texts."""
+    """Returns of each mutation of this text the file that it changes, its name, its function and its pairs of texts."""
     file, found, old = None, [], None
     for line in filter(str.strip, text.splitlines()):
         name = re.fullmatch(r"\[(\w+)\]", line)
@@ -75,27 +75,25 @@ def read(text):
         rest = rest.removeprefix(" ")
         if old is not None and word != "new":
             raise ValueError(f"an old text without a new one: {old}")
+        here = [it for it in found if it[0] == file]
         if name and file:
-            found.append((name[1], None, []))
-        elif word == "file" and file is None and not found and re.fullmatch(r"src/[\w/]+\.rt", rest):
+            found.append((file, name[1], None, []))
+        elif word == "file" and re.fullmatch(r"src/[\w/]+\.rt", rest):
+            if any(it[0] == rest for it in found):
+                raise ValueError(f"the mutations of {rest} stand in two places")
             file = rest
-        elif word == "function" and found and not any(found[-1][1:]):
-            found[-1] = (found[-1][0], rest, [])
-        elif word == "old" and found:
+        elif word == "function" and here and not any(here[-1][2:]):
+            found[-1] = (*here[-1][:2], rest, [])
+        elif word == "old" and here:
             old = rest
         elif word == "new" and old is not None:
-            found[-1][2].append((old, rest))
+            found[-1][3].append((old, rest))
             old = None
         else:
             raise ValueError(f"a line that is not read: {line}")
-    if file is None or old is not None or not all(it[2] for it in found):
-        raise ValueError("it lacks its line file:, or a mutation lacks a pair of texts")
-    return file, found
-
-
-def name_of(file):
-    """Returns the name of the file with the mutations of a source."""
-    return file.removeprefix("src/").removesuffix(".rt").replace("/", "_") + ".edits"
+    if old is not None or not all(it[3] for it in found):
+        raise ValueError("a mutation lacks a pair of texts")
+    return found
 
 
 def edits(folder, tell):
@@ -105,13 +103,11 @@ def edits(folder, tell):
         if path.suffix == ".answers":
             continue
         try:
-            file, mutations = read(path.read_text())
-            if path.name != name_of(file):
-                raise ValueError(f"the mutations of {file} stand in {name_of(file)}")
+            mutations = read(path.read_text())
         except (OSError, ValueError) as error:
             tell(path.name, False, f"not applicable: {error}")
             continue
-        for name, function, pairs in mutations:
+        for file, name, function, pairs in mutations:
             answers = path.with_name(f"{name}.answers")
             try:
                 if name in seen:

@@ -36,7 +36,7 @@ class Read(unittest.TestCase):
             ("[first_is_none]", "[first_is_the_second]", "another mutation of this crate has its name"),
             ("new: let first = self.1;\n", "", "an old text without a new one"),
             ("[first_is_none]", "first_is_none", "a line that is not read"),
-            ("file: src/pairs/pair.rt", "file: src/pair.rt", "stand in pair.edits"),
+            ("[first_is_none]", "file: src/pairs/pair.rt\n[first_is_none]", "stand in two places"),
             ("file: src/pairs/pair.rt", "", "a line that is not read"),
             ("function: small::pairs::pair::Pair::first\nold: first = self.0\nnew: first = 0\n", "", "lacks a pair of texts"),
         ]:
