@@ -1,19 +1,27 @@
-//! The vectors of certificates, of weights, and of sets, maps and bimaps of items of one size, as
-//! the stored run of the judge has them: their results were worked out by hand.
+//! The vectors of certificates, of weights, and of sets, maps and bimaps of items of one size. Their
+//! results were worked out by hand. Python writes them out as lines.
 
 use commonware_proved::{
     BiMapError, BiMapView, Certificate, CertificateLimits, FaultModel, MapView, Named, Refusal,
     SetView, WeightedCheckError, WeightedConflictError, WeightedEquivocationError, Weights,
     WeightsError, weighted_check_encoded, weighted_conflict_encoded, weighted_equivocation_encoded,
 };
-use std::fs;
-use std::path::{Path, PathBuf};
+use std::path::Path;
+use std::process::Command;
 
-/// Returns the lines of a file of the stored run.
-fn stored(name: &str) -> Vec<String> {
-    let folder: PathBuf = Path::new(env!("CARGO_MANIFEST_DIR")).join("../../crates/judge");
-    let text = fs::read_to_string(folder.join(name)).expect("the stored run is there");
-    text.lines().map(str::to_string).collect()
+/// Returns the lines of the `questions` or the `answers` of a file of vectors.
+fn lines(what: &str, file: &str) -> Vec<String> {
+    let folder = Path::new(env!("CARGO_MANIFEST_DIR")).join("../../vectors/reference");
+    let mut python = Command::new("python3");
+    let run = python
+        .args(["-B", "lines.py", what, file])
+        .current_dir(folder);
+    let run = run.output().expect("python3 writes the vectors out");
+    let told = String::from_utf8_lossy(&run.stderr);
+    assert!(run.status.success(), "{told}");
+    let text = String::from_utf8(run.stdout).expect("lines");
+    let lines = text.lines().filter(|line| !line.starts_with('#'));
+    lines.map(str::to_string).collect()
 }
 
 /// Returns the greatest number of a range without a lower bound: `..`, `..N` or `..=N`.
@@ -61,10 +69,14 @@ fn answer(result: Result<(usize, &[u8]), Refusal>) -> String {
     }
 }
 
-/// Returns the questions about a type, each as its words after that, and the answers to them.
+/// Returns the questions about a type or of a verb that can be read, each as its words after that,
+/// and the answers to them.
 fn asked(kind: &str) -> Vec<(Vec<String>, String)> {
-    let questions = stored("stdin").into_iter().zip(stored("stdout"));
-    let asked = questions.filter_map(|(question, answer)| {
+    let file = kind.replace(['<', ',', '-'], "_").replace('>', "");
+    let questions = lines("questions", &file).into_iter();
+    let asked = questions.zip(lines("answers", &file));
+    let asked = asked.filter(|(_, answer)| !answer.starts_with("unreadable"));
+    let asked = asked.filter_map(|(question, answer)| {
         let mut words = question.split(' ').map(str::to_string);
         (words.next()? == kind).then(|| (words.collect(), answer))
     });
