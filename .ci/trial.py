@@ -10,6 +10,8 @@ import tempfile
 ROOT = pathlib.Path(__file__).resolve().parent.parent
 # What a contributor's environment may say of compilers and packages, which nothing here is to go by.
 UNSET = ("COMMONWARE_C_LIB", "COMMONWARE_CASES", "CGO_CFLAGS", "CGO_LDFLAGS", "RUSTFLAGS", "CARGO_ENCODED_RUSTFLAGS", "PYTHONPATH")
+# Node has 64-bit memory by itself from 24 on, and from 20 on by this word.
+MEMORY64 = "--experimental-wasm-memory64"
 missing = set()
 passed, failed = [], []
 
@@ -39,6 +41,12 @@ def run(what, words, folder=ROOT, text=None, **environment):
     told = tell(words, folder, text, **environment)
     note(told.returncode == 0, what, (told.stdout + told.stderr).decode(errors="replace")[-2000:])
     return told.stdout
+
+
+def node():
+    """Returns how Node is called so that it has 64-bit memory."""
+    has_word = tell(["node", MEMORY64, "-e", ""]).returncode == 0
+    return ["node", *([MEMORY64] if has_word else [])]
 
 
 def without_rt(folder):

@@ -20,7 +20,7 @@ export const N5F1 = 5;
 /** How many bytes a member of a committee has. */
 export const MEMBER_SIZE = 32;
 
-/** Loads the module: that of bindings/prebuilt, or the bytes that are given. */
+/** Loads the module: the package's own, or the bytes that are given. */
 export async function load(bytes = undefined) {
     if (!isSupported()) {
         throw new NoMemory64();
@@ -28,7 +28,7 @@ export async function load(bytes = undefined) {
     return new Commonware(await WebAssembly.compile(bytes ?? (await prebuilt())));
 }
 
-/** Returns the bytes of the module as the repository has it, in a browser or in Node. */
+/** Returns the bytes of the package's own module, in a browser or in Node. */
 async function prebuilt() {
     const place = new URL("../prebuilt/wasm64/commonware.wasm", import.meta.url);
     if (place.protocol === "file:" && typeof process === "object") {
