@@ -24,9 +24,16 @@ static uint32_t decode(int call, size_t size, size_t value, const uint8_t *input
         return commonware_certificate_read(input, length, SIZE_MAX, SIZE_MAX, indices, PAGE).status;
     default:
         /* The first `size` bytes are sought among the keys that follow them. */
+        if (length < size) {
+            return commonware_set_index(input, 0, input, length).status;
+        }
         return commonware_set_index(input + size, (length - size) / size * size, input, size)
             .status;
     }
+}
+
+static unsigned digit(char it) {
+    return it <= '9' ? (unsigned)(it - '0') : (unsigned)(it - 'a') + 10;
 }
 
 int main(void) {
@@ -37,16 +44,13 @@ int main(void) {
         return 1;
     }
     for (size_t i = 0; i < MOST && fgets(line, sizeof line, stdin) != NULL; i++) {
-        int call = 0;
-        size_t size = 0, value = 0, length = 0;
-        int at = 0;
-        unsigned byte = 0;
-        if (sscanf(line, "%d %zu %zu %n", &call, &size, &value, &at) < 3) {
-            return 1;
-        }
+        size_t length = 0;
+        char *at = line;
+        const int call = (int)strtoul(at, &at, 10);
+        const size_t size = strtoul(at, &at, 10), value = strtoul(at, &at, 10);
         uint8_t *input = pages + i * PAGE;
-        for (const char *digits = line + at; sscanf(digits, "%2x", &byte) == 1; digits += 2) {
-            input[length++] = (uint8_t)byte;
+        for (const char *it = at + 1; it[0] > ' '; it += 2) {
+            input[length++] = (uint8_t)(digit(it[0]) << 4 | digit(it[1]));
         }
         printf("%u\n", (unsigned)decode(call, size, value, input, length));
     }
