@@ -182,7 +182,7 @@ impl<'a> ListView<'a> {
 
     /// Returns what `binary_search` does, and counts how many items it compares with the key: of
     /// fewer than 2^k items at most k, whatever they are. A comparison looks at each word of eight
-    /// bytes at most once.
+    /// bytes at most once, but for the last word of two equal items.
     #[inline(always)]
     pub fn binary_search_counted<C: Counter>(
         &self,

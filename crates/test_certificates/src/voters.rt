@@ -6,8 +6,7 @@ use commonware_utils::ordered::Set;
 use commonware_utils::{N3f1, N5f1, Participant};
 use std::alloc::Global;
 use std::process::Abort;
-use uses::has_quorum;
-use uses::new_accused;
+use uses::{has_quorum, new_accused};
 
 /// The encodings of voters, and whether three of the members 0 to 3 are among them; `None` where
 /// there is an error.

@@ -1,18 +1,13 @@
 //! Bytes of several lengths: made of slices, compared, shown, written and read, one and many, with
-//! each allocation failing in turn, and as items of collections. And the order of slices, beside
-//! that of std.
+//! each allocation failing in turn. And the order of slices, beside that of std.
 ghost use Rattle.std.specs.Prelude.{◌≤◌};
 
 use crate::many_at_once::{MANY, Row, are_appended_to_each, lowest, read, written};
-use crate::readings::outcome;
-use crate::refused_codec::{ACTS, Act, Trial};
-use commonware_sequence::{FixedBytes, Prefixed, U64, bytes_order};
-use commonware_utils::codec::{Error, RangeCfg};
-use commonware_utils::ordered::{BiMap, Map, Set};
+use crate::refused_codec::{Act, Trial};
+use commonware_sequence::{FixedBytes, Prefixed, bytes_order};
 use std::alloc::{AllocError, Global};
 use std::cmp::Ordering;
 use std::convert::AsSlice;
-use test_equipment::Refusing;
 use test_equipment::walk::{Heap, Outcome, Refusable, makes_requests, requests};
 
 /// `N` bytes, from this one on, each greater than the one before by 37, modulo 256.
@@ -149,30 +144,11 @@ fn are_many<const N: usize>(alloc: Global) -> bool
     [0, 1, 2, 3, 33].iter().all(|count| are_appended_to_each(alloc, &row, *count, N) == Ok(true))
 }
 
-/// Whether an item is read, and each proper prefix of its bytes refused, with no memory at all.
-fn is_cut_everywhere<const N: usize>(alloc: Global) -> bool
-    requires { N ≤ 96 }
-{
-    let heap = Refusing::all_after(alloc, 0);
-    let whole = bytes::<N>(5);
-    for length in 0..N {
-        let cut = &whole[..length];
-        if outcome::<FixedBytes<N>, _>(&heap, cut, &()) != (Some(Error::EndOfBuffer), 0) {
-            return false;
-        }
-    }
-    outcome::<FixedBytes<N>, _>(&heap, &whole, &()) == (None, N) && !heap.has_refused()
-}
-
 /// Whether all of this holds of `N` bytes.
 fn holds<const N: usize>(alloc: Global) -> bool
     requires { N ≤ 96 }
 {
-    are_made::<N>()
-        && are_in_order::<N>()
-        && is_kept::<N>(alloc)
-        && are_many::<N>(alloc)
-        && is_cut_everywhere::<N>(alloc)
+    are_made::<N>() && are_in_order::<N>() && is_kept::<N>(alloc) && are_many::<N>(alloc)
 }
 
 #[test]
@@ -238,46 +214,4 @@ fn bytes_are_shown_in_lowercase_hexadecimal(rt: HostRuntime) {
         .expect(&rt, "an error");
     let shown = format!(in alloc; "{error}").expect(&rt, "memory");
     assert_eq!(&rt; shown.as_str(), "expected 4 bytes, got 3");
-}
-
-/// A collection of bytes.
-#[derive(Clone, Copy)]
-enum Form {
-    Set,
-    Map,
-    BiMap,
-}
-
-/// An act on a collection.
-#[derive(Clone, Copy)]
-struct Collected(Form, Act);
-
-impl Refusable for Collected {
-    fn outcome<H: Heap>(&self, heap: H, granted: u64) -> Outcome {
-        let trial = Trial::new(self.1, heap, granted);
-        let any = RangeCfg::from(..);
-        match self.0 {
-            Form::Set => {
-                trial.on::<Set<FixedBytes<3>, _>>(b"\x02\x01\x02\x03\x01\x02\x04", &(any, ()))
-            }
-            Form::Map => trial.on::<Map<FixedBytes<2>, U64, _>>(
-                b"\x02\x01\x02\x01\x03\x02\x00\x00\x00\x00\x00\x00\x01\x02\
-                \x00\x00\x00\x00\x00\x00\x00\x07",
-                &(any, (), ()),
-            ),
-            Form::BiMap => trial.on::<BiMap<FixedBytes<1>, FixedBytes<2>, _>>(
-                b"\x02\x05\x06\x02\x09\x08\x01\x01",
-                &(any, (), ()),
-            ),
-        }
-    }
-}
-
-#[test]
-fn bytes_are_items_of_collections(rt: HostRuntime) {
-    for form in &[Form::Set, Form::Map, Form::BiMap] {
-        for act in &ACTS {
-            assert!(rt; makes_requests(rt.alloc(), &Collected(*form, *act), 1));
-        }
-    }
 }

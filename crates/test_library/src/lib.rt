@@ -30,8 +30,6 @@ mod refused_codec;
 #[cfg(test)]
 mod refused_displays;
 #[cfg(test)]
-mod refused_headline;
-#[cfg(test)]
 mod refused_insertions;
 #[cfg(test)]
 mod refused_items;

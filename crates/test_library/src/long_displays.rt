@@ -1,5 +1,4 @@
-//! The texts of many items, and of a key, on a writer that takes all.
-use commonware_sequence::FixedBytes;
+//! The texts of many items on a writer that takes all.
 use commonware_utils::TryFromIterator;
 use commonware_utils::ordered::{BiMap, Map, Set};
 use std::alloc::Global;
@@ -51,15 +50,4 @@ fn many_items_are_shown(rt: HostRuntime) {
     assert!(rt; is_shown(alloc, &map, &pairs(&rt, alloc)));
     let bimap = BiMap::try_from_iter(alloc, (0..COUNT).map(pair)).expect(&rt, "a bimap");
     assert!(rt; is_shown(alloc, &bimap, &pairs(&rt, alloc)));
-}
-
-/// A key for debugging is 64 hexadecimal digits.
-#[test]
-fn a_key_is_shown_for_debugging(rt: HostRuntime) {
-    let mut bytes = [0; 32];
-    bytes[1] = 255;
-    let text = format!(in rt.alloc(); "{:?}", FixedBytes::new(bytes)).expect(&rt, "memory");
-    // The digits of a zero, of 255 and of 30 zeros.
-    let digits = "00ff000000000000000000000000000000000000000000000000000000000000";
-    assert_eq!(&rt; text.as_str(), digits);
 }

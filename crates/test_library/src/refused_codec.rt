@@ -8,12 +8,13 @@ use commonware_utils::Participant;
 use commonware_utils::codec::{
     Canonical, Error, RangeCfg, Read, Source, UInt, Write, read_list, round_trip,
 };
+use commonware_utils::headline::decode;
 use commonware_utils::ordered::{BiMap, Map, Set};
 use commonware_utils::vec::NonEmptyVec;
-use std::alloc::{AllocError, Allocator, Global};
+use std::alloc::{Allocator, Global};
 use std::num::NonZeroUsize;
 use test_equipment::Refusing;
-use test_equipment::walk::{Heap, Outcome, Refusable, full, makes_requests, refused, requests};
+use test_equipment::walk::{Heap, Outcome, Refusable, full, makes_requests, refused};
 
 /// What is done with a value.
 #[derive(Clone, Copy)]
@@ -286,36 +287,24 @@ impl Refusable for ListRead {
     }
 }
 
-/// A list of as many bytes as room is reserved for at once, decoded.
-#[derive(Drop)]
-struct LongRead<'a>(&'a [u8]);
+/// The set of {}, {1, 2} and {7}, and a byte that is left, read by the headline's decoder.
+struct Decoding;
 
-impl<'b> Refusable for LongRead<'b> {
+impl Refusable for Decoding {
     fn outcome<H: Heap>(&self, heap: H, granted: u64) -> Outcome {
-        let mut src = Source::new(self.0);
+        let any = RangeCfg::from(..);
+        let text = b"\x03\x00\x02\x01\x02\x01\x07\xff";
         heap.restart(granted);
-        let read: Result<Vec<u8, _>, Error> = read_list(heap, &mut src, RangeCfg::exact(1024), &());
-        match read {
-            Ok(items) => read_whole(items.len() == 1024, &src),
-            Err(error) => read_refused(error, &src),
+        let decoded: Result<(Set<Set<u8, _>, _>, &[u8]), Error> = decode(
+            heap,
+            text,
+            &(any, (any, ())),
+        );
+        match decoded {
+            Ok((set, rest)) => full(set.len() == 3 && rest == b"\xff".as_slice()),
+            Err(error) => refused(error == Error::Memory),
         }
     }
-}
-
-/// The encoding of a list of 1,024 bytes.
-fn long(alloc: Global) -> Result<Vec<u8>, AllocError> {
-    let mut bytes = b"\x80\x08".to_vec(alloc)?;
-    for _ in 0..1024 {
-        bytes.push(0x55)?;
-    }
-    Ok(bytes)
-}
-
-/// A list of 1,024 items of one byte takes one request.
-#[test]
-fn a_list_takes_one_request(rt: HostRuntime) {
-    let bytes = long(rt.alloc()).expect(&rt, "memory");
-    assert!(rt; requests(rt.alloc(), &LongRead(&bytes)) == Some(1));
 }
 
 /// Whether each act on a value of the form makes at least this many allocations.
@@ -334,6 +323,7 @@ fn each_request_is_refused_in_turn(rt: HostRuntime) {
         assert!(rt; acts_ask_for(rt.alloc(), *form, least), "{at}");
     }
     assert!(rt; makes_requests(rt.alloc(), &ListRead, 3));
+    assert!(rt; makes_requests(rt.alloc(), &Decoding, 3));
 }
 
 /// Each value is written whatever the sink holds.
@@ -346,38 +336,4 @@ fn values_are_written_after_others(rt: HostRuntime) {
             assert!(rt; written == Outcome::Full, "{at} {held}");
         }
     }
-}
-
-/// A sink of `length` bytes.
-fn sink_of<H: Heap>(heap: H, length: usize) -> Result<Vec<u8, H>, AllocError> {
-    let mut bytes = Vec::new(heap);
-    for _ in 0..length {
-        bytes.push(0xaau8)?;
-    }
-    Ok(bytes)
-}
-
-/// Whether the varint is written, or fails and leaves the sink, with no memory but the sink's. How
-/// often it fails is counted.
-fn is_written<H: Heap>(heap: H, sink: &mut Vec<u8, H>, refusals: &mut u32) -> bool {
-    let length = sink.len();
-    heap.restart(0);
-    let fails = UInt(300).write(sink).is_err();
-    let refused = heap.has_refused();
-    *refusals = refusals.saturating_add(refused as u32);
-    let added = if refused { 0 } else { 2 };
-    fails == refused && sink.len() == length.saturating_add(added)
-}
-
-/// A varint is written into a sink with room for it, for a part of it and for none.
-#[test]
-fn a_refused_varint_leaves_the_sink(rt: HostRuntime) {
-    let heap = Refusing::after(rt.alloc(), u64::MAX);
-    let mut refusals = 0u32;
-    for length in 0..64usize {
-        heap.restart(u64::MAX);
-        let mut sink = sink_of(&heap, length).expect(&rt, "memory");
-        assert!(rt; is_written(&heap, &mut sink, &mut refusals), "{length}");
-    }
-    assert!(rt; refusals > 2, "{refusals}");
 }

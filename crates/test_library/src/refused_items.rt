@@ -1,14 +1,10 @@
 //! Collections whose items take memory of their own, with each allocation failing in turn, so that
 //! the refusal falls on an item too: what was borrowed is as it was.
-use commonware_utils::ordered::{BiMap, Error, Map, MapError, Set};
+use commonware_utils::ordered::{Error, Map, MapError, Set};
 use commonware_utils::vec::{Bounded, NonEmptyVec};
 use commonware_utils::{NZUsize, vec};
-use std::alloc::{AllocError, Global};
-use test_equipment::Refusing;
+use std::alloc::AllocError;
 use test_equipment::walk::{Heap, Outcome, Refusable, full, makes_requests, refused};
-
-/// A heap whose size is known.
-type Known<'a> = &'a Refusing<Global>;
 
 type Item<H> = Vec<u8, H>;
 
@@ -36,28 +32,18 @@ fn items<H: Heap>(heap: H) -> Result<Vec<Item<H>, H>, AllocError> {
     Ok(items)
 }
 
-/// The same items in an array. It is of a heap whose size is known, since not every array fits in
-/// memory.
-fn three_items<'a>(heap: Known<'a>) -> Result<[Item<Known<'a>>; 3], AllocError> {
-    Ok([
-        item(heap, TEXTS[0])?,
-        item(heap, TEXTS[1])?,
-        item(heap, TEXTS[2])?,
-    ])
-}
-
-/// The same items in an array, each with a clone of itself.
-fn three_pairs<'a>(heap: Known<'a>) -> Result<[Pair<Known<'a>>; 3], AllocError> {
-    Ok([
-        pair(heap, TEXTS[0])?,
-        pair(heap, TEXTS[1])?,
-        pair(heap, TEXTS[2])?,
-    ])
-}
-
 /// An item of this text, with a clone of itself.
 fn pair<H: Heap>(heap: H, text: &[u8]) -> Result<Pair<H>, AllocError> {
     Ok((item(heap, text)?, item(heap, text)?))
+}
+
+/// The items of the three texts, each with a clone of itself.
+fn pairs<H: Heap>(heap: H) -> Result<Vec<Pair<H>, H>, AllocError> {
+    let mut pairs = Vec::new(heap);
+    for text in &TEXTS {
+        pairs.push(pair(heap, text)?)?;
+    }
+    Ok(pairs)
 }
 
 /// Whether the items have these texts.
@@ -85,23 +71,19 @@ fn is_in_order<H: Heap>(set: &Set<Item<H>, H>) -> bool {
     are(set.as_slice(), &IN_ORDER)
 }
 
-/// A call that clones the items of a slice or an array.
+/// A call that clones the items of a slice.
 #[derive(Clone, Copy)]
 enum Build {
-    SetOfSlice,
-    SetOfArray,
-    ListOfSlice,
-    ListOfArray,
+    Set,
+    List,
 }
 
 /// What the call returns for the items, as whether it is right. `None` if it was refused by an
 /// allocation failure.
-fn built<'a>(call: Build, heap: Known<'a>, items: &[Item<Known<'a>>; 3]) -> Option<bool> {
+fn built<H: Heap>(call: Build, heap: H, items: &[Item<H>]) -> Option<bool> {
     match call {
-        Build::SetOfSlice => set_is_right(Set::try_from_slice(heap, items)),
-        Build::SetOfArray => set_is_right(Set::try_from_array_ref(heap, items)),
-        Build::ListOfSlice => list_is_right(NonEmptyVec::try_from_slice(heap, items)),
-        Build::ListOfArray => list_is_right(NonEmptyVec::try_from_array_ref(heap, items)),
+        Build::Set => set_is_right(Set::try_from_slice(heap, items)),
+        Build::List => list_is_right(NonEmptyVec::try_from_slice(heap, items)),
     }
 }
 
@@ -123,13 +105,12 @@ fn list_is_right<H: Heap>(list: Result<List<H>, vec::Error>) -> Option<bool> {
 
 impl Refusable for Build {
     fn outcome<H: Heap>(&self, heap: H, granted: u64) -> Outcome {
-        let heap = heap.refusing();
-        let Ok(items) = three_items(heap) else {
+        let Ok(items) = items(heap) else {
             return Outcome::Wrong;
         };
         heap.restart(granted);
-        let answer = built(*self, heap, &items);
-        let unchanged = are(&items, &TEXTS);
+        let answer = built(*self, heap, items.as_slice());
+        let unchanged = are(items.as_slice(), &TEXTS);
         match answer {
             Some(right) => full(right && unchanged),
             None => refused(unchanged),
@@ -137,42 +118,11 @@ impl Refusable for Build {
     }
 }
 
-/// A call that clones the pairs of a slice or an array.
-#[derive(Clone, Copy)]
-enum BuildPairs {
-    MapOfSlice,
-    MapOfArray,
-    BiMapOfSlice,
-    BiMapOfArray,
-}
-
 type Items<H> = Map<Item<H>, Item<H>, H>;
-
-type ItemsBothWays<H> = BiMap<Item<H>, Item<H>, H>;
 
 /// Whether the keys and the values of the map have the texts in order.
 fn map_is_in_order<H: Heap>(map: &Items<H>) -> bool {
     is_in_order(map.keys()) && are(map.values(), &IN_ORDER)
-}
-
-/// The same of a bimap.
-fn bimap_is_in_order<H: Heap>(bimap: &ItemsBothWays<H>) -> bool {
-    is_in_order(bimap.keys()) && are(bimap.values(), &IN_ORDER)
-}
-
-/// What the call returns for the pairs, as whether it is right. `None` if it was refused by an
-/// allocation failure.
-fn built_of_pairs<'a>(
-    call: BuildPairs,
-    heap: Known<'a>,
-    pairs: &[Pair<Known<'a>>; 3],
-) -> Option<bool> {
-    match call {
-        BuildPairs::MapOfSlice => map_is_right(Map::try_from_slice(heap, pairs)),
-        BuildPairs::MapOfArray => map_is_right(Map::try_from_array_ref(heap, pairs)),
-        BuildPairs::BiMapOfSlice => bimap_is_right(BiMap::try_from_slice(heap, pairs)),
-        BuildPairs::BiMapOfArray => bimap_is_right(BiMap::try_from_array_ref(heap, pairs)),
-    }
 }
 
 /// Whether the map is in order, if it is there.
@@ -183,23 +133,17 @@ fn map_is_right<H: Heap>(map: Result<Items<H>, Error>) -> Option<bool> {
     }
 }
 
-/// The same of a bimap.
-fn bimap_is_right<H: Heap>(bimap: Result<ItemsBothWays<H>, Error>) -> Option<bool> {
-    match bimap {
-        Ok(bimap) => Some(bimap_is_in_order(&bimap)),
-        Err(_) => None,
-    }
-}
+/// The map of clones of the pairs of a slice.
+struct BuildMap;
 
-impl Refusable for BuildPairs {
+impl Refusable for BuildMap {
     fn outcome<H: Heap>(&self, heap: H, granted: u64) -> Outcome {
-        let heap = heap.refusing();
-        let Ok(pairs) = three_pairs(heap) else {
+        let Ok(pairs) = pairs(heap) else {
             return Outcome::Wrong;
         };
         heap.restart(granted);
-        let answer = built_of_pairs(*self, heap, &pairs);
-        let unchanged = pairs_are(&pairs, &TEXTS);
+        let answer = map_is_right(Map::try_from_slice(heap, pairs.as_slice()));
+        let unchanged = pairs_are(pairs.as_slice(), &TEXTS);
         match answer {
             Some(right) => full(right && unchanged),
             None => refused(unchanged),
@@ -313,11 +257,7 @@ fn length<H: Heap>(item: &Item<H>, calls: &mut u32) -> usize {
 
 /// The map of the three items with themselves.
 fn map<H: Heap>(heap: H) -> Option<Items<H>> {
-    let mut pairs = Vec::new(heap);
-    for text in &TEXTS {
-        pairs.push(pair(heap, text).ok()?).ok()?;
-    }
-    Map::try_from_vec(pairs).ok()
+    Map::try_from_vec(pairs(heap).ok()?).ok()
 }
 
 /// The lengths of items by the items.
@@ -345,22 +285,6 @@ fn outcome_of<H: Heap>(lengths: Result<Lengths<H>, MapError<()>>, in_time: bool)
     }
 }
 
-/// Each call that clones items.
-static BUILDS: [Build; 4] = [
-    Build::SetOfSlice,
-    Build::SetOfArray,
-    Build::ListOfSlice,
-    Build::ListOfArray,
-];
-
-/// Each call that clones pairs.
-static BUILDS_OF_PAIRS: [BuildPairs; 4] = [
-    BuildPairs::MapOfSlice,
-    BuildPairs::MapOfArray,
-    BuildPairs::BiMapOfSlice,
-    BuildPairs::BiMapOfArray,
-];
-
 /// Each call that maps values.
 static MAPPINGS: [MapValues; 2] = [MapValues::Mapped, MapValues::Tried];
 
@@ -368,12 +292,8 @@ static MAPPINGS: [MapValues; 2] = [MapValues::Mapped, MapValues::Tried];
 #[test]
 fn each_request_is_refused_in_turn(rt: HostRuntime) {
     let alloc = rt.alloc();
-    for (at, call) in BUILDS.iter().enumerate() {
-        assert!(rt; makes_requests(alloc, call, 4), "items: {at}");
-    }
-    for (at, call) in BUILDS_OF_PAIRS.iter().enumerate() {
-        assert!(rt; makes_requests(alloc, call, 8), "pairs: {at}");
-    }
+    assert!(rt; makes_requests(alloc, &Build::Set, 4) && makes_requests(alloc, &Build::List, 4));
+    assert!(rt; makes_requests(alloc, &BuildMap, 8));
     for (at, call) in MAPPINGS.iter().enumerate() {
         assert!(rt; makes_requests(alloc, call, 5), "values: {at}");
     }

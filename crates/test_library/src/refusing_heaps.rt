@@ -10,16 +10,6 @@ fn grants<H: Heap>(heap: H, count: usize) -> bool {
 }
 
 #[test]
-fn one_request_alone_is_refused(rt: HostRuntime) {
-    let heap = Refusing::after(rt.alloc(), 0);
-    let before = heap.has_refused();
-    let first: Result<Vec<u32, &Refusing<Global>>, _> = Vec::with_capacity(&heap, 4);
-    let refused = heap.has_refused();
-    let second: Result<Vec<u32, &Refusing<Global>>, _> = Vec::with_capacity(&heap, 4);
-    assert!(rt; !before && first.is_err() && refused && second.is_ok() && heap.has_refused());
-}
-
-#[test]
 fn later_requests_are_granted_again(rt: HostRuntime) {
     let heap = Refusing::after(rt.alloc(), 1);
     let mut items: Vec<u32, &Refusing<Global>> = Vec::new(&heap);

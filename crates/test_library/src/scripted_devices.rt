@@ -1,6 +1,5 @@
 //! The reader and the writer of these tests: they do what their script says, call by call.
 use std::io::{Error, ErrorKind, Read, Write};
-use std::test::Fail;
 use test_equipment::{ReadFault, ScriptedReader, ScriptedWriter, WriteFault};
 
 /// What a call returns: how many bytes, or the kind of its error.
@@ -17,36 +16,6 @@ fn answer_of(answered: Result<usize, Error>) -> Answer {
 const BROKEN: Answer = Err(ErrorKind::BrokenPipe);
 
 const INTERRUPTED: Answer = Err(ErrorKind::Interrupted);
-
-/// How a reader fails at its end, if it does.
-static FAILURES: [Option<ErrorKind>; 3] = [
-    None,
-    Some(ErrorKind::BrokenPipe),
-    Some(ErrorKind::Interrupted),
-];
-
-#[test]
-fn a_reader_ends_or_fails_after_its_bytes(rt: HostRuntime) {
-    for failure in &FAILURES {
-        let mut input = ScriptedReader::new(b"abc", 2);
-        if let Some(kind) = *failure {
-            input = input.failing(kind);
-        }
-        let mut buf = [0; 9];
-        let given = (
-            input.read(&mut buf).expect(&rt, "a read"),
-            input.read(&mut buf).expect(&rt, "a read"),
-        );
-        for _ in 0..2 {
-            let right = match input.read(&mut buf) {
-                Ok(given) => given == 0 && failure.is_none(),
-                Err(error) => *failure == Some(error.kind()),
-            };
-            assert!(rt; right, "{failure:?}");
-        }
-        assert!(rt; given == (2, 1) && input.calls == 4, "{failure:?}");
-    }
-}
 
 /// Of a reader of four bytes, two a call: the call that goes wrong, how, and what each call returns
 /// and leaves.
@@ -164,23 +133,4 @@ fn a_writer_goes_wrong_at_one_call_or_from_it_on(rt: HostRuntime) {
             "{fault:?}"
         );
     }
-}
-
-#[test]
-fn a_writer_that_takes_no_byte_takes_none_when_it_goes_wrong(rt: HostRuntime) {
-    let mut output = ScriptedWriter::new(rt.alloc(), 0).with_fault(0, WriteFault::TakesOneByte);
-    for _ in 0..2 {
-        let taken = output.write(b"abc").expect(&rt, "a write");
-        assert!(rt; taken == 0 && output.taken.is_empty());
-    }
-}
-
-#[test]
-fn a_flush_fails_if_it_is_set_to(rt: HostRuntime) {
-    let mut output = ScriptedWriter::new(rt.alloc(), 9);
-    let before = output.flush();
-    let mut output = output.failing_flush(ErrorKind::BrokenPipe);
-    let after = output.flush();
-    assert!(rt; before.is_ok() && matches!(after, Err(e) if e.kind() == ErrorKind::BrokenPipe));
-    assert!(rt; (output.flushes, output.calls) == (2, 0));
 }

@@ -1,12 +1,10 @@
 //! Numbers of eight bytes: their bytes, their texts, their order, and one and many of them written
 //! and read, with each allocation failing in turn.
 use crate::many_at_once::{MANY, Row, are_appended_to_each, lowest, read, written};
-use crate::readings::outcome;
 use crate::refused_codec::{Act, Trial};
 use commonware_sequence::U64;
-use commonware_utils::codec::{Error, MaxEncodeSize, Read, Source};
+use commonware_utils::codec::{MaxEncodeSize, Read, Source};
 use std::alloc::{AllocError, Global};
-use test_equipment::Refusing;
 use test_equipment::walk::{Heap, Outcome, Refusable, makes_requests, requests};
 
 /// A number, its bytes and its text.
@@ -74,18 +72,6 @@ fn numbers_have_their_bytes_and_texts(rt: HostRuntime) {
     }
     assert!(rt; KNOWN.iter().map(|known| U64::new(known.0)).is_sorted());
     assert!(rt; <U64 as MaxEncodeSize>::MAX_ENCODE_SIZE == 8);
-}
-
-/// A number is read from eight bytes, and each shorter input is refused, with no memory at all.
-#[test]
-fn short_inputs_are_refused(rt: HostRuntime) {
-    let heap = Refusing::all_after(rt.alloc(), 0);
-    let bytes = [7u8; 9];
-    for length in 0..8 {
-        let cut = outcome::<U64, _>(&heap, &bytes[..length], &());
-        assert!(rt; cut == (Some(Error::EndOfBuffer), 0), "{length}");
-    }
-    assert!(rt; outcome::<U64, _>(&heap, &bytes, &()) == (None, 8) && !heap.has_refused());
 }
 
 /// Many numbers, each with the same bytes at both ends.

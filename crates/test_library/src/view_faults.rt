@@ -80,141 +80,42 @@ const UNSORTED: Error = Error::Invalid("Set", "items must be sorted and unique")
 fn lengths_are_refused(rt: HostRuntime) {
     let rows = [
         // The varint ends too soon, is overlong, or is above 4294967295.
-        (Form::List(2), b"".as_slice(), Error::EndOfBuffer),
-        (Form::List(2), b"\x80", Error::EndOfBuffer),
-        (Form::Set(2), b"\xff\xff\xff\xff", Error::EndOfBuffer),
+        (Form::List(2), b"\x80".as_slice(), Error::EndOfBuffer),
         (Form::Map(2, 1), b"", Error::EndOfBuffer),
-        (Form::List(2), b"\x80\x00", Error::InvalidVarint),
-        (
-            Form::Set(2),
-            b"\x82\x00\x01\x01\x02\x02",
-            Error::InvalidVarint,
-        ),
-        (Form::Map(2, 1), b"\x80\x80\x00", Error::InvalidVarint),
+        (Form::Set(2), b"\x82\x00\x01\x01", Error::InvalidVarint),
         (Form::List(0), b"\xff\xff\xff\xff\x10", Error::InvalidVarint),
-        (Form::List(0), b"\xff\xff\xff\xff\xff", Error::InvalidVarint),
         // The length is out of the range, which is looked at before the bytes that are left.
-        (Form::List(2), b"\x00", Error::InvalidLength(0)),
         (Form::Set(2), b"\x00", Error::InvalidLength(0)),
-        (Form::Map(2, 1), b"\x00\x00", Error::InvalidLength(0)),
         (Form::List(2), b"\x04", Error::InvalidLength(4)),
-        (
-            Form::Set(1),
-            b"\x04\x04\x03\x02\x01",
-            Error::InvalidLength(4),
-        ),
         (Form::Map(1, 1), b"\x04\x01", Error::InvalidLength(4)),
         (Form::List(0), b"\x80\x01", Error::InvalidLength(128)),
-        (
-            Form::List(2),
-            b"\xff\xff\xff\xff\x0f",
-            Error::InvalidLength(4_294_967_295),
-        ),
     ];
     assert!(rt; are_refused(rt.alloc(), RangeCfg::from(1..=3), &rows) == Ok(true));
 }
 
 #[test]
-fn ends_are_refused(rt: HostRuntime) {
+fn items_and_values_are_refused(rt: HostRuntime) {
     let rows = [
-        (Form::List(1), b"\x01".as_slice(), Error::EndOfBuffer),
-        (Form::List(2), b"\x01\xaa", Error::EndOfBuffer),
-        (Form::List(2), b"\x02\xaa\xbb\xcc", Error::EndOfBuffer),
         (
-            Form::List(4),
-            b"\x02\xaa\xbb\xcc\xdd\xee",
-            Error::EndOfBuffer,
-        ),
-        (
-            Form::List(1),
-            b"\xff\xff\xff\xff\x0f\xaa",
+            Form::List(2),
+            b"\x02\xaa\xbb\xcc".as_slice(),
             Error::EndOfBuffer,
         ),
         // No number of the type `usize` is as great as these sizes together.
-        (Form::List(usize::MAX), b"\x01\xaa", Error::EndOfBuffer),
         (Form::List(usize::MAX), b"\x02\xaa", Error::EndOfBuffer),
-        (
-            Form::Set(usize::MAX),
-            b"\xff\xff\xff\xff\x0f\xaa",
-            Error::EndOfBuffer,
-        ),
-        (
-            Form::Map(1, usize::MAX),
-            b"\x02\x01\x02\x02\xaa",
-            Error::EndOfBuffer,
-        ),
-        // The end comes before the order of the keys.
-        (Form::Set(2), b"\x02\xaa\xbb\xaa", Error::EndOfBuffer),
+        // The end comes before the order of the keys, and this before the values.
         (Form::Set(1), b"\x03\x02\x01", Error::EndOfBuffer),
-        (Form::Map(1, 1), b"\x03\x02\x01", Error::EndOfBuffer),
-        // Of a map the values are missing, in whole or in part.
-        (Form::Map(1, 2), b"\x01\x07", Error::EndOfBuffer),
-        (Form::Map(1, 2), b"\x01\x07\x80", Error::EndOfBuffer),
-        (Form::Map(1, 2), b"\x01\x07\x01", Error::EndOfBuffer),
-        (
-            Form::Map(1, 2),
-            b"\x02\x07\x08\x02\x01\x02\x03",
-            Error::EndOfBuffer,
-        ),
-    ];
-    assert!(rt; are_refused(rt.alloc(), RangeCfg::from(..), &rows) == Ok(true));
-}
-
-#[test]
-fn orders_are_refused(rt: HostRuntime) {
-    let rows = [
-        // Equal neighbours, and descending ones, at the start and at the end.
-        (Form::Set(2), b"\x02\xaa\xbb\xaa\xbb".as_slice(), UNSORTED),
-        (Form::Set(2), b"\x02\xaa\xbc\xaa\xbb", UNSORTED),
-        (Form::Set(2), b"\x02\xab\x00\xaa\xff", UNSORTED),
-        (Form::Set(1), b"\x03\x01\x01\x02", UNSORTED),
         (Form::Set(1), b"\x03\x01\x02\x02", UNSORTED),
-        (Form::Set(1), b"\x03\x01\x03\x02", UNSORTED),
-        (Form::Set(1), b"\x04\x02\x01\x03\x04\xee", UNSORTED),
-        (Form::Set(1), b"\x02\x80\x7f", UNSORTED),
-        (Form::Set(1), b"\x02\xbb\xaa", UNSORTED),
+        (Form::Set(2), b"\x02\xaa\xbc\xaa\xbb", UNSORTED),
+        (Form::Map(1, 2), b"\x02\x02\x01", UNSORTED),
         // Of keys of no bytes any two are equal.
         (Form::Set(0), b"\x02", UNSORTED),
-        (Form::Set(0), b"\xff\xff\xff\xff\x0f", UNSORTED),
-        // The order of the keys of a map comes before its values.
-        (Form::Map(1, 2), b"\x02\x02\x01", UNSORTED),
-        (Form::Map(1, 2), b"\x02\x01\x01\x07", UNSORTED),
-        (Form::Map(1, 1), b"\x02\x09\x08\x02\x01\x02", UNSORTED),
-        (Form::Map(0, 0), b"\x02\x02", UNSORTED),
-    ];
-    assert!(rt; are_refused(rt.alloc(), RangeCfg::from(..), &rows) == Ok(true));
-}
-
-#[test]
-fn numbers_of_values_are_refused(rt: HostRuntime) {
-    let rows = [
+        // Of a map the values are missing, in whole or in part.
+        (Form::Map(1, 2), b"\x01\x07", Error::EndOfBuffer),
+        (Form::Map(1, 2), b"\x01\x07\x01\xaa", Error::EndOfBuffer),
         // A map states again how many values there are, and this is looked at before their bytes.
-        (
-            Form::Map(1, 2),
-            b"\x01\x07\x00".as_slice(),
-            Error::InvalidLength(0),
-        ),
-        (
-            Form::Map(1, 2),
-            b"\x01\x07\x02\x00\x00\x00\x00",
-            Error::InvalidLength(2),
-        ),
         (Form::Map(1, 2), b"\x01\xaa\x02", Error::InvalidLength(2)),
-        (
-            Form::Map(1, 2),
-            b"\x00\x01\x00\x00",
-            Error::InvalidLength(1),
-        ),
-        (
-            Form::Map(1, 0),
-            b"\x02\x07\x08\x80\x01",
-            Error::InvalidLength(128),
-        ),
-        (
-            Form::Map(1, 2),
-            b"\x01\x07\x81\x00\x01\x02",
-            Error::InvalidVarint,
-        ),
+        (Form::Map(1, 2), b"\x01\x07\x81\x00", Error::InvalidVarint),
     ];
     assert!(rt; are_refused(rt.alloc(), RangeCfg::from(..), &rows) == Ok(true));
 }

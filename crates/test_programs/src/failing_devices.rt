@@ -6,7 +6,6 @@ use crate::runs::{
     Run, beginning, is_right, read_run, with_failed_flush, with_failed_read, with_failed_write,
 };
 use std::io::ErrorKind;
-use std::test::Fail;
 use test_equipment::{ReadFault, WriteFault};
 
 /// How many bytes are given and taken a call, and how many calls of the reader and of the writer

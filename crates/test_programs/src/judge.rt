@@ -101,8 +101,6 @@ pub struct Outcome {
     pub status: u8,
     pub written: Vec<u8>,
     pub said: Vec<u8>,
-    reads: u32,
-    flushes: u32,
     /// Whether an allocation failed.
     pub refused: bool,
 }
@@ -136,8 +134,6 @@ pub fn held(alloc: Global, wanted: &Session<'_>) -> Result<Outcome, AllocError> 
         status,
         written: output.inner().taken.clone()?,
         said: errors.taken,
-        reads: input.inner().calls,
-        flushes: output.inner().flushes,
         refused,
     })
 }
@@ -151,13 +147,6 @@ fn stops(alloc: Global, wanted: &Session<'_>, line: &str) -> Result<bool, AllocE
             && ANSWERS.as_bytes().starts_with(outcome.written.as_slice())
             && outcome.said.as_slice() == line.as_bytes(),
     )
-}
-
-#[test]
-fn each_piece_is_answered_before_the_next(rt: HostRuntime) {
-    let outcome = held(rt.alloc(), &of(b"u8 07\nu8 08\nu8 09\n", 6)).expect(&rt, "memory");
-    assert!(rt; outcome.reads == 4);
-    assert!(rt; outcome.flushes == 4);
 }
 
 #[test]

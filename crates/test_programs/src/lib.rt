@@ -15,8 +15,6 @@ mod devices;
 #[cfg(test)]
 mod dialogue;
 #[cfg(test)]
-mod every_bound;
-#[cfg(test)]
 mod failing_devices;
 #[cfg(test)]
 mod judge;

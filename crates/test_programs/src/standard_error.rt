@@ -6,7 +6,6 @@ use crate::session_trial::{READ, words_of};
 use committee_core::{Watched, session};
 use std::alloc::{AllocError, Global};
 use std::io::ErrorKind;
-use std::test::Fail;
 use test_equipment::{Refusing, ScriptedWriter, WriteFault};
 
 /// Words that ask for no command.

@@ -36,12 +36,7 @@ impl Refusable for Cloned {
 /// A clone takes one allocation.
 #[test]
 fn weights_are_cloned(rt: HostRuntime) {
-    let rows: [&'static [u64]; 4] = [
-        &[1],
-        &[u64::MAX],
-        &[40, 30, 20, 10],
-        &[1, 2, 3, 4, 5, 6, 7, 8, 9],
-    ];
+    let rows: [&'static [u64]; 2] = [&[u64::MAX], &[40, 30, 20, 10]];
     for row in &rows {
         assert!(rt; requests(rt.alloc(), &Cloned(row)) == Some(1), "{row:?}");
     }

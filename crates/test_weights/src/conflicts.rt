@@ -22,7 +22,7 @@ struct Row {
 /// At a k of 3 of 100 in all, 33 are tolerated, and a quorum weighs 67.
 const FOUR: &[u64] = &[40, 30, 20, 10];
 
-static ROWS: [Row; 20] = [
+static ROWS: [Row; 7] = [
     Row {
         k: 3,
         weights: FOUR,
@@ -30,33 +30,12 @@ static ROWS: [Row; 20] = [
         second: &[0, 2, 3],
         answer: Ok(&[0]),
     },
-    Row {
-        k: 3,
-        weights: FOUR,
-        first: &[0, 1, 2, 3],
-        second: &[0, 1, 3],
-        answer: Ok(&[0, 1, 3]),
-    },
     // The members 1, 2 and 3 weigh 60.
     Row {
         k: 3,
         weights: FOUR,
         first: &[0, 1],
         second: &[1, 2, 3],
-        answer: Err(WeightedConflictError::TooLight),
-    },
-    Row {
-        k: 3,
-        weights: FOUR,
-        first: &[1, 2, 3],
-        second: &[0, 1],
-        answer: Err(WeightedConflictError::TooLight),
-    },
-    Row {
-        k: 3,
-        weights: FOUR,
-        first: &[],
-        second: &[],
         answer: Err(WeightedConflictError::TooLight),
     },
     // 4 is no member, and that comes before weight.
@@ -67,27 +46,6 @@ static ROWS: [Row; 20] = [
         second: &[0, 1, 4],
         answer: Err(WeightedConflictError::Outside),
     },
-    Row {
-        k: 3,
-        weights: FOUR,
-        first: &[4],
-        second: &[0, 1],
-        answer: Err(WeightedConflictError::Outside),
-    },
-    Row {
-        k: 3,
-        weights: FOUR,
-        first: &[],
-        second: &[4294967295],
-        answer: Err(WeightedConflictError::Outside),
-    },
-    Row {
-        k: 3,
-        weights: FOUR,
-        first: &[4294967295],
-        second: &[],
-        answer: Err(WeightedConflictError::Outside),
-    },
     // At a k of 2 of 100 in all, a quorum weighs 51.
     Row {
         k: 2,
@@ -96,28 +54,6 @@ static ROWS: [Row; 20] = [
         second: &[0, 2],
         answer: Ok(&[2]),
     },
-    Row {
-        k: 2,
-        weights: FOUR,
-        first: &[1, 2],
-        second: &[0, 2],
-        answer: Err(WeightedConflictError::TooLight),
-    },
-    // At a k of 5 it weighs 81.
-    Row {
-        k: 5,
-        weights: FOUR,
-        first: &[0, 1, 2],
-        second: &[0, 1, 2, 3],
-        answer: Ok(&[0, 1, 2]),
-    },
-    Row {
-        k: 5,
-        weights: FOUR,
-        first: &[0, 1, 2],
-        second: &[0, 1, 3],
-        answer: Err(WeightedConflictError::TooLight),
-    },
     // At the greatest k none are tolerated.
     Row {
         k: 4294967295,
@@ -125,35 +61,6 @@ static ROWS: [Row; 20] = [
         first: &[0, 1, 2, 3],
         second: &[0, 1, 2, 3],
         answer: Ok(&[0, 1, 2, 3]),
-    },
-    Row {
-        k: 4294967295,
-        weights: FOUR,
-        first: &[0, 1, 2, 3],
-        second: &[0, 1, 2],
-        answer: Err(WeightedConflictError::TooLight),
-    },
-    // One that weighs a quorum, and one that weighs one less.
-    Row {
-        k: 3,
-        weights: &[67, 33],
-        first: &[0],
-        second: &[0, 1],
-        answer: Ok(&[0]),
-    },
-    Row {
-        k: 3,
-        weights: &[66, 34],
-        first: &[0, 1],
-        second: &[0],
-        answer: Err(WeightedConflictError::TooLight),
-    },
-    Row {
-        k: 3,
-        weights: &[u64::MAX],
-        first: &[0],
-        second: &[0],
-        answer: Ok(&[0]),
     },
     // Of 2^64 - 1 in all 6148914691236517204 are tolerated. The first weighs a quorum, and then
     // one less.

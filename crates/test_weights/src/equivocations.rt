@@ -18,17 +18,12 @@ struct Row {
     answer: Result<&'static [u32], WeightedEquivocationError>,
 }
 
-static ROWS: [Row; 14] = [
+static ROWS: [Row; 9] = [
     // View 7: A and B.
     Row {
         first: (b"\x01\x07A", &[0, 1]),
         second: (b"\x01\x07B", &[0, 2, 3]),
         answer: Ok(&[0]),
-    },
-    Row {
-        first: (b"\x01\x07A", &[0, 1, 2, 3]),
-        second: (b"\x01\x07", &[0, 1, 3]),
-        answer: Ok(&[0, 1, 3]),
     },
     // A slot of no bytes, of a protocol that decides once.
     Row {
@@ -58,21 +53,11 @@ static ROWS: [Row; 14] = [
         second: (b"\x01\x07B", &[0, 1]),
         answer: Err(WeightedEquivocationError::NoSlot),
     },
-    Row {
-        first: (b"\x01\x07A", &[0, 1]),
-        second: (b"", &[]),
-        answer: Err(WeightedEquivocationError::NoSlot),
-    },
     // The values come before the signers, and whether they are members before what they weigh.
     Row {
         first: (b"\x01\x07A", &[9]),
         second: (b"\x01\x08B", &[]),
         answer: Err(WeightedEquivocationError::OtherSlot),
-    },
-    Row {
-        first: (b"\x01\x07A", &[9]),
-        second: (b"\x01\x07B", &[]),
-        answer: Err(WeightedEquivocationError::Outside),
     },
     Row {
         first: (b"\x01\x07A", &[]),
@@ -82,16 +67,6 @@ static ROWS: [Row; 14] = [
     Row {
         first: (b"\x01\x07A", &[0, 1]),
         second: (b"\x01\x07B", &[1, 2, 3]),
-        answer: Err(WeightedEquivocationError::TooLight),
-    },
-    Row {
-        first: (b"\x01\x07A", &[1, 2, 3]),
-        second: (b"\x01\x07B", &[0, 1]),
-        answer: Err(WeightedEquivocationError::TooLight),
-    },
-    Row {
-        first: (b"\x01\x07A", &[]),
-        second: (b"\x01\x07B", &[]),
         answer: Err(WeightedEquivocationError::TooLight),
     },
 ];

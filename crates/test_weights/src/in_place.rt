@@ -3,7 +3,7 @@ use committee_certificates::find_certificate;
 use committee_weights::{total_weight, weight_of_indices, weight_of_signers};
 use commonware_base::codec::{RangeCfg, Source};
 use commonware_ordered::Set;
-use std::alloc::{AllocError, Global};
+use std::alloc::Global;
 
 const FOUR: &[u64] = &[40, 30, 20, 10];
 
@@ -36,17 +36,6 @@ fn signers_weigh_what_their_indices_do(rt: HostRuntime) {
     }
 }
 
-#[test]
-fn numbers_need_not_be_weights(rt: HostRuntime) {
-    let numbers = [u64::MAX, 0, 1];
-    let mut source = Source::new(&[0, 2, 0, 1]);
-    let first = find_certificate(&mut source, RangeCfg::from(..), RangeCfg::from(..));
-    assert!(rt; first.is_ok_and(|it| it.signers.sum_of(&numbers) == Some(u64::MAX)));
-    let mut source = Source::new(&[0, 3, 0, 1, 2]);
-    let all = find_certificate(&mut source, RangeCfg::from(..), RangeCfg::from(..));
-    assert!(rt; all.is_ok_and(|it| it.signers.sum_of(&numbers).is_none()));
-}
-
 /// What participants of strictly increasing indices weigh of these weights.
 fn listed(alloc: Global, indices: &[u32], weights: &[u64]) -> Option<Option<u64>> {
     let indices = Set::<u32, Global>::from_iter_dedup(alloc, indices.iter().copied()).ok()?;
@@ -72,26 +61,4 @@ fn indices_weigh_what_members_do(rt: HostRuntime) {
             "{indices:?}"
         );
     }
-}
-
-/// The weights 1, 2, 3 and so on.
-fn counted(alloc: Global, count: u64) -> Result<Vec<u64, Global>, AllocError> {
-    let mut items = Vec::new(alloc);
-    for weight in 1..=count {
-        items.push(weight)?;
-    }
-    Ok(items)
-}
-
-/// The signers 65,536 and 69,999 in three bytes each: 65,537 and 70,000 are 135,537.
-#[test]
-fn signers_past_two_bytes_are_weighed(rt: HostRuntime) {
-    let weights = counted(rt.alloc(), 70_000).expect(&rt, "memory");
-    let input = [0, 2, 0x80, 0x80, 4, 0xEF, 0xA2, 4];
-    let wanted = Some((Some(135_537), Some(135_537)));
-    assert!(rt; weighed(&input, &weights) == wanted);
-    let fewer = counted(rt.alloc(), 69_999).expect(&rt, "memory");
-    assert!(rt; weighed(&input, &fewer) == Some((None, None)));
-    let last = listed(rt.alloc(), &[65_536, 69_999], &weights);
-    assert!(rt; last == Some(Some(135_537)));
 }

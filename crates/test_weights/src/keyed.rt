@@ -16,24 +16,16 @@ struct Row {
     answer: Result<Read, ReadWeightsError>,
 }
 
-static ROWS: [Row; 16] = [
+static ROWS: [Row; 9] = [
     Row {
         input: b"\x02\x03\x07\x02\0\0\0\0\0\0\0\x28\0\0\0\0\0\0\0\x0a\x63",
         answer: Ok((&[3, 7], &[40, 10], 1)),
-    },
-    Row {
-        input: b"\x01\xff\x01\xff\xff\xff\xff\xff\xff\xff\xff",
-        answer: Ok((&[255], &[18446744073709551615], 0)),
     },
     Row {
         input: b"\x02\x03\x07\x02\x80\0\0\0\0\0\0\0\x7f\xff\xff\xff\xff\xff\xff\xff\0\0",
         answer: Ok((&[3, 7], &[9223372036854775808, 9223372036854775807], 2)),
     },
     // The faults of the map come first.
-    Row {
-        input: b"",
-        answer: Err(ReadWeightsError::Undecodable(Error::EndOfBuffer)),
-    },
     Row {
         input: b"\x05",
         answer: Err(ReadWeightsError::Undecodable(Error::InvalidLength(5))),
@@ -43,10 +35,6 @@ static ROWS: [Row; 16] = [
         answer: Err(ReadWeightsError::Undecodable(Error::InvalidVarint)),
     },
     Row {
-        input: b"\x02\x03\x07\x02\0\0\0\0\0\0\0\x28\0\0\0\0\0\0\0",
-        answer: Err(ReadWeightsError::Undecodable(Error::EndOfBuffer)),
-    },
-    Row {
         input: b"\x02\x07\x03\x02\0\0\0\0\0\0\0\0\0\0\0\0\0\0\0\0",
         answer: Err(ReadWeightsError::Undecodable(Error::Invalid(
             "Set",
@@ -54,35 +42,16 @@ static ROWS: [Row; 16] = [
         ))),
     },
     Row {
-        input: b"\x02\x03\x07\x02\0\0\0\0\0\0\0\0\0\0\0\0\0\0\0",
-        answer: Err(ReadWeightsError::Undecodable(Error::EndOfBuffer)),
-    },
-    Row {
         input: b"\x00\x00",
         answer: Err(ReadWeightsError::Refused(WeightsError::Empty)),
-    },
-    Row {
-        input: b"\x01\x03\x01\0\0\0\0\0\0\0\0",
-        answer: Err(ReadWeightsError::Refused(WeightsError::Zero(0))),
     },
     Row {
         input: b"\x02\x03\x07\x02\0\0\0\0\0\0\0\x28\0\0\0\0\0\0\0\0",
         answer: Err(ReadWeightsError::Refused(WeightsError::Zero(1))),
     },
     Row {
-        input: b"\x02\x03\x07\x02\xff\xff\xff\xff\xff\xff\xff\xff\0\0\0\0\0\0\0\x01",
-        answer: Err(ReadWeightsError::Refused(WeightsError::Overflow(1))),
-    },
-    Row {
         input: b"\x02\x03\x07\x02\x80\0\0\0\0\0\0\0\x80\0\0\0\0\0\0\0",
         answer: Err(ReadWeightsError::Refused(WeightsError::Overflow(1))),
-    },
-    Row {
-        input: &[
-            3, 3, 7, 9, 3, 255, 255, 255, 255, 255, 255, 255, 255, 0, 0, 0, 0, 0, 0, 0, 0, 0, 0, 0,
-            0, 0, 0, 0, 1,
-        ],
-        answer: Err(ReadWeightsError::Refused(WeightsError::Zero(1))),
     },
     Row {
         input: &[
@@ -192,7 +161,7 @@ fn refused_values_take_no_memory_for_weights(rt: HostRuntime) {
         prefix: 0,
     };
     let refused = Call {
-        row: &ROWS[11],
+        row: &ROWS[6],
         prefix: 0,
     };
     let asked = requests(rt.alloc(), &refused).expect(&rt, "a walk");

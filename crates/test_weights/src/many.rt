@@ -3,8 +3,8 @@
 use crate::conflicts::conflict_of;
 use committee_certificates::Certificate;
 use committee_weights::{
-    WeightedConflictError, WeightedEquivocationError, WeightedQuorumError, Weights, WeightsError,
-    check_weight, weighted_equivocation,
+    WeightedConflictError, WeightedEquivocationError, WeightedQuorumError, Weights, check_weight,
+    weighted_equivocation,
 };
 use commonware_base::Participant;
 use commonware_ordered::Set;
@@ -24,19 +24,12 @@ fn among(
     Set::from_iter_dedup(alloc, one.chain(other).map(Participant::new))
 }
 
-/// The weights 1, 2, 3 and so on, but another one at an index.
-fn counted_but(alloc: Global, at: u32, weight: u64) -> Result<Vec<u64, Global>, AllocError> {
-    let mut items = Vec::new(alloc);
-    for index in 0..COUNT {
-        let counted = u64::from(index) + 1;
-        items.push(if index == at { weight } else { counted })?;
-    }
-    Ok(items)
-}
-
 /// The weights 1, 2, 3 and so on.
 fn counted(alloc: Global) -> Option<Weights<Global>> {
-    let items = counted_but(alloc, 0, 1).ok()?;
+    let mut items = Vec::new(alloc);
+    for weight in 1..=u64::from(COUNT) {
+        items.push(weight).ok()?;
+    }
     Weights::new(items).ok()
 }
 
@@ -66,42 +59,6 @@ fn weights_past_two_bytes(rt: HostRuntime) {
         let members = among(alloc, range, 0..0).expect(&rt, "memory");
         assert!(rt; weights.weight_of(&members) == weight, "{weight:?}");
     }
-}
-
-/// The first 57,155 weigh 1,633,375,590, and without the last of them 1,633,318,435.
-#[test]
-fn a_quorum_of_many(rt: HostRuntime) {
-    let alloc = rt.alloc();
-    let weights = counted(alloc).expect(&rt, "weights");
-    let enough = among(alloc, 0..57_155, 0..0).expect(&rt, "memory");
-    let fewer = among(alloc, 0..57_154, 0..0).expect(&rt, "memory");
-    assert!(rt; weights.is_quorum(3, &enough) && !weights.is_quorum(3, &fewer));
-}
-
-/// What is said of the weights 1, 2, 3 and so on with another one at an index.
-fn refusal_at(alloc: Global, at: u32, weight: u64) -> Option<WeightsError> {
-    let items = counted_but(alloc, at, weight).ok()?;
-    Weights::new(items).err()
-}
-
-/// A weight that is 0, wherever it is; and one with which the sum is 2^64: 65,536 * 65,537 / 2 come
-/// before the weight at index 65,536.
-#[test]
-fn refused_weights_have_their_index(rt: HostRuntime) {
-    let alloc = rt.alloc();
-    for at in [0, 1, 35_000, 65_535, 65_536, 69_999u32] {
-        let wanted = Some(WeightsError::Zero(at as usize));
-        assert!(rt; refusal_at(alloc, at, 0) == wanted, "{at}");
-    }
-    let one_more = Some(WeightsError::Overflow(65_536));
-    assert!(rt; refusal_at(alloc, 65_536, 18_446_744_071_562_035_200) == one_more);
-    // With one less it is past that at the next.
-    let next = Some(WeightsError::Overflow(65_537));
-    assert!(rt; refusal_at(alloc, 65_536, 18_446_744_071_562_035_199) == next);
-    // 2,450,035,000 with the last one replaced: 69,999 * 70,000 / 2 come before it.
-    let last = Some(WeightsError::Overflow(69_999));
-    assert!(rt; refusal_at(alloc, 69_999, 18_446_744_071_259_586_616) == last);
-    assert!(rt; refusal_at(alloc, 69_999, 18_446_744_071_259_586_615).is_none());
 }
 
 /// Weights of which the first 65,536 are 1 and the others 1,000: 4,529,536 in all. At a k of 3
@@ -158,18 +115,4 @@ fn signers_past_two_bytes_are_named(rt: HostRuntime) {
     assert!(rt; refused == Some(Err(WeightedConflictError::TooLight)));
     let refused = weighted_equivocation(alloc, 3, &weights, &light, &first);
     assert!(rt; refused == Err(WeightedEquivocationError::TooLight));
-}
-
-/// One signer is the index after the last, and the others weigh a quorum.
-#[test]
-fn a_signer_after_the_last_is_no_member(rt: HostRuntime) {
-    let alloc = rt.alloc();
-    let weights = late(alloc).expect(&rt, "weights");
-    let first = signed(alloc, b"\x01\x07A", 0..691, 65_536..68_555).expect(&rt, "memory");
-    let second = signed(alloc, b"\x01\x07B", 0..691, 66_000..70_001).expect(&rt, "memory");
-    assert!(rt; check_weight(3, &weights, &second) == Err(WeightedQuorumError::Outside));
-    let refused = conflict_of(alloc, 3, &weights, &first, &second);
-    assert!(rt; refused == Some(Err(WeightedConflictError::Outside)));
-    let refused = weighted_equivocation(alloc, 3, &weights, &second, &first);
-    assert!(rt; refused == Err(WeightedEquivocationError::Outside));
 }

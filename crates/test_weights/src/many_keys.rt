@@ -1,5 +1,5 @@
 //! Weights of 70,000 keys, taken from a map and read behind a prefix, with ample memory.
-use committee_weights::{MapWeightsError, ReadWeightsError, Weights, WeightsError, read_weights};
+use committee_weights::{ReadWeightsError, Weights, read_weights};
 use commonware_base::codec::{EncodeSize, RangeCfg, Source, Write};
 use commonware_map::Map;
 use commonware_sequence::U64;
@@ -12,17 +12,11 @@ const COUNT: u32 = 70_000;
 const PREFIX: usize = 100_000;
 
 /// The keys 0, 3, 6 and so on with the weights 1, 2, 3 and so on, given in an order that is neither
-/// that of the keys nor its reverse, but the key at an index has another weight: 27,449 is prime
-/// and no divisor of the count.
-fn stakes(alloc: Global, at: u32, weight: u64) -> Option<Map<u32, U64, Global>> {
+/// that of the keys nor its reverse: 27,449 is prime and no divisor of the count.
+fn stakes(alloc: Global) -> Option<Map<u32, U64, Global>> {
     let pairs = (0..COUNT).map(|position| {
         let index = (u64::from(position) * 27_449 % u64::from(COUNT)) as u32;
-        let weighs = if index == at {
-            weight
-        } else {
-            u64::from(index) + 1
-        };
-        (index * 3, U64::new(weighs))
+        (index * 3, U64::new(u64::from(index) + 1))
     });
     Map::from_iter_dedup(alloc, pairs).ok()
 }
@@ -36,17 +30,11 @@ fn are_counted(weights: &Weights<Global>) -> bool {
 #[test]
 fn values_of_many_keys_are_weights(rt: HostRuntime) {
     let alloc = rt.alloc();
-    let map = stakes(alloc, 0, 1).expect(&rt, "memory");
+    let map = stakes(alloc).expect(&rt, "memory");
     let weights = Weights::from_map(alloc, &map).expect(&rt, "weights");
     assert!(rt; are_counted(&weights));
     let clone = weights.clone().expect(&rt, "memory");
     assert!(rt; clone == weights && are_counted(&clone));
-    for at in [0, 65_535, 65_536, 69_999u32] {
-        let map = stakes(alloc, at, 0).expect(&rt, "memory");
-        let refused = MapWeightsError::Refused(WeightsError::Zero(at as usize));
-        let weights = Weights::from_map(alloc, &map);
-        assert!(rt; weights.is_err_and(|error| error == refused), "{at}");
-    }
 }
 
 /// The encoding of a map behind a prefix, with three bytes after it.
@@ -77,16 +65,9 @@ fn read_behind(alloc: Global, bytes: &[u8]) -> (Result<bool, ReadWeightsError>, 
 #[test]
 fn many_keys_are_read_behind_a_prefix(rt: HostRuntime) {
     let alloc = rt.alloc();
-    let map = stakes(alloc, 0, 1).expect(&rt, "memory");
+    let map = stakes(alloc).expect(&rt, "memory");
     let bytes = encoded(alloc, &map).expect(&rt, "memory");
     assert!(rt; bytes.len() == 100_000 + 840_006 + 3);
     let (read, left) = read_behind(alloc, &bytes);
     assert!(rt; read == Ok(true) && left == 3);
-    for at in [0, 65_536, 69_999u32] {
-        let map = stakes(alloc, at, 0).expect(&rt, "memory");
-        let bytes = encoded(alloc, &map).expect(&rt, "memory");
-        let (read, left) = read_behind(alloc, &bytes);
-        let refused = ReadWeightsError::Refused(WeightsError::Zero(at as usize));
-        assert!(rt; read == Err(refused) && left == 840_009, "{at}");
-    }
 }
