@@ -109,6 +109,8 @@ def main():
     write = {"questions": questions_of, "answers": answers_of}
     if len(sys.argv) < 3 or sys.argv[1] not in write:
         sys.exit("usage: lines.py questions|answers NAME..")
+    # A character of a question is what UTF-8 makes of it, wherever this runs.
+    sys.stdout.reconfigure(encoding="utf-8", newline="\n")
     for name in sys.argv[2:]:
         for line in write[sys.argv[1]](read_file(FOLDER / f"{name}.json")):
             print(line)

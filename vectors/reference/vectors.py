@@ -20,7 +20,7 @@ def read_file(path):
 
 def text_of(file):
     """Returns the text of a file of vectors: a line for each test."""
-    said = lambda value: json.dumps(value, ensure_ascii=False)
+    said = json.dumps
     lines = [f"  {said(key)}: {said(value)}," for key, value in file.items() if key != "tests"]
     tests = ",\n".join(f"    {said(test)}" for test in file["tests"])
     return "\n".join(["{", *lines, '  "tests": [', tests, "  ]", "}"]) + "\n"
