@@ -11,10 +11,12 @@ use std::alloc::{AllocError, Allocator};
 /// Returns the keys in order, and the values at their positions, of the pairs that an iterator
 /// gives, where of equal keys the first pair stays. The only error is an allocation failure; it
 /// allocates for the pairs that stay. It takes O(n log n) comparisons.
-pub fn dedup_columns<K: Ord + Drop, V: Drop, A: Allocator + Copy, I: IntoIterator<Item = (K, V)>>(
-    alloc: A,
-    iter: I,
-) -> Result<(Vec<K, A>, Vec<V, A>), AllocError>
+pub(crate) fn dedup_columns<
+    K: Ord + Drop,
+    V: Drop,
+    A: Allocator + Copy,
+    I: IntoIterator<Item = (K, V)>,
+>(alloc: A, iter: I) -> Result<(Vec<K, A>, Vec<V, A>), AllocError>
     requires { IsFiniteIterable I.into_iter_gives I.IntoIter.can_next I.IntoIter.remaining iter }
     ensures dedup { IfOk result (λ columns.
         TakesAll I.into_iter_gives I.IntoIter.next_gives iter (λ ps.

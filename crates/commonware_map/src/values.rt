@@ -16,7 +16,7 @@ use std::alloc::{AllocError, Allocator};
 ///
 /// It returns the first fault: that of the length's varint, then another length, then that of the
 /// first value that has one. Room is reserved as `read_list` says.
-pub fn read_values<V: Read<A> + Drop, A: Allocator + Copy>(
+pub(crate) fn read_values<V: Read<A> + Drop, A: Allocator + Copy>(
     alloc: A,
     src: &mut Source<'_>,
     count: usize,
@@ -38,7 +38,7 @@ pub fn read_values<V: Read<A> + Drop, A: Allocator + Copy>(
 /// Returns what `f` returns for each key and its value, in order. It requires that there are as
 /// many values as keys. Room for all results is reserved before the first call; the only error is
 /// an allocation failure.
-pub fn called_values<K, V: Drop, U: Drop, A: Allocator + Copy, F: FnMut(&K, V) -> U>(
+pub(crate) fn called_values<K, V: Drop, U: Drop, A: Allocator + Copy, F: FnMut(&K, V) -> U>(
     keys: &[K],
     values: Vec<V, A>,
     mut f: F,
