@@ -77,11 +77,11 @@
 //! (its instructions go up to SSE4.1): that of the folder whose absolute path the environment
 //! variable `COMMONWARE_C_LIB` has, else that of `prebuilt/x86_64-linux` beside the crate's folder.
 //! The text `PROVED` beside it says its version, its SHA-256 and of which sources it is. It is an
-//! error where the major version isn't the crate's or the minor version is an earlier one, where the
-//! archive has another SHA-256, and in a clone of the repository where the sources that are there
-//! are others. Where the program
-//! `sha256sum` can't be run, a warning says so in place of the last two. A copy is linked, whose
-//! name has the first digits of the SHA-256, so that no other library is taken for it.
+//! error where the major version isn't the crate's or the minor version is an earlier one, where
+//! the archive has another SHA-256, and in a clone of the repository where the sources that are
+//! there are others. Where the program `sha256sum` can't be run, a warning says so in place of the
+//! last two. A copy is linked, whose name has the first digits of the SHA-256, so that no other
+//! library is taken for it.
 //!
 //! # Memory
 //!

@@ -1,5 +1,5 @@
-//! The vectors of certificates, of weights, and of sets, maps and bimaps of items of one size. Their
-//! results were worked out by hand. Python writes them out as lines.
+//! The vectors of certificates, of weights, and of sets, maps and bimaps of items of one size.
+//! Their results were worked out by hand. Python writes them out as lines.
 
 use commonware_proved::{
     BiMapError, BiMapView, Certificate, CertificateLimits, FaultModel, MapView, Named, Refusal,

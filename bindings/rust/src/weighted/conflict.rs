@@ -110,9 +110,9 @@ impl Error for WeightedConflictError {
 }
 
 /// Returns the members that signed both of two certificates for different values, where quorums are
-/// by weight, and what they weigh. With f the [`Weights::max_faulty_weight`] of the model they weigh
-/// at least (k - 2)f + 1; where its k is 3 or more, at least one of them is outside every subset
-/// that weighs at most f.
+/// by weight, and what they weigh. With f the [`Weights::max_faulty_weight`] of the model they
+/// weigh at least (k - 2)f + 1; where its k is 3 or more, at least one of them is outside every
+/// subset that weighs at most f.
 ///
 /// To sign two values is a fault only where both are for one slot (a height and a view, say):
 /// honest members sign many values, one a slot.
