@@ -2,6 +2,8 @@ package commonware
 
 // A Certificate is a value, and the indices of the members that signed it, strictly increasing. Whether a signature is
 // genuine isn't tested.
+//
+// An index is that of [Committee.IndexOf]: the place in the order of the keys, not that in which they were given.
 type Certificate struct {
 	// Value is the bytes that were signed, where the certificate's encoding has them.
 	Value []byte

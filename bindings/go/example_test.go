@@ -177,6 +177,26 @@ func ExampleFaultModel_OfWeights() {
 	// commonware: weight 1 is 0
 }
 
+func ExampleFaultModel_OfWeights_stakes() {
+	// Stakes by key, which come in any order. Weights are in the order of the members.
+	stakes := map[commonware.Member]uint64{{7}: 10, {1}: 40, {5}: 20, {3}: 30}
+	var keys []commonware.Member
+	for key := range stakes {
+		keys = append(keys, key)
+	}
+	committee, err := commonware.NewCommittee(keys)
+	if err != nil {
+		panic(err)
+	}
+	var weights []uint64
+	for _, member := range committee.Members() {
+		weights = append(weights, stakes[member])
+	}
+	numbers, err := commonware.N3F1.OfWeights(weights)
+	fmt.Println(weights, numbers.QuorumWeight, err)
+	// Output: [40 30 20 10] 67 <nil>
+}
+
 func ExampleWeightedCheck() {
 	weights := []uint64{40, 30, 20, 10}
 	checked, err := commonware.WeightedCheck(commonware.N3F1, weights, certificate("A", 0, 1))

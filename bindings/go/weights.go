@@ -18,6 +18,9 @@ type WeightNumbers struct {
 // fits 64 bits. The f of it is the greatest number that is safe for all weights of their total: for which any two
 // subsets that weigh all but f share members that weigh at least (k - 2)f + 1.
 //
+// An index is that of [Committee.IndexOf]: the place in the order of the keys, not that in which they were given.
+// Weights in another order would accuse the wrong members, and no call can tell.
+//
 // Else the error is the first of these: [ErrNoModel], [ErrNoMembers] where there are no weights, [InvalidLengthError]
 // where they are more than 4294967295, and [ZeroWeightError] or [WeightOverflowError], whose index comes first.
 func (k FaultModel) OfWeights(weights []uint64) (WeightNumbers, error) {

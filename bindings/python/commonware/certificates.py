@@ -22,7 +22,8 @@ def _limit_of(name: str, most: Optional[int]) -> int:
 
 class Certificate:
     r"""A value, and the indices of the members that signed it, strictly increasing. Whether a signature is
-    genuine isn't tested.
+    genuine isn't tested. An index is that of `Committee.index_of`: the place in the order of the keys, not that in
+    which they were given.
 
     >>> from commonware import Certificate, slot_value
     >>> certificate = Certificate.decode(Certificate.encode(b"block", [0, 2, 3]))

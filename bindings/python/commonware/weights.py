@@ -25,9 +25,18 @@ __all__ = [
 
 
 class Weights(Sequence[int]):
-    """What each member of a committee weighs: the weight at an index is that of the member there. There are 1 to
+    r"""What each member of a committee weighs: the weight at an index is that of the member there. There are 1 to
     4294967295 of them, each is positive, and their sum fits 64 bits. It is a sequence of numbers, and equal to one
     with the same weights. The calls below take any numbers; whoever calls often makes this of them once.
+
+    An index is that of `Committee.index_of`: the place in the order of the keys, not that in which they were given.
+    Weights in another order would accuse the wrong members, and no call can tell.
+
+    >>> from commonware import Committee, Weights
+    >>> stakes = {32 * b"\7": 10, 32 * b"\1": 40, 32 * b"\5": 20, 32 * b"\3": 30}
+    >>> committee = Committee.from_keys(stakes)
+    >>> list(Weights(stakes[key] for key in committee))
+    [40, 30, 20, 10]
 
     Raises the first of these: `NoMembers` where there are none, `InvalidLength` where they are more, and `ZeroWeight`
     or `WeightOverflow`, whose index comes first; and before these `OutOfRange`, where a number isn't one of 64 bits.

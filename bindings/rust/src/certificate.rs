@@ -13,6 +13,9 @@ use core::ops::Range;
 /// borrowed from the certificate's encoding, and a [`CertificateBuf`] owns that. Whether a
 /// signature is genuine isn't tested.
 ///
+/// An index is that of [`Committee::position`](crate::Committee::position): the place in the order
+/// of the keys, not that in which they were given.
+///
 /// ```
 /// use commonware_proved::Certificate;
 ///
@@ -211,7 +214,9 @@ impl<'a> Certificate<'a> {
         &self.encoding[self.value.clone()]
     }
 
-    /// Returns the indices of those that signed, strictly increasing.
+    /// Returns the indices of those that signed, strictly increasing. An index is that of
+    /// [`Committee::position`](crate::Committee::position): the place in the order of the keys, not
+    /// that in which they were given.
     ///
     /// ```
     /// # use commonware_proved::Certificate;

@@ -39,7 +39,7 @@
 //!
 //! Where members have weights, as stake or voting power, the calls whose names begin with
 //! `weighted_` judge certificates by what the signers weigh, and say what those weigh that are
-//! named.
+//! named. Weights are in the order of the keys ([`Weights`] shows how).
 //!
 //! ```
 //! use commonware_proved::{Certificate, FaultModel, Weights};

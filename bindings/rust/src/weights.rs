@@ -19,6 +19,32 @@ use core::{fmt, slice};
 /// assert_eq!(weights.quorum_weight(FaultModel::N3F1), 67);
 /// # Ok::<(), commonware_proved::WeightsError>(())
 /// ```
+///
+/// An index is that of [`Committee::position`](crate::Committee::position): the place in the order
+/// of the keys, not that in which they were given. Weights in another order would accuse the wrong
+/// members, and no call can tell. A map has keys and weights in the one order:
+///
+/// ```
+/// use commonware_proved::{Committee, MapBuf, Weights};
+///
+/// // Keys and their stakes as they come.
+/// let given = [([7; 32], 10u64), ([1; 32], 40), ([5; 32], 20), ([3; 32], 30)];
+/// let pairs = given.map(|(key, stake)| (key, stake.to_be_bytes()));
+/// let map = MapBuf::from_pairs(32, 8, pairs)?;
+///
+/// let keys = map.as_view().keys().as_set::<32>().ok_or("keys of another size")?;
+/// let committee = Committee::from(keys);
+/// let stake_of = |value: &[u8]| value.try_into().map(u64::from_be_bytes);
+/// let stakes = map.as_view().values().map(stake_of).collect::<Result<Vec<_>, _>>()?;
+/// let weights = Weights::new(&stakes)?;
+///
+/// // Each member weighs what was given with its key.
+/// for (key, stake) in given {
+///     let index = committee.position(&key).ok_or("no member")?;
+///     assert_eq!(weights.get(index), Some(stake));
+/// }
+/// # Ok::<(), Box<dyn std::error::Error>>(())
+/// ```
 #[derive(Clone, Copy, PartialEq, Eq, Hash)]
 pub struct Weights<'a> {
     items: &'a [u64],
