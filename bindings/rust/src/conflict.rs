@@ -103,7 +103,8 @@ impl Error for ConflictError {
 
 /// Returns the indices, in order, of the members that signed both of two certificates for different
 /// values. With f of the members faulty at most, they are at least (k - 2)f + 1; where the k of the
-/// model is 3 or more, at least one of them is outside every set of f members.
+/// model is 3 or more, at least one of them is outside every set of f members. Their keys are those
+/// of [`Committee::members`] at these indices.
 ///
 /// To sign two values is a fault only where both are for one slot (a height and a view, say):
 /// honest members sign many values, one a slot.

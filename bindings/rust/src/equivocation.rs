@@ -122,7 +122,7 @@ impl Error for EquivocationError {
 /// certificates for different decisions for one slot. With f of the members faulty at most, they
 /// are at least (k - 2)f + 1; where the k of the model is 3 or more, at least one of them is
 /// outside every set of f members. No honest member is among them, if honest members sign at most
-/// one decision a slot.
+/// one decision a slot. Their keys are those of [`Committee::members`] at these indices.
 ///
 /// The library goes over both encodings again, in place, and over both twice where it names more
 /// than 128; the memory is that of the indices.
@@ -142,7 +142,12 @@ impl Error for EquivocationError {
 /// let first = CertificateBuf::from_parts(&slot_value(b"view 7", b"A")?, &[0, 1, 2])?;
 /// let second = CertificateBuf::from_parts(&slot_value(b"view 7", b"B")?, &[1, 2, 3])?;
 /// let (committee, model) = (committee.as_view(), FaultModel::N3F1);
-/// assert_eq!(equivocation(model, &committee, &first.as_view(), &second.as_view())?, [1, 2]);
+/// let named = equivocation(model, &committee, &first.as_view(), &second.as_view())?;
+/// assert_eq!(named, [1, 2]);
+///
+/// // Their keys.
+/// let keys: Vec<_> = named.iter().map(|&index| committee.members()[index as usize]).collect();
+/// assert_eq!(keys, [[2; 32], [3; 32]]);
 /// # Ok::<(), Box<dyn std::error::Error>>(())
 /// ```
 pub fn equivocation(
