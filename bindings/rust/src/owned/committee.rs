@@ -28,7 +28,8 @@ pub struct CommitteeBuf {
 }
 
 impl CommitteeBuf {
-    /// Returns the committee of these keys, which may come in any order and repeat.
+    /// Returns the committee of these keys, which may come in any order and repeat. Where a repeat
+    /// is an error, compare `len` with the number of keys given.
     ///
     /// # Errors
     ///
@@ -36,8 +37,11 @@ impl CommitteeBuf {
     ///
     /// ```
     /// # use commonware_proved::CommitteeBuf;
-    /// let committee = CommitteeBuf::from_keys(&[[2; 32], [1; 32], [2; 32]])?;
+    /// let keys = [[2; 32], [1; 32], [2; 32]];
+    /// let committee = CommitteeBuf::from_keys(&keys)?;
     /// assert_eq!(committee.as_view().members(), [[1; 32], [2; 32]]);
+    /// // One was given twice.
+    /// assert_eq!((committee.as_view().len(), keys.len()), (2, 3));
     /// # Ok::<(), commonware_proved::EncodeError>(())
     /// ```
     pub fn from_keys(keys: &[Member]) -> Result<CommitteeBuf, EncodeError> {

@@ -27,7 +27,8 @@ pub struct SetBuf {
 }
 
 impl SetBuf {
-    /// Returns the set of these keys, which may come in any order and repeat.
+    /// Returns the set of these keys, which may come in any order and repeat. Where a repeat is an
+    /// error, compare `len` with the number of keys given.
     ///
     /// # Errors
     ///
@@ -36,8 +37,11 @@ impl SetBuf {
     ///
     /// ```
     /// # use commonware_proved::{EncodeError, SetBuf};
-    /// let keys = SetBuf::from_keys(2, [[7, 8], [5, 6], [7, 8]])?;
+    /// let given = [[7, 8], [5, 6], [7, 8]];
+    /// let keys = SetBuf::from_keys(2, given)?;
     /// assert_eq!(keys.as_view().as_bytes(), [2, 5, 6, 7, 8]);
+    /// // One was given twice.
+    /// assert_eq!((keys.as_view().len(), given.len()), (2, 3));
     /// let other = EncodeError::KeySize { index: 1, length: 3 };
     /// assert_eq!(SetBuf::from_keys(2, [&b"ab"[..], b"abc"]), Err(other));
     /// # Ok::<(), EncodeError>(())
