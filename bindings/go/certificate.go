@@ -91,8 +91,8 @@ type Checked struct {
 	Signers uint32
 }
 
-// Check returns what the input says, where it is exactly one certificate whose signers are members of a committee of
-// as many members, and at least a quorum of the model.
+// Check reads the input as exactly one certificate and returns what it says, where its signers are members of a
+// committee with this number of members, and at least a quorum of the model.
 //
 // Warning: no signature is looked at. Whoever doesn't verify them knows nothing of who signed.
 //
@@ -117,8 +117,9 @@ func checkedOf(view foundChecked, input []byte) (Checked, error) {
 }
 
 // Conflict returns the indices, in order, of the members that signed both of two certificates for different values, in
-// a committee of as many members. With f of them faulty at most, they are at least (k - 2)f + 1; where the model's k is
-// 3 or more, at least one of them is outside every set of f members. Each input is exactly one certificate.
+// a committee with this number of members. With f of them faulty at most, they are at least (k - 2)f + 1; where the
+// model's k is 3 or more, at least one of them is outside every set of f members. Each input is exactly one
+// certificate.
 //
 // To sign two values is a fault only where both are for one slot (a height and a view, say), which [Equivocation] asks:
 // honest members sign many values, one a slot.

@@ -34,8 +34,8 @@ type WeightedChecked struct {
 	Weight uint64
 }
 
-// WeightedCheck returns what the input says, where it is exactly one certificate whose signers are members with these
-// weights, and weigh at least a quorum of the model.
+// WeightedCheck reads the input as exactly one certificate and returns what it says, where its signers are members with
+// these weights, and weigh at least a quorum of the model.
 //
 // Warning: no signature is looked at. Whoever doesn't verify them knows nothing of who signed.
 //

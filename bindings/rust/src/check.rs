@@ -174,8 +174,8 @@ pub fn check<'a>(
     check_encoded(model, committee.count(), certificate.as_bytes())
 }
 
-/// Returns what the certificate that the input is says, as [`check`] does, for a committee of
-/// `members` members, whose keys may have any size.
+/// Reads the input as exactly one certificate and returns what it says, as [`check`] does, for a
+/// committee of `members` members, whose keys may have any size.
 ///
 /// # Warning
 ///

@@ -190,7 +190,7 @@ pub fn weighted_check<'a>(
     weighted_check_encoded(model, weights, certificate.as_bytes())
 }
 
-/// Returns what the certificate that the input is says, as [`weighted_check`] does.
+/// Reads the input as exactly one certificate and returns what it says, as [`weighted_check`] does.
 ///
 /// # Warning
 ///
