@@ -3,7 +3,7 @@
 use crate::error::whole;
 use crate::hex::Hex;
 use crate::room::{FEW, indices, trimmed, zeros};
-use crate::{CertificateBuf, EncodeError, Refusal, raw, status};
+use crate::{CertificateBuf, EncodeError, Refusal, SetView, raw, status};
 use alloc::borrow::Cow;
 use alloc::vec::Vec;
 use core::fmt;
@@ -214,6 +214,35 @@ impl<'a> Certificate<'a> {
         &self.encoding[self.value.clone()]
     }
 
+    /// Returns the slot that the value is for, or `None` where it is for none, whoever signed. It
+    /// takes constant time, and no memory.
+    ///
+    /// ```
+    /// # use commonware_proved::{CertificateBuf, slot_value};
+    /// let certificate = CertificateBuf::from_parts(&slot_value(b"view 7", b"A")?, &[2])?;
+    /// assert_eq!(certificate.as_view().slot(), Some(&b"view 7"[..]));
+    /// // A length of 9 bytes, which aren't there.
+    /// assert_eq!(CertificateBuf::from_parts(&[9], &[2])?.as_view().slot(), None);
+    /// # Ok::<(), commonware_proved::EncodeError>(())
+    /// ```
+    #[must_use]
+    pub fn slot(&self) -> Option<&'a [u8]> {
+        parts(self.value()).map(|(slot, _)| slot)
+    }
+
+    /// Returns the decision that the value is for its slot, or `None` where it has none.
+    ///
+    /// ```
+    /// # use commonware_proved::{CertificateBuf, slot_value};
+    /// let certificate = CertificateBuf::from_parts(&slot_value(b"view 7", b"A")?, &[2])?;
+    /// assert_eq!(certificate.as_view().decision(), Some(&b"A"[..]));
+    /// # Ok::<(), commonware_proved::EncodeError>(())
+    /// ```
+    #[must_use]
+    pub fn decision(&self) -> Option<&'a [u8]> {
+        parts(self.value()).map(|(_, decision)| decision)
+    }
+
     /// Returns the indices of those that signed, strictly increasing. An index is that of
     /// [`Committee::position`](crate::Committee::position): the place in the order of the keys, not
     /// that in which they were given.
@@ -254,6 +283,18 @@ impl<'a> Certificate<'a> {
         let (encoding, signers) = (self.encoding.to_vec(), self.signers.to_vec());
         CertificateBuf::of(encoding, self.value.clone(), signers)
     }
+}
+
+/// Returns the slot and the decision that a value is, which are its slot's length, the slot, and
+/// the decision; or `None` where it is none.
+fn parts(value: &[u8]) -> Option<(&[u8], &[u8])> {
+    // Where no length is in range, the library says of each which it is.
+    let Err(Refusal::InvalidLength(length)) = SetView::read(1, value, 0..0) else {
+        return None;
+    };
+    // The length ends with the first byte below 128.
+    let end = value.iter().position(|byte| *byte < 128)?;
+    value[end + 1..].split_at_checked(length)
 }
 
 /// Calls the library with an input, the limits, and a room for the signers.

@@ -65,7 +65,8 @@
 //!
 //! This crate's own lines aren't proved. They pass slices, turn statuses into errors, and decide
 //! little: which numbers a range has; that a key of another size than the keys of a set isn't
-//! there, and where one of no bytes is; that bytes are left over; where a value of a bimap is, by a
+//! there, and where one of no bytes is; that bytes are left over; where the slot of a certificate
+//! is that wasn't checked, by the length that the library reads; where a value of a bimap is, by a
 //! search of the indices that the library has put in order; and to which of the given pairs a
 //! repeat belongs.
 //!

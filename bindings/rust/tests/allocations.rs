@@ -146,6 +146,10 @@ fn a_certificate_asks_for_its_indices_alone() {
     assert_eq!(asked - bytes.len(), 12);
     let (signers, asked) = counted(|| owned.as_view().signers().len());
     assert_eq!((signers, asked), (3, 0));
+    let (slot, asked) = counted(|| certificate.slot().map(<[u8]>::len));
+    assert_eq!((slot, asked), (Some(7), 0));
+    let (decision, asked) = counted(|| certificate.decision().map(<[u8]>::len));
+    assert_eq!((decision, asked), (Some((1 << 20) - 8), 0));
     let (signers, asked) = counted(|| certificate.into_signers());
     assert_eq!((signers, asked), (vec![0, 5, 9], 0));
     let (none, asked) = counted(|| Certificate::decode(&[1, 7, 0]).expect("a certificate"));

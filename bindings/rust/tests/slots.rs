@@ -4,8 +4,9 @@
 mod common;
 
 use common::committee_of;
-use common::naive::{certificate_bytes, read_parts};
+use common::naive::{certificate_bytes, read_parts, varint};
 use common::random::{Random, some_parts, spoil};
+use common::seen::Seen;
 use commonware_proved::{
     Certificate, CheckError, EquivocationError, FaultModel, Refusal, Which, check, check_encoded,
     equivocation, equivocation_encoded, slot_value,
@@ -123,6 +124,8 @@ fn certificates_are_judged_as_by_the_naive_check() {
             if let Ok(certificate) = Certificate::decode(&bytes) {
                 let committee = committees[members as usize].as_view();
                 assert_eq!(check(model, &committee, &certificate), ours);
+                let parts = certificate.slot().zip(certificate.decision());
+                assert_eq!(parts, slot_of(certificate.value()), "{bytes:02x?}");
             }
             let outcome = match (ours, plain) {
                 (Ok(ours), Ok((value, signers))) => {
@@ -149,6 +152,65 @@ fn certificates_are_judged_as_by_the_naive_check() {
     }
     assert_eq!(seen.len(), 6, "{seen:?}");
     assert!(seen.values().all(|count| *count > 1_000), "{seen:?}");
+}
+
+/// Returns a value that states the length of a slot, and has about as many bytes after that.
+fn some_value(random: &mut Random) -> Vec<u8> {
+    let lengths = [0, 1, 2, 127, 128, 129, 300, 16_383, 16_384, u32::MAX];
+    let length = lengths[random.below(lengths.len())];
+    let mut value = varint(u64::from(length));
+    let more = (length as usize).min(20_000) + random.below(5);
+    value.extend((2..more).map(|i| i as u8));
+    spoil(random, &mut value);
+    value
+}
+
+#[test]
+fn a_certificate_has_the_slot_that_a_check_of_it_tells() {
+    let mut random = Random(0x5107);
+    let mut seen = Seen::default();
+    for _ in 0..CASES {
+        let value = some_value(&mut random);
+        // A quorum of one member signed the first, and of no committee the second.
+        let [one, other] = [&[0][..], &[70, 90]].map(|it| certificate_bytes(&value, it));
+        let checked = check_encoded(FaultModel::N3F1, 1, &one).unwrap();
+        for bytes in [&one, &other] {
+            let certificate = Certificate::decode(bytes).unwrap();
+            assert_eq!(certificate.slot(), checked.slot(), "{value:02x?}");
+            assert_eq!(certificate.decision(), checked.decision(), "{value:02x?}");
+        }
+        seen.note(checked.slot().map_or("no slot", |_| "slot"));
+    }
+    seen.assert_each(2, CASES / 5);
+}
+
+#[test]
+fn a_value_has_a_slot_where_it_begins_with_its_length() {
+    let rows = [
+        (&[][..], None),
+        (&[0], Some((&[][..], &[][..]))),
+        (&[0, 9], Some((&[], &[9]))),
+        (&[1], None),
+        (&[1, 9], Some((&[9], &[]))),
+        (&[1, 9, 8, 7], Some((&[9], &[8, 7]))),
+        (&[2, 9], None),
+        (&[0x7f, 9], None),
+        // A length that ends too early, one that is longer than it has to be, and the greatest.
+        (&[0x80], None),
+        (&[0x80, 0x80, 0x80, 0x80], None),
+        (&[0x80, 0], None),
+        (&[0x81, 0, 9], None),
+        (&[0xff, 0xff, 0xff, 0xff, 0x0f, 9], None),
+        (&[0xff, 0xff, 0xff, 0xff, 0x10, 9], None),
+        (&[0x80, 0x80, 0x80, 0x80, 0x80, 0, 9], None),
+    ];
+    for (value, parts) in rows {
+        let bytes = certificate_bytes(value, &[3]);
+        let certificate = Certificate::decode(&bytes).unwrap();
+        let ours = certificate.slot().zip(certificate.decision());
+        assert_eq!(ours, parts, "{value:02x?}");
+        assert_eq!(certificate.to_buf().as_view().slot(), certificate.slot());
+    }
 }
 
 #[test]
