@@ -12,9 +12,9 @@ This package itself isn't proved, but tested.
 (3, 3)
 >>> first = Certificate.encode(slot_value(b"view 7", b"A"), [0, 1, 2])
 >>> second = Certificate.encode(slot_value(b"view 7", b"B"), [1, 2, 3])
->>> check(N3F1, len(committee), first).decision
+>>> check(N3F1, committee, first).decision
 b'A'
->>> equivocation(N3F1, len(committee), first, second)
+>>> equivocation(N3F1, committee, first, second)
 (1, 2)
 
 `decode` takes the whole input, and `read` returns what follows with the value. Whatever has bytes is an input:

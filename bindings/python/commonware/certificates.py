@@ -10,6 +10,7 @@ from . import _native
 from ._items import whole
 from ._native import OK, ROOM, SIZE_MAX, U32_MAX, BytesLike, Input, check_status, input_of, number_of, written
 from .faults import k_of, members_of
+from .sets import Committee
 
 __all__ = ["Certificate", "Checked", "check", "conflict", "equivocation", "slot_value"]
 
@@ -159,11 +160,17 @@ class Certificate:
 
 
 _Given = Union[BytesLike, Certificate]
+_Members = Union[int, Committee]
 
 
 def _certificate_of(certificate: _Given) -> Input:
     """Returns the bytes of a certificate, which may be decoded already."""
     return input_of(certificate._encoding if isinstance(certificate, Certificate) else certificate)
+
+
+def _count_of(members: _Members) -> int:
+    """Returns how many members there are, where their committee may be given for their number."""
+    return members_of(len(members) if isinstance(members, Committee) else members)
 
 
 class Checked(NamedTuple):
@@ -182,9 +189,10 @@ class Checked(NamedTuple):
     """How many members signed."""
 
 
-def check(k: int, members: int, certificate: _Given) -> Checked:
-    r"""Returns what the input says, where it is exactly one certificate whose signers are members of a committee
-    of `members`, and at least a quorum at a resilience k. It is encoded, or a `Certificate`.
+def check(k: int, members: _Members, certificate: _Given) -> Checked:
+    r"""Reads the input as exactly one certificate and returns what it says, where its signers are members of a
+    committee, and at least a quorum at a resilience k. The input is encoded, or a `Certificate`; `members` is the
+    `Committee`, or the number of its members, whose keys may have any size.
 
     Warning: no signature is looked at. Whoever doesn't verify them knows nothing of who signed.
 
@@ -200,7 +208,7 @@ def check(k: int, members: int, certificate: _Given) -> Checked:
     commonware.errors.TooFew: fewer signers than a quorum
     """
     given = _certificate_of(certificate)
-    view = _native.certificate_check(k_of(k), members_of(members), *given.arguments)
+    view = _native.certificate_check(k_of(k), _count_of(members), *given.arguments)
     check_status(view.status, view.number)
     return found_in(given, view)
 
@@ -218,10 +226,10 @@ def found_in(given: Input, view: Any) -> Checked:
     return Checked(value, slot, part(view.decision_start, view.decision_length), view.signers)
 
 
-def _named(call: Callable[..., Any], k: int, members: int, first: _Given, second: _Given) -> Tuple[int, ...]:
+def _named(call: Callable[..., Any], k: int, members: _Members, first: _Given, second: _Given) -> Tuple[int, ...]:
     """Returns the members that a call names."""
     inputs = _certificate_of(first), _certificate_of(second)
-    asked = (k_of(k), members_of(members), *inputs[0].arguments, *inputs[1].arguments)
+    asked = (k_of(k), _count_of(members), *inputs[0].arguments, *inputs[1].arguments)
     # The first call tells how many indices it takes.
     named, room = _native.room_for(0)
     view = call(*asked, *room)
@@ -232,11 +240,12 @@ def _named(call: Callable[..., Any], k: int, members: int, first: _Given, second
     return tuple(named)
 
 
-def conflict(k: int, members: int, first: _Given, second: _Given) -> Tuple[int, ...]:
+def conflict(k: int, members: _Members, first: _Given, second: _Given) -> Tuple[int, ...]:
     r"""Returns the indices, in order, of the members that signed both of two certificates for different values,
-    in a committee of `members` at a resilience k. With f of them faulty at most, they are at least
-    (k - 2)f + 1; where k is 3 or more, at least one of them is outside every set of f members. Each input is
-    exactly one certificate, encoded, or a `Certificate`.
+    in a committee at a resilience k. With f of the members faulty at most, they are at least (k - 2)f + 1; where
+    k is 3 or more, at least one of them is outside every set of f members. Each input is exactly one certificate,
+    encoded, or a `Certificate`; `members` is the `Committee`, or the number of its members, whose keys may have any
+    size.
 
     To sign two values is a fault only where both are for one slot (a height and a view, say), which
     `equivocation` asks: honest members sign many values, one a slot.
@@ -259,7 +268,7 @@ def conflict(k: int, members: int, first: _Given, second: _Given) -> Tuple[int, 
     return _named(_native.conflict, k, members, first, second)
 
 
-def equivocation(k: int, members: int, first: _Given, second: _Given) -> Tuple[int, ...]:
+def equivocation(k: int, members: _Members, first: _Given, second: _Given) -> Tuple[int, ...]:
     r"""Returns the indices, in order, of the members that equivocated: those that signed both of two certificates
     for different decisions for one slot. All is as `conflict` has it, and no honest member is named where
     honest members sign at most one decision a slot.
@@ -270,11 +279,13 @@ def equivocation(k: int, members: int, first: _Given, second: _Given) -> Tuple[i
     of the first value, of the second, `OtherSlot`, `SameValue` for one decision, `Outside` of the first, of
     the second, `TooFew` of the first, of the second; and `OutOfRange` and `OutOfMemory`.
 
-    >>> from commonware import N3F1, Certificate, equivocation, slot_value
+    >>> from commonware import N3F1, Certificate, Committee, equivocation, slot_value
+    >>> committee = Committee.from_keys([bytes([i]) * 32 for i in (7, 1, 3, 5)])
     >>> first = Certificate.encode(slot_value(b"view 7", b"A"), [0, 1, 2])
     >>> second = Certificate.encode(slot_value(b"view 7", b"B"), [1, 2, 3])
-    >>> equivocation(N3F1, 4, first, second)
-    (1, 2)
+    >>> named = equivocation(N3F1, committee, first, second)
+    >>> named, [committee[index][:1] for index in named]
+    ((1, 2), [b'\x03', b'\x05'])
     >>> equivocation(N3F1, 4, first, Certificate.encode(slot_value(b"view 8", b"B"), [1, 2, 3]))
     Traceback (most recent call last):
     commonware.errors.OtherSlot: two different slots

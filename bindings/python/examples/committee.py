@@ -10,4 +10,4 @@ print(f"of {members} members {faults} may be faulty, and {quorum} are a quorum")
 
 first = Certificate.encode(slot_value(b"view 7", b"A"), [0, 1, 2])
 second = Certificate.encode(slot_value(b"view 7", b"B"), [1, 2, 3])
-print(list(equivocation(N3F1, members, first, second)), "signed both")
+print(list(equivocation(N3F1, committee, first, second)), "signed both")

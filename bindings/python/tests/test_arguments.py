@@ -9,6 +9,7 @@ import sys
 import unittest
 
 import commonware
+from cases import outcome
 from commonware import (
     BiMapView,
     Certificate,
@@ -445,6 +446,22 @@ class Errors(unittest.TestCase):
         first, second = Certificate.decode(CERTIFICATE), Certificate.read(OTHER + b"more")[0]
         self.assertEqual(conflict(3, 4, first, second), (1, 2))
         self.assertEqual(check(3, 4, second).value, b"\xbb")
+
+    def test_a_committee_is_taken_for_its_number_of_members(self):
+        first, second = (Certificate.encode(slot_value(b"7", it), [0, 1, 2]) for it in (b"A", b"B"))
+        calls = [
+            lambda it: check(3, it, first),
+            lambda it: conflict(3, it, first, second),
+            lambda it: equivocation(3, it, first, second),
+        ]
+        names = ["NoMembers", "Outside", "Outside", None, None, "TooFew", "TooFew"]
+        for count, name in enumerate(names):
+            committee = Committee.from_keys([bytes([i]) * 32 for i in range(count)])
+            for call in calls:
+                results = outcome(call, committee), outcome(call, count)
+                self.assertEqual(results[0], results[1])
+                if name is not None:
+                    self.assertEqual(results[0][0], name)
 
     def test_every_error_has_words(self):
         made = {
