@@ -198,7 +198,8 @@ fn check_sources(proved: &str, folder: &Path, krate: &Path) -> Result<(), String
     }
     Err(format!(
         "libcommonware.a in {} isn't of these sources: `bindings/archive --update` builds it anew \
-         into bindings/prebuilt",
+         into bindings/prebuilt; without a Rattle kit check out the last commit that changed \
+         bindings/prebuilt (`git log -1 --format=%h -- bindings/prebuilt`)",
         folder.display()
     ))
 }

@@ -239,7 +239,7 @@ fn sources_are_those_of_the_library_alone() {
         "another program of the name isn't run"
     );
     repository.add_library_sources();
-    repository.is_refused(&["libcommonware.a", "sources"]);
+    repository.is_refused(&["libcommonware.a", "sources", "`git log -1 "]);
     assert!(repository.root.join("ran").exists());
     repository.add_sources("0123");
     assert_eq!(repository.told(), repository.linked());
