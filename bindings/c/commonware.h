@@ -462,7 +462,8 @@ typedef struct {
     uint64_t smaller_quorum; /* at OK: 2f + 1 */
 } commonware_weights_view;
 
-/* What the weights of a committee allow at a resilience k. Member i weighs weights[i].
+/* What the weights of a committee allow at a resilience k. Member i weighs weights[i]: an index is a
+ * place in the order of the keys.
  *
  * f is (total - 1) / k, the greatest that is safe for all weights of this total: any two subsets of
  * the members that weigh a quorum share members that weigh at least (k - 2)f + 1, and where k is 3

@@ -114,6 +114,7 @@ export class Commonware {
     checkQuorum(k: number, members: number, certificate: Uint8Array): Checked;
     conflict(k: number, members: number, first: Uint8Array, second: Uint8Array): number[];
     equivocation(k: number, members: number, first: Uint8Array, second: Uint8Array): number[];
+    /** Here and below a weight is that of the member at its index, which is a place in the order of the keys. */
     weightNumbers(k: number, weights: Iterable<Wide>): WeightNumbers;
     checkWeightedQuorum(k: number, weights: Iterable<Wide>, certificate: Uint8Array): WeightedChecked;
     weightedConflict(k: number, weights: Iterable<Wide>, first: Uint8Array, second: Uint8Array): Named;

@@ -462,13 +462,14 @@ typedef struct {
     uint64_t smaller_quorum; /* at OK: 2f + 1 */
 } commonware_weights_view;
 
-/* What the weights of a committee allow at a resilience k. Member i weighs weights[i].
+/* What the weights of a committee allow at a resilience k. Member i weighs weights[i]: an index is a
+ * place in the order of the keys.
  *
  * f is (total - 1) / k, the greatest that is safe for all weights of this total: any two subsets of
  * the members that weigh a quorum share members that weigh at least (k - 2)f + 1, and where k is 3
  * or more, a member outside every subset that weighs at most f. 2f + 1 is the least weight whose
- * subsets share f + 1 with each quorum. At a k of 3 the quorum is the "more than two thirds" of the
- * chains, 2 * total / 3 + 1, and no sum or product wraps.
+ * subsets share f + 1 with each quorum, for all weights of this total. At a k of 3 the quorum is the
+ * "more than two thirds" of the chains, 2 * total / 3 + 1, and no sum or product wraps.
  *
  * The status is the first of these: NO_MODEL, NO_MEMBERS for no weights, INVALID_LENGTH for more
  * than 4294967295, and of the first weight that is 0, or with which the sum is past 2^64 - 1,
