@@ -6,7 +6,7 @@
 //! # A whole use
 //!
 //! A node holds its committee, receives certificates, asks whether a quorum signed them, and which
-//! members signed two decisions for one slot.
+//! members signed two different decisions for one slot.
 //!
 //! ```
 //! use commonware_proved::{Certificate, CommitteeBuf, FaultModel, check, equivocation, slot_value};
