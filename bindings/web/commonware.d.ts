@@ -6,7 +6,7 @@ export const N5F1: 5;
 /** How many bytes a member of a committee has. */
 export const MEMBER_SIZE: 32;
 
-/** A whole number below 2^64. */
+/** A whole number from 0: a bigint below 2^64, or a number up to 2^53 - 1. */
 export type Wide = number | bigint;
 /** Items of one size: an array of each, or their bytes one after another. */
 export type Items = Iterable<Uint8Array> | Uint8Array;
@@ -84,10 +84,11 @@ export interface WeightNumbers {
 
 /** Tells whether WebAssembly here has memories of 64 bits. */
 export function isSupported(): boolean;
-/** Loads the module: that beside commonware.js, or the bytes that are given. */
+/** Loads the module: that beside commonware.js, or the bytes that are given. Throws NoMemory64, and OtherVersion. */
 export function load(bytes?: BufferSource): Promise<Commonware>;
 
 export class Commonware {
+    /** Throws NoMemory64, and OtherVersion. */
     constructor(module: WebAssembly.Module);
     get version(): string;
     maxFaults(k: number, n: number): number;
@@ -96,13 +97,20 @@ export class Commonware {
     readCommittee(input: Uint8Array, limits?: Limits): Committee & Left;
     decodeCommittee(input: Uint8Array, limits?: Limits): Uint8Array[];
     encodeCommittee(members: Items): Uint8Array;
+    /** The members have to be in order, as decodeCommittee returns them. Null where the key is none of them, as one of
+     * another size than theirs never is. Throws NotWhole, and WrongSize for a member of another size. */
     indexOfMember(members: Items, key: Uint8Array): number | null;
     readSet(size: number, input: Uint8Array, limits?: Limits): Keys & Left;
     decodeSet(size: number, input: Uint8Array, limits?: Limits): Uint8Array[];
     encodeSet(size: number, keys: Items): Uint8Array;
+    /** The keys have to be in order, as decodeSet returns them. Null where the key isn't there, as one of another size
+     * than theirs never is. Throws WrongSize for one of them that has another size than the first. Where they are bytes
+     * one after another, they are taken as keys of the size of the key: NotWhole where they are none, and NoSize where
+     * the key has no bytes. */
     indexOfKey(keys: Items, key: Uint8Array): number | null;
     readMap(keySize: number, valueSize: number, input: Uint8Array, limits?: Limits): Pairing & Left;
     decodeMap(keySize: number, valueSize: number, input: Uint8Array, limits?: Limits): Pairing;
+    /** Throws WrongSize for the first key or value of another size. */
     encodeMap(keySize: number, valueSize: number, pairs: Pairs): Uint8Array;
     encodeUniqueMap(keySize: number, valueSize: number, pairs: Pairs): Uint8Array;
     readBiMap(keySize: number, valueSize: number, input: Uint8Array, limits?: Limits): BiMap & Left;
@@ -125,53 +133,99 @@ export class Commonware {
 export class CommonwareError extends Error {
     /** 1 or 2 where one of two certificates is what the error is about. */
     which: 1 | 2 | null;
+    constructor(words: string);
 }
-export class NoMemory64 extends CommonwareError {}
-export class OutOfMemory extends CommonwareError {}
+export class NoMemory64 extends CommonwareError {
+    constructor();
+}
+/** The module isn't of the major version that is needed. */
+export class OtherVersion extends CommonwareError {
+    /** The module's version, as "2.3.4". */
+    version: string;
+    needed: number;
+    constructor(version: string, needed: number);
+}
+export class OutOfMemory extends CommonwareError {
+    constructor();
+}
 export class OutOfRange extends CommonwareError {
     argument: string;
     number: unknown;
     most: Wide;
+    constructor(argument: string, number: unknown, most: Wide);
 }
-export class EndOfInput extends CommonwareError {}
-export class InvalidVarint extends CommonwareError {}
+export class EndOfInput extends CommonwareError {
+    constructor();
+}
+export class InvalidVarint extends CommonwareError {
+    constructor();
+}
 export class InvalidLength extends CommonwareError {
     length: number;
+    constructor(length: number);
 }
 export class NotStrict extends CommonwareError {
     /** The index of a signer that was to be written; null of an input. */
     index: number | null;
+    constructor(index?: number | null);
 }
 export class LeftOver extends CommonwareError {
     count: number;
+    constructor(count: number);
 }
 export class RepeatedValue extends CommonwareError {
     first: number;
     second: number;
+    constructor(first: number, second: number);
 }
 export class RepeatedKey extends CommonwareError {
     index: number;
+    constructor(index: number);
 }
-export class NoSize extends CommonwareError {}
+export class NoSize extends CommonwareError {
+    constructor();
+}
 export class NotWhole extends CommonwareError {
     count: number;
+    constructor(count: number);
 }
 export class WrongSize extends CommonwareError {
     index: number;
     length: number;
     size: number;
+    /** What has that length: the key, also of a set or a committee, or the value of a pair. */
+    part: "key" | "value";
+    constructor(index: number, length: number, size: number, part?: "key" | "value");
 }
-export class NoModel extends CommonwareError {}
-export class NoMembers extends CommonwareError {}
-export class SameValue extends CommonwareError {}
-export class Outside extends CommonwareError {}
-export class TooFew extends CommonwareError {}
-export class NoSlot extends CommonwareError {}
-export class OtherSlot extends CommonwareError {}
+export class NoModel extends CommonwareError {
+    constructor();
+}
+export class NoMembers extends CommonwareError {
+    constructor();
+}
+export class SameValue extends CommonwareError {
+    constructor();
+}
+export class Outside extends CommonwareError {
+    constructor();
+}
+export class TooFew extends CommonwareError {
+    constructor();
+}
+export class NoSlot extends CommonwareError {
+    constructor();
+}
+export class OtherSlot extends CommonwareError {
+    constructor();
+}
 export class ZeroWeight extends CommonwareError {
     index: number;
+    constructor(index: number);
 }
 export class WeightOverflow extends CommonwareError {
     index: number;
+    constructor(index: number);
 }
-export class TooLight extends CommonwareError {}
+export class TooLight extends CommonwareError {
+    constructor();
+}

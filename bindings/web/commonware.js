@@ -6,8 +6,8 @@
 //     const commonware = await load();
 //     commonware.quorum(N3F1, 4); // 3
 
-import { LeftOver, NoMembers, NoMemory64, NoModel, RepeatedValue, WrongSize } from "./errors.js";
-import { Counted, Native, Room, U64_MAX, bytesOf, isSupported, numberOf, wideOf } from "./native.js";
+import { LeftOver, NoMembers, NoMemory64, NoModel, NotWhole, OtherVersion, RepeatedValue, WrongSize } from "./errors.js";
+import { Counted, Native, Room, U64_MAX, bytesOf, isBytes, isSupported, numberOf, wideOf } from "./native.js";
 import { ABSENT, OK, REPEATED_VALUE, ROOM, checked } from "./statuses.js";
 
 export * from "./errors.js";
@@ -20,7 +20,10 @@ export const N5F1 = 5;
 /** How many bytes a member of a committee has. */
 export const MEMBER_SIZE = 32;
 
-/** Loads the module: the package's own, or the bytes that are given. */
+/** The major version of the library that this package needs. */
+const NEEDED_MAJOR = 1;
+
+/** Loads the module: the package's own, or the bytes that are given. Another major version of it is refused. */
 export async function load(bytes = undefined) {
     if (!isSupported()) {
         throw new NoMemory64();
@@ -57,36 +60,55 @@ function itemsAt(input, start, size, count) {
     return Array.from({ length: count }, (_, index) => input.slice(start + index * size, start + (index + 1) * size));
 }
 
-/** Returns items of one size as bytes, one after another. */
-function joined(name, items, size) {
-    if (items instanceof Uint8Array) {
-        return items;
+/** Returns the bytes of an item of a list, which has this size. */
+function itemOf(name, item, index, size, part = "key") {
+    const bytes = bytesOf(name, item);
+    if (bytes.length !== size) {
+        throw new WrongSize(index, bytes.length, size, part);
     }
-    const list = Array.from(items, (it) => bytesOf(name, it));
-    const wrong = list.findIndex((it) => it.length !== size);
-    if (wrong >= 0) {
-        throw new WrongSize(wrong, list[wrong].length, size);
+    return bytes;
+}
+
+/** Returns parts as bytes, one after another. */
+function concatenated(parts) {
+    const all = new Uint8Array(parts.reduce((sum, it) => sum + it.length, 0));
+    let at = 0;
+    for (const part of parts) {
+        all.set(part, at);
+        at += part.length;
     }
-    const all = new Uint8Array(list.reduce((sum, it) => sum + it.length, 0));
-    list.forEach((it, index) => all.set(it, index * size));
     return all;
 }
 
-/** Returns the pairs of a map as bytes, one after another. */
+/** Returns items of one size as bytes, one after another. */
+function joined(name, items, size) {
+    if (isBytes(items)) {
+        return bytesOf(name, items);
+    }
+    return concatenated(Array.from(items, (it, index) => itemOf(name, it, index, size)));
+}
+
+/** Returns the pairs of a map as bytes, one after another. They are walked once: the first that is wrong is told. */
 function joinedPairs(pairs, keySize, valueSize) {
-    if (pairs instanceof Uint8Array) {
-        return pairs;
+    if (isBytes(pairs)) {
+        return bytesOf("pairs", pairs);
     }
-    const list = [...pairs];
-    const keys = joined("a key", list.map((it) => it[0]), keySize);
-    const values = joined("a value", list.map((it) => it[1]), valueSize);
-    const all = new Uint8Array(keys.length + values.length);
-    for (let index = 0; index < list.length; index++) {
-        const at = index * (keySize + valueSize);
-        all.set(keys.subarray(index * keySize, (index + 1) * keySize), at);
-        all.set(values.subarray(index * valueSize, (index + 1) * valueSize), at + keySize);
+    const parts = [];
+    let index = 0;
+    for (const pair of pairs) {
+        parts.push(itemOf("a key", pair[0], index, keySize));
+        parts.push(itemOf("a value", pair[1], index, valueSize, "value"));
+        index++;
     }
-    return all;
+    return concatenated(parts);
+}
+
+/** Refuses bytes that follow the last whole item. Of items of no bytes the library tells that their number is unknown. */
+function checkWhole(bytes, size) {
+    const over = size > 0 ? bytes.length % size : 0;
+    if (over > 0) {
+        throw new NotWhole(over);
+    }
 }
 
 function signersOf(signers) {
@@ -101,15 +123,23 @@ function weightsOf(weights) {
 export class Commonware {
     #native;
 
-    /** Makes an instance of a module: `new WebAssembly.Module(bytes)`. */
+    /** Makes an instance of a module: `new WebAssembly.Module(bytes)`. The functions of another major version may say
+     * other things: OtherVersion. */
     constructor(module) {
         this.#native = new Native(module);
+        if (this.#versionParts()[0] !== NEEDED_MAJOR) {
+            throw new OtherVersion(this.version, NEEDED_MAJOR);
+        }
     }
 
     /** The version of the library, as "1.1.0". */
     get version() {
+        return this.#versionParts().join(".");
+    }
+
+    #versionParts() {
         const number = this.#native.number("version");
-        return [number / 1e6, (number / 1e3) % 1e3, number % 1e3].map(Math.floor).join(".");
+        return [number / 1e6, (number / 1e3) % 1e3, number % 1e3].map(Math.floor);
     }
 
     /** How many of n participants may be faulty at a resilience n >= kf + 1: the greatest f that fits. */
@@ -158,14 +188,17 @@ export class Commonware {
         return this.#written("committee_write", [new Counted(bytes, count)], 5 + bytes.length);
     }
 
-    /** Returns the index of a member, or null where the key is none. */
+    /** Returns the index of a member, or null where the key is none, as one of another size never is. The members have
+     * to be in order, as decodeCommittee returns them: else null says nothing. */
     indexOfMember(members, key) {
         const bytes = joined("a member", members, MEMBER_SIZE);
-        if (bytesOf("key", key).length !== MEMBER_SIZE) {
+        checkWhole(bytes, MEMBER_SIZE);
+        const sought = bytesOf("key", key);
+        if (sought.length !== MEMBER_SIZE) {
             return null;
         }
-        const list = new Counted(bytes, Math.floor(bytes.length / MEMBER_SIZE));
-        return this.#place("committee_index", [list, new Counted(key, null)]);
+        const list = new Counted(bytes, bytes.length / MEMBER_SIZE);
+        return this.#place("committee_index", [list, new Counted(sought, null)]);
     }
 
     /** Decodes a set of keys of `size` bytes at the start of the input; `left` is what follows it. */
@@ -190,10 +223,23 @@ export class Commonware {
         return this.#written("set_write", args, 5 + args[1].length);
     }
 
-    /** Returns the index of a key among keys of as many bytes, in order, or null where it isn't there. */
+    /** Returns the index of a key among keys of one size, or null where it isn't there, as one of another size never
+     * is. The keys have to be in order, as decodeSet returns them: else null says nothing. Where they are bytes one
+     * after another, nothing but the key tells their size: NotWhole where they aren't whole keys of its size, NoSize
+     * where it has no bytes. */
     indexOfKey(keys, key) {
-        const bytes = joined("a key", keys, bytesOf("key", key).length);
-        return this.#place("set_index", [bytes, key]);
+        const sought = bytesOf("key", key);
+        const list = isBytes(keys) ? null : Array.from(keys);
+        const size = list && list.length > 0 ? bytesOf("a key", list[0]).length : sought.length;
+        const bytes = joined("a key", list ?? keys, size);
+        checkWhole(bytes, size);
+        if (sought.length !== size) {
+            return null;
+        }
+        if (list && size === 0) {
+            return list.length > 0 ? 0 : null;
+        }
+        return this.#place("set_index", [bytes, sought]);
     }
 
     /** Decodes a map of keys and values of these sizes at the start of the input; `left` is what follows it. */
@@ -266,15 +312,15 @@ export class Commonware {
     /** Encodes the certificate of a value and of the indices of its signers, which are strictly increasing. */
     encodeCertificate(value, signers) {
         const indices = signersOf(signers);
-        const most = 10 + bytesOf("value", value).length + 5 * indices.length;
-        return this.#plain("certificate_write", [value, indices], most);
+        const bytes = bytesOf("value", value);
+        return this.#plain("certificate_write", [bytes, indices], 10 + bytes.length + 5 * indices.length);
     }
 
     /** Encodes the value that a decision for a slot is. A slot is what a protocol decides once: a height and a
      * view, say. Members sign this value. */
     encodeValue(slot, decision) {
-        const most = 5 + bytesOf("slot", slot).length + bytesOf("decision", decision).length;
-        return this.#plain("value_write", [slot, decision], most);
+        const parts = [bytesOf("slot", slot), bytesOf("decision", decision)];
+        return this.#plain("value_write", parts, 5 + parts[0].length + parts[1].length);
     }
 
     /** Judges whether a quorum of a committee of `members` signed a certificate: returns how many signed, the value,

@@ -17,10 +17,22 @@ export class NoMemory64 extends CommonwareError {
     }
 }
 
-/** An argument with this name isn't a whole number from 0 to `most`. */
+/** The module is this version of the library, and the package needs another major version, `needed`. */
+export class OtherVersion extends CommonwareError {
+    constructor(version, needed) {
+        super(`The module is version ${version} of the library: this package needs version ${needed}.`);
+        this.version = version;
+        this.needed = needed;
+    }
+}
+
+/** An argument with this name isn't a whole number from 0 to `most`. Where that is a bigint, the argument may be one:
+ * a number is to be one that is exact. */
 export class OutOfRange extends CommonwareError {
     constructor(argument, number, most) {
-        super(`${argument} is a whole number from 0 to ${most}, and not ${String(number)}`);
+        const isWide = typeof most === "bigint";
+        const allowed = isWide ? "from 0: a bigint below 2^64, or a number up to 2^53 - 1" : `from 0 to ${most}`;
+        super(`${argument} is a whole number ${allowed}, and not ${String(number)}`);
         this.argument = argument;
         this.number = number;
         this.most = most;
@@ -106,13 +118,15 @@ export class NotWhole extends CommonwareError {
     }
 }
 
-/** The key, or the value, at this index of a list has `length` bytes, and should have `size`. */
+/** The key at this index of a list, or of the pair there the key or the value, has `length` bytes, and should have
+ * `size`. `part` is "key" or "value". */
 export class WrongSize extends CommonwareError {
-    constructor(index, length, size) {
-        super(`item ${index} has ${length} bytes, and should have ${size}`);
+    constructor(index, length, size, part = "key") {
+        super(`${part} ${index} has ${length} bytes, and should have ${size}`);
         this.index = index;
         this.length = length;
         this.size = size;
+        this.part = part;
     }
 }
 

@@ -1,6 +1,9 @@
 // Where an input is wrong: the first byte of which the decoder doesn't accept, and the bytes that belong to it. The
 // decoder says what is wrong, by its error; where that is, is found by asking it again for shorter inputs.
 
+// The errors that say that an input is wrong. Of any other one, as of memory that is short, no byte is to blame.
+const FAULTS = new Set(["EndOfInput", "InvalidVarint", "InvalidLength", "NotStrict", "LeftOver", "RepeatedValue"]);
+
 /** Returns the name of the error of a call, or null where there is none. */
 function nameOf(call) {
     try {
@@ -73,9 +76,12 @@ function firstSignerDescent(bytes) {
     return { index, from: at, to: varintEnd(bytes, at) };
 }
 
-/** Returns which bytes are wrong, from `from` up to `to`, and a sentence on them. `kind` has the name of what is read
- * and its sizes, and `read` reads it. */
+/** Returns which bytes are wrong, from `from` up to `to`, and a sentence on them, or null where the error is none of
+ * the decoder's. `kind` has the name of what is read and its sizes, and `read` reads it. */
 export function faultOf(kind, read, bytes, error) {
+    if (!FAULTS.has(error.name)) {
+        return null;
+    }
     const say = (from, to, words) => ({ from, to, words });
     if (error.name === "LeftOver") {
         const from = bytes.length - error.count;

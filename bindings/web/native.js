@@ -12,6 +12,8 @@ const TINY = Uint8Array.of(0, 0x61, 0x73, 0x6d, 1, 0, 0, 0, 5, 3, 1, 4, 1);
 const PAGE = 65536;
 // Room for each view.
 const VIEW_SIZE = 128;
+// Returns the name of the type of a typed array, which nothing but one has.
+const typeOf = Object.getOwnPropertyDescriptor(Object.getPrototypeOf(Uint8Array.prototype), Symbol.toStringTag).get;
 
 // The fields of each view after its status, in their order. Those of 32 bits begin with u, the others have 64: a
 // weight is a bigint, and else a number, since no length here reaches 2^53.
@@ -44,7 +46,7 @@ export function numberOf(name, number, most = U32_MAX) {
     return number;
 }
 
-/** Returns an argument of 64 bits, which is a number or a bigint. */
+/** Returns an argument of 64 bits, which is a bigint, or a number that is exact. */
 export function wideOf(name, number) {
     const wide = Number.isSafeInteger(number) ? BigInt(number) : number;
     if (typeof wide !== "bigint" || wide < 0n || wide > U64_MAX) {
@@ -53,10 +55,19 @@ export function wideOf(name, number) {
     return wide;
 }
 
-/** Returns the bytes of an argument. Of a subclass, as Node's Buffer, `slice` may be another function. */
+/** Tells whether an argument is a Uint8Array: of this realm or of another one, as that of a frame. */
+export function isBytes(data) {
+    return ArrayBuffer.isView(data) && typeOf.call(data) === "Uint8Array";
+}
+
+/** Returns the bytes of an argument. Of a subclass, as Node's Buffer, `slice` may be another function. Shared memory is
+ * copied, since others may write to it: what is returned of it is then what was judged. */
 export function bytesOf(name, data) {
-    if (!(data instanceof Uint8Array)) {
+    if (!isBytes(data)) {
         throw new TypeError(`${name} is a Uint8Array`);
+    }
+    if (Object.prototype.toString.call(data.buffer) === "[object SharedArrayBuffer]") {
+        return new Uint8Array(data);
     }
     return data.constructor === Uint8Array ? data : new Uint8Array(data.buffer, data.byteOffset, data.length);
 }

@@ -66,10 +66,13 @@ function list(terms) {
     return made("dl", {}, ...terms.flatMap(([term, value]) => [made("dt", {}, term), made("dd", {}, value)]));
 }
 
+/** Bytes as text, each a character. As the arguments of one call, many would be too many. */
+const textOf = (bytes) => new TextDecoder("latin1").decode(bytes);
+
 /** Bytes as text too, where they are letters. */
 function told(bytes) {
     const isText = bytes.length > 0 && bytes.every((it) => it >= 32 && it < 127);
-    return `${hexOf(bytes) || "no bytes"}${isText ? ` ("${String.fromCharCode(...bytes)}")` : ""}`;
+    return `${hexOf(bytes) || "no bytes"}${isText ? ` ("${textOf(bytes)}")` : ""}`;
 }
 
 class Page {
@@ -118,7 +121,7 @@ class Page {
             return;
         }
         const bytes = new Uint8Array(await file.arrayBuffer());
-        const text = String.fromCharCode(...bytes.subarray(0, 100000));
+        const text = textOf(bytes.subarray(0, 100000));
         const isHex = bytes.length <= 100000 && /^\s*(0x)?[0-9a-f\s,]+$/i.test(text);
         $("bytes").value = isHex ? text.trim() : hexOf(bytes);
         this.read();
@@ -191,13 +194,14 @@ class Page {
             show($("verdict"), "bad", error.message);
             return;
         }
+        let value;
         try {
-            const value = this.decode(kind, bytes);
-            this.showValue(kind, value, bytes);
+            value = this.decode(kind, bytes);
         } catch (error) {
-            const fault = faultOf(kind, (it) => this.decode(kind, it), bytes, error);
-            this.showFault(fault, bytes, error);
+            this.showRefusal(kind, bytes, error);
+            return;
         }
+        this.showValue(kind, value, bytes);
     }
 
     showValue(kind, value, bytes) {
@@ -218,6 +222,16 @@ class Page {
         if (kind.name === "committee" && keys.length > 0) {
             $("members").value = keys.length;
             this.count();
+        }
+    }
+
+    /** Shows why bytes aren't decoded. Where none of them is wrong, the error says all. */
+    showRefusal(kind, bytes, error) {
+        const fault = faultOf(kind, (it) => this.decode(kind, it), bytes, error);
+        if (fault) {
+            this.showFault(fault, bytes, error);
+        } else {
+            show($("verdict"), "bad", `${error.message}.`);
         }
     }
 
@@ -277,28 +291,38 @@ class Page {
         return $("by-weight").checked ? parsedWeights($("weights").value) : null;
     }
 
+    /** Shows a certificate of a field, and returns its signers; null where there is none. */
     showParts(name, element) {
         element.replaceChildren();
-        const { k, n } = this.model();
+        let bytes, certificate, weights;
         try {
-            const bytes = parsed($(name).value);
-            const { value, signers } = this.commonware.decodeCertificate(bytes);
-            const terms = [["signers", signers.join(", ") || "no one"]];
-            const weights = this.weights();
-            try {
-                const found = weights
-                    ? this.commonware.checkWeightedQuorum(k, weights, bytes)
-                    : this.commonware.checkQuorum(k, n, bytes);
-                terms.push(["quorum", weights ? `yes, they weigh ${found.weight}` : "yes"]);
-                terms.push(...(found.slot ? [["slot", told(found.slot)], ["decision", told(found.decision)]] : [["slot", "none"], ["value", told(value)]]));
-            } catch (error) {
-                terms.push(["quorum", `no: ${error.message}`], ["value", told(value)]);
-            }
-            element.append(list(terms));
-            return signers;
+            bytes = parsed($(name).value);
+            certificate = this.commonware.decodeCertificate(bytes);
+            weights = this.weights();
         } catch (error) {
             element.append(made("p", { class: "hint" }, `No certificate: ${error.message}`));
             return null;
+        }
+        const { value, signers } = certificate;
+        const { found, error } = this.checked(weights, bytes);
+        const terms = [["signers", signers.join(", ") || "no one"]];
+        if (error) {
+            terms.push(["quorum", `no: ${error.message}`], ["value", told(value)]);
+        } else {
+            terms.push(["quorum", weights ? `yes, they weigh ${found.weight}` : "yes"]);
+            terms.push(...(found.slot ? [["slot", told(found.slot)], ["decision", told(found.decision)]] : [["slot", "none"], ["value", told(value)]]));
+        }
+        element.append(list(terms));
+        return signers;
+    }
+
+    /** Returns what is found of a certificate that a quorum signed, or the error. */
+    checked(weights, bytes) {
+        const { k, n } = this.model();
+        try {
+            return { found: weights ? this.commonware.checkWeightedQuorum(k, weights, bytes) : this.commonware.checkQuorum(k, n, bytes) };
+        } catch (error) {
+            return { error };
         }
     }
 

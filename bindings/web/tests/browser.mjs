@@ -149,6 +149,45 @@ async function tryFields(tab) {
     await expect(tab, "page: a weight of 0", "weight-numbers", "weight 1 is 0");
 }
 
+/** Values past what a call may have as arguments, and errors that no byte is to blame for. */
+async function tryLong(tab) {
+    const length = 200_000;
+    await tab.click("example-0");
+    await tab.fill("kind", "certificate");
+    await tab.fill("bytes", `c09a0c ${"41".repeat(length)} 01 07`);
+    await expect(tab, "page: a long value", "verdict", "A certificate with 1 signer, in 200005 bytes.");
+    const shown = await tab.value(`document.getElementById("items").textContent`);
+    note(shown.includes(`"${"A".repeat(length)}"`), "page: a long value is shown as text", shown.slice(-80));
+    await tab.fill("first", `c09a0c 01 ${"42".repeat(length - 1)} 03 00 01 02`);
+    const parts = await tab.value(`document.getElementById("first-parts").textContent`);
+    note(parts.includes(`"${"B".repeat(length - 2)}"`), "page: a long decision of the first certificate", parts.slice(0, 80));
+    await tab.click("example-0");
+    await tab.fill("kind", "set");
+    await tab.fill("key-size", "1e60");
+    const said = await tab.text("verdict");
+    note(/^size is a whole number from 0 to 9007199254740991, and not 1e\+60\.$/.test(said), "page: a size past 2^53 blames no byte", said);
+    await tab.click("example-0");
+    // What the page itself does wrong isn't said of the bytes.
+    await tab.value(`(() => {
+        window.given = Element.prototype.append;
+        Element.prototype.append = function (...parts) {
+            if (this.id === "dump") {
+                throw new Error("not shown");
+            }
+            window.given.apply(this, parts);
+        };
+    })()`);
+    await tab.fill("bytes", "00");
+    await expect(tab, "page: a fault of the bytes without a dump", "verdict", "Refused at byte 0");
+    await tab.fill("kind", "set");
+    await tab.fill("least", "0");
+    await expect(tab, "page: a fault of the page isn't one of the bytes", "verdict", "Accepted: 0 keys, in 1 byte.");
+    await tab.value(`Element.prototype.append = window.given`);
+    const faults = await tab.value("window.faults.splice(0)");
+    note(faults.length > 0 && faults.every((it) => it.includes("not shown")), "page: it is thrown past the page", faults.join("; "));
+    await tab.click("example-0");
+}
+
 // Each text in the page whose contrast with what is behind it is below 4.5 to 1.
 const FAINT = `(() => {
     const canvas = new OffscreenCanvas(1, 1).getContext("2d", { willReadFrequently: true });
@@ -203,6 +242,7 @@ async function tryPage(browser, url, what) {
     await tryKeyboard(tab);
     await tryFiles(tab);
     await tryFields(tab);
+    await tryLong(tab);
     await tryReading(tab);
     const faults = await tab.value("window.faults");
     note(faults.length === 0, `${what}: nothing is thrown past the page`, faults.join("; "));
