@@ -4,9 +4,11 @@ import (
 	"bytes"
 	"encoding/binary"
 	"errors"
+	"fmt"
 	"math"
 	"os"
 	"os/exec"
+	"reflect"
 	"regexp"
 	"runtime"
 	"sync"
@@ -118,6 +120,103 @@ func TestSlicesOfTheInput(t *testing.T) {
 	input[1] = 'z'
 	pairs.Get([]byte("b"))
 	same(t, pairs.Key(0), []byte("z"))
+}
+
+// What is written, and what follows a value, has no room behind it: what is appended to it twice isn't shared.
+func TestResultsHaveNoRoom(t *testing.T) {
+	results := map[string][]byte{}
+	written := func(name string, result []byte, err error) {
+		same(t, err, nil, name)
+		results[name] = result
+	}
+	key, signers := Member{7}, []uint32{1, 200}
+	encoded, err := EncodeCommittee([]Member{key, key, key})
+	written("EncodeCommittee", encoded, err)
+	for name, keys := range map[string]string{"no": "", "one": "a", "two": "ab", "one of many": "aaaaaaaaaaaaaaaaaaaa"} {
+		encoded, err = EncodeSet(1, []byte(keys))
+		written("EncodeSet of "+name, encoded, err)
+		encoded, err = EncodeMap(1, 0, []byte(keys))
+		written("EncodeMap of "+name, encoded, err)
+	}
+	encoded, err = EncodeUniqueMap(1, 1, []byte("b1a2"))
+	written("EncodeUniqueMap", encoded, err)
+	encoded, err = Certificate{[]byte("value"), signers}.Encode()
+	written("Encode", encoded, err)
+	encoded, err = SlotValue([]byte("7"), []byte("A"))
+	written("SlotValue", encoded, err)
+	for _, more := range []string{"", "more"} {
+		// The input itself has room.
+		input := append(make([]byte, 0, 99), "\x01a\x01b"+more...)
+		_, rest, err := ReadSet(1, input[:2+len(more)], 0, 9)
+		written("ReadSet and "+more, rest, err)
+		_, rest, err = ReadMap(1, 1, input, 0, 9)
+		written("ReadMap and "+more, rest, err)
+		_, rest, err = ReadBiMap(1, 1, input, 0, 9)
+		written("ReadBiMap and "+more, rest, err)
+		_, rest, err = ReadCertificate(input, 9, 9)
+		written("ReadCertificate and "+more, rest, err)
+		_, rest, err = ReadCommittee(append(make([]byte, 0, 99), "\x00"+more...), 0, 9)
+		written("ReadCommittee and "+more, rest, err)
+	}
+	for name, result := range results {
+		same(t, cap(result), len(result), name)
+		first, second := append(result, 'x'), append(result, 'y')
+		same(t, string(first[len(result):])+string(second[len(result):]), "xy", name)
+	}
+}
+
+// What is written doesn't keep a room that is much longer.
+func TestAShortResultKeepsNoRoom(t *testing.T) {
+	keys := make([]byte, 32_000_000)
+	var before, after runtime.MemStats
+	runtime.GC()
+	runtime.ReadMemStats(&before)
+	encoded, err := EncodeSet(32, keys)
+	same(t, []interface{}{len(encoded), err}, []interface{}{33, nil})
+	runtime.GC()
+	runtime.ReadMemStats(&after)
+	if more := int64(after.HeapAlloc) - int64(before.HeapAlloc); more > 1_000_000 {
+		t.Errorf("%d bytes are kept", more)
+	}
+	runtime.KeepAlive(keys)
+	runtime.KeepAlive(encoded)
+}
+
+// No caller can replace a part of a view, such as the pairs of which a bimap has the order.
+func TestViewsAreWhole(t *testing.T) {
+	for _, view := range []interface{}{Set{}, Committee{}, Map{}, BiMap{}} {
+		kind := reflect.TypeOf(view)
+		for i := 0; i < kind.NumField(); i++ {
+			same(t, kind.Field(i).IsExported(), false, kind, " ", kind.Field(i).Name)
+		}
+	}
+	// A bimap has each call of a map.
+	input := []byte("\x02ab\x02yx")
+	bimap, err := DecodeBiMap(1, 1, input)
+	same(t, err, nil)
+	pairs, err := DecodeMap(1, 1, input)
+	same(t, err, nil)
+	same(t, bimap.AsMap(), pairs)
+	of, ofMap := reflect.ValueOf(bimap), reflect.ValueOf(pairs)
+	arguments := map[string][]reflect.Value{
+		"Get": {reflect.ValueOf([]byte("b"))}, "Key": {reflect.ValueOf(1)}, "Value": {reflect.ValueOf(1)},
+	}
+	for i := 0; i < ofMap.NumMethod(); i++ {
+		name := ofMap.Type().Method(i).Name
+		found, wanted := of.MethodByName(name).Call(arguments[name]), ofMap.Method(i).Call(arguments[name])
+		for at := range wanted {
+			same(t, found[at].Interface(), wanted[at].Interface(), name)
+		}
+	}
+	key, isThere := bimap.KeyOf([]byte("x"))
+	same(t, []interface{}{string(key), isThere}, []interface{}{"b", true})
+}
+
+func TestNamesOfFaultModels(t *testing.T) {
+	for model, name := range map[FaultModel]string{N3F1: "N3f1", N5F1: "N5f1", 7: "n >= 7f + 1", math.MaxUint32: "n >= 4294967295f + 1"} {
+		same(t, fmt.Sprint(model), name)
+	}
+	same(t, fmt.Sprintf("%d", N3F1), "3")
 }
 
 func TestIndicesPastTheLast(t *testing.T) {

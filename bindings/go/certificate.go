@@ -1,3 +1,5 @@
+//go:build cgo
+
 package commonware
 
 // A Certificate is a value, and the indices of the members that signed it, strictly increasing. Whether a signature is
@@ -31,7 +33,7 @@ func ReadCertificate(input []byte, mostBytes, mostSigners int) (Certificate, []b
 	return Certificate{part(input, view.valueStart, view.valueLength), signers}, rest(input, view.left), nil
 }
 
-// part returns some bytes of an input.
+// part returns some bytes of an input, without spare capacity.
 func part(input []byte, start, length int) []byte {
 	return input[start : start+length : start+length]
 }

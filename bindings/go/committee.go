@@ -1,3 +1,5 @@
+//go:build cgo
+
 package commonware
 
 // MemberSize is how many bytes a member has.

@@ -8,7 +8,7 @@
 //
 // Decode functions take the whole input. Read functions take limits too, and return what follows the value. Sets,
 // maps and certificates have slices of their input, of which nothing is copied: whoever writes to the input changes
-// them. No call keeps a pointer in C.
+// them. No result has spare capacity: whoever appends to one changes nothing else. No call keeps a pointer in C.
 //
 // Errors without a number are variables, as [ErrEndOfInput], and those with numbers types, as [InvalidLengthError];
 // errors.Is and errors.As find them. What is wrong with one of two certificates is in a [CertificateError].
@@ -19,6 +19,8 @@
 // folder of this module:
 //
 //	CGO_LDFLAGS=-L/folder/of/the/archive go build
+//
+// It takes cgo: without that the build fails, and says so.
 //
 // The archive is for Linux on x86-64-v2 processors. [Version] returns which version it is. A program that was linked
 // with another major version panics at its start.

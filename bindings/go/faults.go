@@ -1,4 +1,8 @@
+//go:build cgo
+
 package commonware
+
+import "fmt"
 
 // A FaultModel is the k of a resilience n >= kf + 1: of n participants f may be faulty, where f is the greatest number
 // that fits. It is the greatest for which any two quorums, of n - f each, share (k - 2)f + 1 participants. A k is 2 or
@@ -11,6 +15,17 @@ const (
 	// N5F1 is n >= 5f + 1: any two quorums share 3f + 1 participants.
 	N5F1 FaultModel = 5
 )
+
+// String returns the name of a model that has one, "N3f1" or "N5f1", and else its resilience, as "n >= 7f + 1".
+func (k FaultModel) String() string {
+	switch k {
+	case N3F1:
+		return "N3f1"
+	case N5F1:
+		return "N5f1"
+	}
+	return fmt.Sprintf("n >= %df + 1", uint32(k))
+}
 
 // tell returns what a call tells of n participants, where there is a model and a participant.
 func (k FaultModel) tell(n uint32, call func(k, n uint32) uint32) (uint32, error) {

@@ -1,3 +1,5 @@
+//go:build cgo
+
 package commonware
 
 import (
@@ -108,7 +110,8 @@ func (m Map) Get(key []byte) ([]byte, bool) {
 // A BiMap is a map whose values all differ. It has the indices of the pairs in the order of their values, so that a key
 // is found by its value too. [EncodeUniqueMap] writes it. The zero value is a bimap without pairs, of size 0.
 type BiMap struct {
-	Map
+	// No caller may replace the pairs, of which byValue has the order.
+	pairs   Map
 	byValue []uint32
 }
 
@@ -143,6 +146,47 @@ func DecodeBiMap(keySize, valueSize int, input []byte) (BiMap, error) {
 		return BiMap{}, err
 	}
 	return pairs, nil
+}
+
+// AsMap returns the pairs as a map.
+func (m BiMap) AsMap() Map {
+	return m.pairs
+}
+
+// Len returns how many pairs there are.
+func (m BiMap) Len() int {
+	return m.pairs.Len()
+}
+
+// Keys returns the keys, which are a set.
+func (m BiMap) Keys() Set {
+	return m.pairs.Keys()
+}
+
+// ValueSize returns how many bytes a value has. A key has as many as the size of the keys.
+func (m BiMap) ValueSize() int {
+	return m.pairs.ValueSize()
+}
+
+// Key returns the key at an index. It panics where there is none, as a slice does.
+func (m BiMap) Key(index int) []byte {
+	return m.pairs.Key(index)
+}
+
+// Value returns the value of the key at an index. It panics where there is none, as a slice does.
+func (m BiMap) Value(index int) []byte {
+	return m.pairs.Value(index)
+}
+
+// Values returns all values in the order of their keys.
+func (m BiMap) Values() [][]byte {
+	return m.pairs.Values()
+}
+
+// Get returns the value of a key and true, or false where the key isn't there, as one of another size never is, in
+// O(log n) comparisons.
+func (m BiMap) Get(key []byte) ([]byte, bool) {
+	return m.pairs.Get(key)
 }
 
 // IndexOfValue returns the index of the pair with a value and true, or false where there is none, in O(log n)

@@ -170,7 +170,8 @@ func nativeBiMapRead(keySize, valueSize int, input []byte, least, most int, room
 	}
 }
 
-// written returns what was written to a room, or why nothing was.
+// written returns what was written to a room, or why nothing was. It has no spare capacity: a caller who appends to it
+// changes nothing else. Where it takes under half of the room, it is copied, so that it doesn't keep the whole.
 func written(view C.commonware_written_view, room []byte) ([]byte, error) {
 	if view.status == statusNotStrict {
 		return nil, NotStrictError{Index: int(view.number)}
@@ -178,7 +179,13 @@ func written(view C.commonware_written_view, room []byte) ([]byte, error) {
 	if err := errorOf(uint32(view.status), int(view.number)); err != nil {
 		return nil, err
 	}
-	return room[:view.size], nil
+	size := int(view.size)
+	if size < len(room)/2 {
+		exact := make([]byte, size)
+		copy(exact, room)
+		return exact, nil
+	}
+	return room[:size:size], nil
 }
 
 func nativeCommitteeWrite(members []byte) ([]byte, error) {

@@ -361,7 +361,7 @@ func TestBiMapsAreRead(t *testing.T) {
 			continue
 		}
 		same(t, len(rest), len(left), sizes, input)
-		isMap(t, pairs.Map, keys, values, sizes, d.keys(d.size()))
+		isMap(t, pairs.AsMap(), keys, values, sizes, d.keys(d.size()))
 		for index, value := range values {
 			at, isThere := pairs.IndexOfValue(value)
 			key, _ := pairs.KeyOf(value)

@@ -1,3 +1,5 @@
+//go:build cgo
+
 package commonware
 
 import "math"
@@ -59,9 +61,9 @@ func whole(rest []byte, err error) error {
 	return err
 }
 
-// rest returns the last bytes of an input.
+// rest returns the last bytes of an input, without what may be behind it.
 func rest(input []byte, left int) []byte {
-	return input[len(input)-left:]
+	return part(input, len(input)-left, left)
 }
 
 // ReadSet decodes the set of least to most keys of size bytes at the start of the input, and returns it with what

@@ -61,6 +61,13 @@ func TestALaterMinorVersionRuns(t *testing.T) {
 	same(t, isWell, true, prints)
 }
 
+func TestABuildWithoutCgoSaysWhatItNeeds(t *testing.T) {
+	prints, isWell := tell([]string{"CGO_ENABLED=0"}, "go", "build", "./...")
+	same(t, isWell, false)
+	sentence := "commonware needs cgo: build it with CGO_ENABLED=1 and a C compiler"
+	same(t, strings.Contains(prints, sentence) && !strings.Contains(prints, "undefined"), true, prints)
+}
+
 func TestAnotherHeaderDoesNotCompile(t *testing.T) {
 	text, err := os.ReadFile(header)
 	same(t, err, nil)

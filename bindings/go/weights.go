@@ -1,3 +1,5 @@
+//go:build cgo
+
 package commonware
 
 // WeightNumbers are what weights come to in a fault model.
