@@ -4,7 +4,7 @@ import operator
 from typing import Iterable, Iterator, NamedTuple, Tuple, TypeVar, Union
 
 from . import errors
-from ._native import BytesLike, input_of
+from ._native import BytesLike, input_of, made
 
 _Value = TypeVar("_Value")
 
@@ -47,11 +47,11 @@ def whole(read: Tuple[_Value, memoryview]) -> _Value:
     return value
 
 
-def item_of(index: int, size: int, item: BytesLike) -> memoryview:
+def item_of(index: int, size: int, item: BytesLike, part: str = "key") -> memoryview:
     """Returns the bytes of an item of a list, which has this size."""
     data = input_of(item).data
     if len(data) != size:
-        raise errors.WrongSize(index, len(data), size)
+        raise errors.WrongSize(index, len(data), size, part)
     return data
 
 
@@ -59,4 +59,4 @@ def one_after_another(size: int, items: Union[BytesLike, Iterable[BytesLike]]) -
     """Returns the bytes of items of this size; those that are all in one stay as they are."""
     if isinstance(items, (bytes, bytearray, memoryview)):
         return items
-    return b"".join(item_of(index, size, item) for index, item in enumerate(items))
+    return made(b"".join, (item_of(index, size, item) for index, item in enumerate(items)))

@@ -5,7 +5,7 @@ import array
 import ctypes
 import operator
 from ctypes import c_char, c_size_t, c_uint32, c_uint64, c_void_p
-from typing import Any, Callable, Iterable, NamedTuple, Optional, Tuple, Type, Union
+from typing import Any, Callable, Iterable, NamedTuple, Optional, Tuple, Type, TypeVar, Union
 
 from . import errors
 from ._library import declare
@@ -20,6 +20,17 @@ Numbers = array.array
 """Indices of 32 bits or weights of 64, as the library has them on the one machine that it is for."""
 
 OK, NOT_STRICT, ROOM, REPEATED_VALUE = 0, 4, 11, 18
+
+_Made = TypeVar("_Made")
+
+
+def made(make: Callable[..., _Made], *arguments: Any) -> _Made:
+    """Returns what a call of Python makes, whose size is that of an argument: where there is no memory for it, the
+    error is the package's."""
+    try:
+        return make(*arguments)
+    except MemoryError:
+        raise errors.OutOfMemory() from None
 
 
 def _view(name: str, *fields: Tuple[str, Any]) -> Type[ctypes.Structure]:
@@ -152,7 +163,7 @@ def input_of(data: BytesLike) -> Input:
     if type(view.obj) is bytes and view.c_contiguous and view.nbytes > 0:
         view = view.cast("B") if view.format != "B" or view.ndim != 1 else view
         return Input(view, _address(view))
-    copy = view.tobytes()
+    copy = made(view.tobytes)
     return Input(memoryview(copy), copy)
 
 
@@ -174,16 +185,13 @@ def limits_of(least: int, most: Optional[int]) -> Tuple[int, int]:
 
 def written(call: Callable[..., Any], most: int, *arguments: Any) -> bytes:
     """Returns what a call writes, which is at most `most` bytes and at least one."""
-    try:
-        out = bytearray(most)
-    except MemoryError:
-        raise errors.OutOfMemory() from None
+    out = made(bytearray, most)
     view = call(*arguments, ctypes.byref(c_char.from_buffer(out)), most)
     if view.status == NOT_STRICT:
         raise errors.NotStrict(view.number)
     check_status(view.status, view.number)
     with memoryview(out) as whole:
-        return bytes(whole[: view.size])
+        return made(bytes, whole[: view.size])
 
 
 def pointed(numbers: Numbers) -> Tuple[Any, int]:
@@ -195,21 +203,18 @@ def pointed(numbers: Numbers) -> Tuple[Any, int]:
 
 def room_for(length: int) -> Tuple[Numbers, Tuple[Any, int]]:
     """Returns room for some indices, and the pointer and the length that the library gets."""
-    try:
-        room = array.array("I", [0]) * length
-    except MemoryError:
-        raise errors.OutOfMemory() from None
+    room = made(operator.mul, array.array("I", [0]), length)
     return room, pointed(room)
 
 
 def indices_of(name: str, numbers: Iterable[int]) -> Numbers:
     """Returns the indices that an argument lists."""
-    return array.array("I", (number_of(name, number, U32_MAX) for number in numbers))
+    return made(array.array, "I", (number_of(name, number, U32_MAX) for number in numbers))
 
 
 def weights_of(numbers: Iterable[int]) -> Numbers:
     """Returns the weights that an argument lists."""
-    return array.array("Q", (number_of("weight", number, U64_MAX) for number in numbers))
+    return made(array.array, "Q", (number_of("weight", number, U64_MAX) for number in numbers))
 
 
 _PLAIN = {

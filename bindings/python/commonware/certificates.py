@@ -8,7 +8,7 @@ from typing import Any, Callable, Iterable, NamedTuple, Optional, Tuple, Union
 
 from . import _native
 from ._items import whole
-from ._native import OK, ROOM, SIZE_MAX, U32_MAX, BytesLike, Input, check_status, input_of, number_of, written
+from ._native import OK, ROOM, SIZE_MAX, U32_MAX, BytesLike, Input, check_status, input_of, made, number_of, written
 from .faults import k_of, members_of
 from .sets import Committee
 
@@ -73,8 +73,8 @@ class Certificate:
         certificate = object.__new__(cls)
         end = len(view.data) - found.left
         certificate._encoding = view.data[:end]
-        certificate._value = bytes(view.data[found.value_start :][: found.value_length])
-        certificate._signers = tuple(signers)
+        certificate._value = made(bytes, view.data[found.value_start :][: found.value_length])
+        certificate._signers = made(tuple, signers)
         certificate._parts = ()
         return certificate, view.data[end:]
 
@@ -197,7 +197,7 @@ def check(k: int, members: _Members, certificate: _Given) -> Checked:
     Warning: no signature is looked at. Whoever doesn't verify them knows nothing of who signed.
 
     Raises the first of these: `NoModel`, `NoMembers`, a fault of the input (`EndOfInput`, `InvalidVarint`,
-    `NotStrict`, `LeftOver`), `Outside`, `TooFew`; and `OutOfRange`.
+    `NotStrict`, `LeftOver`), `Outside`, `TooFew`; and `OutOfRange` and `OutOfMemory`.
 
     >>> from commonware import N3F1, Certificate, check, slot_value
     >>> certificate = Certificate.encode(slot_value(b"view 7", b"A"), [0, 1, 2])
@@ -217,7 +217,7 @@ def found_in(given: Input, view: Any) -> Checked:
     """Returns what was found in an input, which is a certificate of a quorum."""
 
     def part(start: int, length: int) -> bytes:
-        return bytes(given.data[start : start + length])
+        return made(bytes, given.data[start : start + length])
 
     value = part(view.value_start, view.value_length)
     if view.slot_start == 0:
@@ -237,7 +237,7 @@ def _named(call: Callable[..., Any], k: int, members: _Members, first: _Given, s
         named, room = _native.room_for(view.count)
         view = call(*asked, *room)
     check_status(view.status, view.number, view.which)
-    return tuple(named)
+    return made(tuple, named)
 
 
 def conflict(k: int, members: _Members, first: _Given, second: _Given) -> Tuple[int, ...]:

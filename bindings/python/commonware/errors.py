@@ -146,14 +146,15 @@ class NotWhole(CommonwareError, ValueError):
 
 
 class WrongSize(CommonwareError, ValueError):
-    """The key, or the value, at this index of a list has `length` bytes, and should have `size`."""
+    """The key at this index of a list, or of the pair there the key or the value, has `length` bytes, and should have
+    `size`. `part` is "key" or "value"."""
 
-    def __init__(self, index: int, length: int, size: int) -> None:
-        super().__init__(index, length, size)
-        self.index, self.length, self.size = index, length, size
+    def __init__(self, index: int, length: int, size: int, part: str = "key") -> None:
+        super().__init__(index, length, size, part)
+        self.index, self.length, self.size, self.part = index, length, size, part
 
     def _words(self) -> str:
-        return f"item {self.index} has {self.length} bytes, and should have {self.size}"
+        return f"{self.part} {self.index} has {self.length} bytes, and should have {self.size}"
 
 
 class NoModel(CommonwareError, ValueError):

@@ -5,7 +5,7 @@ from typing import Any, Callable, Optional, Tuple, Type, TypeVar, Union
 
 from . import _native, errors
 from ._items import Items, item_of, items_at, whole
-from ._native import SIZE_MAX, BytesLike, check_status, input_of, limits_of, number_of, written
+from ._native import SIZE_MAX, BytesLike, check_status, input_of, limits_of, made, number_of, written
 from .sets import SetView
 
 __all__ = ["BiMapView", "MapView"]
@@ -127,10 +127,13 @@ def _pairs_of(key_size: int, value_size: int, pairs: _Given) -> BytesLike:
     if isinstance(pairs, (bytes, bytearray, memoryview)):
         return pairs
     given = pairs.items() if isinstance(pairs, Mapping) else pairs
-    parts = []
-    for index, (key, value) in enumerate(given):
-        parts += [item_of(index, key_size, key), item_of(index, value_size, value)]
-    return b"".join(parts)
+
+    def parts() -> Iterator[memoryview]:
+        for index, (key, value) in enumerate(given):
+            yield item_of(index, key_size, key)
+            yield item_of(index, value_size, value, "value")
+
+    return made(b"".join, parts())
 
 
 def _encoded(write: Callable[..., Any], key_size: int, value_size: int, pairs: _Given) -> bytes:
@@ -166,7 +169,8 @@ class MapView(_Pairs):
         at the start of the input, and returns it with what follows, as a read-only view.
 
         Raises the first fault (decoding error) of the input, that of the keys and then that of the values, of
-        which there are as many: `EndOfInput`, `InvalidVarint`, `InvalidLength` or `NotStrict`; and `OutOfRange`.
+        which there are as many: `EndOfInput`, `InvalidVarint`, `InvalidLength` or `NotStrict`; and `OutOfRange`, and
+        `OutOfMemory` where the input is copied.
 
         >>> pairs, rest = MapView.read(1, 2, b"\2ab\2c1c2more")
         >>> dict(pairs), bytes(rest)
@@ -227,7 +231,8 @@ class MapView(_Pairs):
 class BiMapView(_Pairs):
     r"""The pairs of a bimap, whose keys are strictly increasing and whose values all differ, where its encoding
     has them. It has the indices of the pairs in the order of their values, so that a key is found by its value
-    too; else all is as with a `MapView`. `MapView.encode` writes it.
+    too; else all is as with a `MapView`. `MapView.encode_unique` writes it; whether a value repeats is what `decode`
+    tells.
 
     >>> from commonware import BiMapView
     >>> members = BiMapView.decode(1, 2, b"\2ab\2idme")
@@ -287,7 +292,7 @@ class BiMapView(_Pairs):
         >>> BiMapView.decode(1, 1, b"\2ab\2yx").index_of_value(b"x")
         1
         """
-        sought = bytes(input_of(value).data)
+        sought = made(bytes, input_of(value).data)
         low, high = 0, len(self)
         while low < high:
             middle = (low + high) // 2

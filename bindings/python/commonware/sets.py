@@ -118,7 +118,7 @@ class SetView(_KeySequence):
         it with what follows, as a read-only view.
 
         Raises the first fault (decoding error) of the input: `EndOfInput`, `InvalidVarint`, `InvalidLength`
-        or `NotStrict`; and `OutOfRange`.
+        or `NotStrict`; and `OutOfRange`, and `OutOfMemory` where the input is copied.
 
         >>> keys, rest = SetView.read(2, b"\2\5\6\7\7more", 1, 256)
         >>> list(keys), bytes(rest)
@@ -225,7 +225,7 @@ class Committee(_KeySequence):
         what follows, as a read-only view.
 
         Raises the first fault (decoding error) of the input: `EndOfInput`, `InvalidVarint`, `InvalidLength`
-        or `NotStrict`; and `OutOfRange`.
+        or `NotStrict`; and `OutOfRange`, and `OutOfMemory` where the input is copied.
 
         >>> committee, rest = Committee.read(b"\1" + 32 * b"\x09" + b"more", 1, 256)
         >>> len(committee), bytes(rest)

@@ -10,7 +10,7 @@ from collections.abc import Sequence
 from typing import Any, Callable, Iterable, Iterator, NamedTuple, Optional, Tuple, Union, overload
 
 from . import _native
-from ._native import ROOM, check_status
+from ._native import ROOM, check_status, made
 from .certificates import _certificate_of, _Given, found_in
 from .faults import k_of
 
@@ -39,7 +39,8 @@ class Weights(Sequence[int]):
     [40, 30, 20, 10]
 
     Raises the first of these: `NoMembers` where there are none, `InvalidLength` where they are more, and `ZeroWeight`
-    or `WeightOverflow`, whose index comes first; and before these `OutOfRange`, where a number isn't one of 64 bits.
+    or `WeightOverflow`, whose index comes first; and before these `OutOfRange`, where a number isn't one of 64 bits,
+    and `OutOfMemory`.
 
     >>> from commonware import N3F1, Weights
     >>> weights = Weights([40, 30, 20, 10])
@@ -178,7 +179,7 @@ def weighted_check(k: int, weights: _Weights, certificate: _Given) -> WeightedCh
     Warning: no signature is looked at. Whoever doesn't verify them knows nothing of who signed.
 
     Raises the first of these: `NoModel`, what `Weights` raises, a fault of the input (`EndOfInput`, `InvalidVarint`,
-    `NotStrict`, `LeftOver`), `Outside`, `TooLight`; and before these `OutOfRange`.
+    `NotStrict`, `LeftOver`), `Outside`, `TooLight`; and before these `OutOfRange`, and `OutOfMemory`.
 
     >>> from commonware import N3F1, Certificate, slot_value, weighted_check
     >>> weights = [40, 30, 20, 10]
@@ -205,7 +206,7 @@ def _named(call: Callable[..., Any], k: int, weights: _Weights, first: _Given, s
         members, room = _native.room_for(view.count)
         view = call(*asked, *room)
     check_status(view.status, view.number, view.which)
-    return Named(tuple(members), view.weight)
+    return Named(made(tuple, members), view.weight)
 
 
 def weighted_conflict(k: int, weights: _Weights, first: _Given, second: _Given) -> Named:

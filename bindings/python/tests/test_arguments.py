@@ -151,13 +151,30 @@ class Types(unittest.TestCase):
         with self.assertRaises(WrongSize) as caught:
             SetView.encode(2, [b"ok", b"a", b"abc"])
         self.assertEqual((caught.exception.index, caught.exception.length, caught.exception.size), (1, 1, 2))
-        for pairs in ([(b"ok", b"1"), (b"a", b"bc")], {b"ok": b"1", b"am": b"12"}):
-            with self.assertRaises(WrongSize):
-                MapView.encode(2, 1, pairs)
-        with self.assertRaises(WrongSize):
+        self.assertEqual(caught.exception.part, "key")
+        with self.assertRaises(WrongSize) as caught:
             Committee.from_keys([b"short"])
+        self.assertEqual((caught.exception.size, caught.exception.part), (32, "key"))
         with self.assertRaises(commonware.NotWhole):
             Committee.from_keys(33 * b"a")
+
+    def test_the_first_key_or_value_of_a_wrong_size_is_told(self):
+        rows = [
+            ([(b"ok", b"1"), (b"a", b"bc")], (1, 1, 2, "key")),
+            ([(b"ok", b"12"), (b"a", b"1")], (0, 2, 1, "value")),
+            ({b"ok": b"1", b"am": b"12", b"a": b"1"}, (1, 2, 1, "value")),
+        ]
+        for pairs, numbers in rows:
+            for call in (MapView.encode, MapView.encode_unique):
+                with self.assertRaises(WrongSize) as caught:
+                    call(2, 1, pairs)
+                error = caught.exception
+                self.assertEqual((error.index, error.length, error.size, error.part), numbers)
+                index, length, size, part = numbers
+                self.assertEqual(str(error), f"{part} {index} has {length} bytes, and should have {size}")
+                again = pickle.loads(pickle.dumps(error))
+                self.assertEqual((again.args, again.part), (numbers, part))
+        self.assertEqual(WrongSize(1, 7, 2).part, "key")
 
     def test_no_one_makes_what_was_not_decoded(self):
         for kind in (SetView, Committee, MapView, BiMapView, Certificate):

@@ -307,6 +307,47 @@ for call in (
         text, status = python("-c", program)
         self.assertEqual((text, status), (8 * "OutOfMemory out of memory\n", 0))
 
+    def test_allocation_failures_of_what_is_copied_and_returned_are_errors(self):
+        program = """
+import itertools, resource
+from commonware import *
+LARGE, MANY = 60_000_000, 4_000_000
+long = Certificate.encode(bytes(LARGE), [0])
+first, second = (Certificate.encode(slot_value(b"7", it), range(MANY)) for it in (b"A", b"B"))
+given, weights = bytearray(LARGE), Weights(itertools.repeat(1, MANY))
+keys, pairs = [bytes(32)] * 1_000_000, [(bytes(16), bytes(16))] * 500_000
+bimap, value = BiMapView.decode(1, 1, b"\\1a\\1b"), bytes(LARGE)
+hard = resource.getrlimit(resource.RLIMIT_AS)[1]
+# Beside each how much memory there is: for the last ones enough for the indices, and not for the tuple of them.
+for room, call in (
+    (6_000_000, lambda: Certificate.decode(long)),
+    (6_000_000, lambda: check(2, 1, long)),
+    (6_000_000, lambda: weighted_check(2, [1], long)),
+    (6_000_000, lambda: SetView.decode(32, given)),
+    (6_000_000, lambda: Committee.decode(memoryview(given))),
+    (6_000_000, lambda: MapView.decode(32, 32, given)),
+    (6_000_000, lambda: SetView.encode(32, keys)),
+    (6_000_000, lambda: MapView.encode(16, 16, pairs)),
+    (6_000_000, lambda: Weights(itertools.repeat(1, LARGE))),
+    (6_000_000, lambda: Certificate.encode(b"", range(LARGE))),
+    (6_000_000, lambda: bimap.key_of(value)),
+    (24_000_000, lambda: Certificate.decode(first)),
+    (24_000_000, lambda: conflict(3, MANY, first, second)),
+    (24_000_000, lambda: equivocation(3, MANY, first, second)),
+    (24_000_000, lambda: weighted_conflict(3, weights, first, second)),
+    (24_000_000, lambda: weighted_equivocation(3, weights, first, second)),
+):
+    size = int(open("/proc/self/statm").read().split()[0]) * resource.getpagesize()
+    resource.setrlimit(resource.RLIMIT_AS, (size + room, hard))
+    try:
+        call()
+    except MemoryError as error:
+        print(type(error).__name__, error)
+    resource.setrlimit(resource.RLIMIT_AS, (hard, hard))
+"""
+        text, status = python("-c", program)
+        self.assertEqual((text, status), (16 * "OutOfMemory out of memory\n", 0))
+
     def test_allocation_failures_of_the_library_are_errors(self):
         program = """
 import os, resource, traceback
