@@ -381,6 +381,13 @@ fn call(
     }
 }
 
+/// The encoding.
+impl AsRef<[u8]> for BiMapView<'_> {
+    fn as_ref(&self) -> &[u8] {
+        self.as_bytes()
+    }
+}
+
 /// The pairs in hexadecimal.
 impl fmt::Debug for BiMapView<'_> {
     fn fmt(&self, f: &mut fmt::Formatter<'_>) -> fmt::Result {

@@ -330,6 +330,13 @@ impl<'a> TryFrom<&'a [u8]> for Certificate<'a> {
     }
 }
 
+/// The encoding.
+impl AsRef<[u8]> for Certificate<'_> {
+    fn as_ref(&self) -> &[u8] {
+        self.as_bytes()
+    }
+}
+
 /// The value in hexadecimal.
 impl fmt::Debug for Certificate<'_> {
     fn fmt(&self, f: &mut fmt::Formatter<'_>) -> fmt::Result {

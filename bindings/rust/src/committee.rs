@@ -334,6 +334,13 @@ impl<'a> From<Committee<'a>> for Set<'a, MEMBER_SIZE> {
     }
 }
 
+/// The encoding.
+impl AsRef<[u8]> for Committee<'_> {
+    fn as_ref(&self) -> &[u8] {
+        self.as_bytes()
+    }
+}
+
 /// The members in hexadecimal.
 impl fmt::Debug for Committee<'_> {
     fn fmt(&self, f: &mut fmt::Formatter<'_>) -> fmt::Result {

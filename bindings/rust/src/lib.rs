@@ -33,7 +33,8 @@
 //! `value` the value at an index and `get_value` that of a key; `position_of_value` and `get_key`
 //! of a bimap go the other way. `as_bytes` is the whole encoding, whatever the type. The views are
 //! borrowed from it; the types whose names end in `Buf` own it, have the views by `as_view`, and
-//! give it away by `into_bytes`.
+//! give it away by `into_bytes`. Both are `AsRef<[u8]>`, and a reference to either is walked by
+//! `for`, but that to a certificate.
 //!
 //! # By stake
 //!

@@ -381,6 +381,13 @@ fn repeated_key(key_size: usize, value_size: usize, pairs: &[u8], second: usize)
     EncodeError::RepeatedKey { first, second }
 }
 
+/// The encoding.
+impl AsRef<[u8]> for MapView<'_> {
+    fn as_ref(&self) -> &[u8] {
+        self.as_bytes()
+    }
+}
+
 /// The pairs in hexadecimal.
 impl fmt::Debug for MapView<'_> {
     fn fmt(&self, f: &mut fmt::Formatter<'_>) -> fmt::Result {

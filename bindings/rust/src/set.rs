@@ -289,6 +289,13 @@ fn position_in(keys: &[u8], key: &[u8]) -> Option<usize> {
     (view.status == status::OK).then_some(view.index)
 }
 
+/// The encoding.
+impl AsRef<[u8]> for SetView<'_> {
+    fn as_ref(&self) -> &[u8] {
+        self.as_bytes()
+    }
+}
+
 /// The keys in hexadecimal.
 impl fmt::Debug for SetView<'_> {
     fn fmt(&self, f: &mut fmt::Formatter<'_>) -> fmt::Result {
@@ -526,6 +533,13 @@ impl<'a, const N: usize> TryFrom<&'a [u8]> for Set<'a, N> {
 
     fn try_from(input: &'a [u8]) -> Result<Set<'a, N>, Refusal> {
         Set::decode(input)
+    }
+}
+
+/// The encoding.
+impl<const N: usize> AsRef<[u8]> for Set<'_, N> {
+    fn as_ref(&self) -> &[u8] {
+        self.as_bytes()
     }
 }
 

@@ -296,6 +296,57 @@ fn an_owned_form_of_a_read_one_has_its_own_bytes_alone() {
 }
 
 #[test]
+fn views_are_their_bytes_as_their_owned_forms_are() {
+    fn bytes_of(it: impl AsRef<[u8]>) -> Vec<u8> {
+        it.as_ref().to_vec()
+    }
+    let members = committee_bytes(&[[1; 32], [2; 32]]);
+    let committee = Committee::decode(&members).expect("a committee");
+    assert_eq!(bytes_of(committee), members);
+    assert_eq!(bytes_of(Set::from(committee)), members);
+    assert_eq!(bytes_of(committee.to_buf()), members);
+    let (keys, _) = SetView::read(1, b"\x02abmore", ..).expect("a set");
+    assert_eq!(bytes_of(keys), b"\x02ab");
+    assert_eq!(bytes_of(keys.to_buf()), b"\x02ab");
+    let (pairs, _) = MapView::read(1, 1, b"\x02ab\x02yxmore", ..).expect("a map");
+    assert_eq!(bytes_of(pairs), b"\x02ab\x02yx");
+    assert_eq!(bytes_of(pairs.to_buf()), b"\x02ab\x02yx");
+    let (pairs, _) = BiMapView::read(1, 1, b"\x02ab\x02yxmore", ..).expect("a bimap");
+    assert_eq!(bytes_of(&pairs), b"\x02ab\x02yx");
+    assert_eq!(bytes_of(pairs.to_buf()), b"\x02ab\x02yx");
+    let read = Certificate::read(b"\x01x\x01\x04more", CertificateLimits::NONE);
+    let (certificate, _) = read.expect("a certificate");
+    assert_eq!(bytes_of(&certificate), b"\x01x\x01\x04");
+    assert_eq!(bytes_of(certificate.to_buf()), b"\x01x\x01\x04");
+}
+
+#[test]
+fn owned_forms_are_walked_as_their_views_are() {
+    let committee = CommitteeBuf::from_keys(&[[2; 32], [1; 32]]).expect("memory");
+    let mut walked = Vec::new();
+    for member in &committee {
+        walked.push(member);
+    }
+    assert_eq!(
+        walked,
+        committee.as_view().members().iter().collect::<Vec<_>>()
+    );
+    let keys = SetBuf::from_keys(2, [b"ok", b"am"]).expect("memory");
+    let mut walked = Vec::new();
+    for key in &keys {
+        walked.push(key);
+    }
+    assert_eq!(walked, [b"am", b"ok"]);
+    let pairs = [(b"b", b"x"), (b"a", b"y")];
+    let map = MapBuf::from_pairs(1, 1, pairs).expect("memory");
+    let bimap = BiMapBuf::from_pairs(1, 1, pairs).expect("memory");
+    let sorted = [(&b"a"[..], &b"y"[..]), (b"b", b"x")];
+    assert!((&map).into_iter().eq(sorted));
+    assert!((&bimap).into_iter().eq(sorted));
+    assert_eq!((&map).into_iter().rev().len(), 2);
+}
+
+#[test]
 fn keys_and_values_of_another_size_are_told() {
     for (index, length) in [(0, 0), (0, 1), (1, 3), (2, 4), (4, 200)] {
         let mut items = vec![vec![0; 2]; 5];

@@ -2,7 +2,7 @@
 
 use super::map::{MapBuf, pair_bytes};
 use crate::hex::HexPairs;
-use crate::{BiMapError, BiMapView, EncodeError};
+use crate::{BiMapError, BiMapView, EncodeError, Pairs};
 use alloc::borrow::Cow;
 use alloc::vec::Vec;
 use core::fmt;
@@ -162,5 +162,14 @@ impl fmt::Debug for BiMapBuf {
     fn fmt(&self, f: &mut fmt::Formatter<'_>) -> fmt::Result {
         let pairs = HexPairs(self.pairs.as_view().iter());
         f.debug_tuple("BiMapBuf").field(&pairs).finish()
+    }
+}
+
+impl<'a> IntoIterator for &'a BiMapBuf {
+    type Item = (&'a [u8], &'a [u8]);
+    type IntoIter = Pairs<'a>;
+
+    fn into_iter(self) -> Pairs<'a> {
+        self.as_view().iter()
     }
 }

@@ -3,7 +3,7 @@
 use crate::hex::HexItems;
 use crate::{Committee, EncodeError, MEMBER_SIZE, Member, Refusal, Set, SetBuf};
 use alloc::vec::Vec;
-use core::fmt;
+use core::{fmt, slice};
 
 /// The members of a committee, with their encoding: to a [`Committee`] what a `PathBuf` is to a
 /// `Path`.
@@ -132,5 +132,14 @@ impl fmt::Debug for CommitteeBuf {
     fn fmt(&self, f: &mut fmt::Formatter<'_>) -> fmt::Result {
         let members = HexItems(self.members.as_view().iter());
         f.debug_tuple("CommitteeBuf").field(&members).finish()
+    }
+}
+
+impl<'a> IntoIterator for &'a CommitteeBuf {
+    type Item = &'a Member;
+    type IntoIter = slice::Iter<'a, Member>;
+
+    fn into_iter(self) -> slice::Iter<'a, Member> {
+        self.as_view().iter()
     }
 }

@@ -4,7 +4,7 @@ use super::set::append_key;
 use crate::hex::HexPairs;
 use crate::map::Columns;
 use crate::room::append;
-use crate::{EncodeError, MapView, Refusal};
+use crate::{EncodeError, MapView, Pairs, Refusal};
 use alloc::vec::Vec;
 use core::fmt;
 
@@ -160,5 +160,14 @@ impl fmt::Debug for MapBuf {
     fn fmt(&self, f: &mut fmt::Formatter<'_>) -> fmt::Result {
         let pairs = HexPairs(self.as_view().iter());
         f.debug_tuple("MapBuf").field(&pairs).finish()
+    }
+}
+
+impl<'a> IntoIterator for &'a MapBuf {
+    type Item = (&'a [u8], &'a [u8]);
+    type IntoIter = Pairs<'a>;
+
+    fn into_iter(self) -> Pairs<'a> {
+        self.as_view().iter()
     }
 }

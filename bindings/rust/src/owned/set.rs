@@ -3,7 +3,7 @@
 use crate::hex::HexItems;
 use crate::items::Column;
 use crate::room::append;
-use crate::{EncodeError, Refusal, SetView};
+use crate::{EncodeError, Items, Refusal, SetView};
 use alloc::vec::Vec;
 use core::fmt;
 
@@ -144,5 +144,14 @@ impl fmt::Debug for SetBuf {
     fn fmt(&self, f: &mut fmt::Formatter<'_>) -> fmt::Result {
         let keys = HexItems(self.as_view().iter());
         f.debug_tuple("SetBuf").field(&keys).finish()
+    }
+}
+
+impl<'a> IntoIterator for &'a SetBuf {
+    type Item = &'a [u8];
+    type IntoIter = Items<'a>;
+
+    fn into_iter(self) -> Items<'a> {
+        self.as_view().iter()
     }
 }
