@@ -82,7 +82,7 @@ impl<K: Ord, V, A: Allocator> Map<K, V, A> {
     /// Returns the allocator of the map, which is that of its keys. The values of a map that
     /// `from_parts` made may be on another.
     /// ```
-    /// let mut map = Map::try_from_array(alloc, [(2u8, 20u8), (1, 10)])?;
+    /// let map = Map::try_from_array(alloc, [(2u8, 20u8), (1, 10)])?;
     /// let beside = Map::try_from_array(*map.allocator(), [(3u8, 30u8)])?;
     /// assert!(rt; beside.len() == 1);
     /// ```

@@ -1,5 +1,5 @@
 //! Pairs that are inserted one at a time at their places in the order of their keys.
-ghost use Rattle.std.specs.Prelude.{◌≡◌, [], IfOk, OnErr};
+ghost use Rattle.std.specs.Prelude.{◌≡◌, [], IfOk, IsOk, OnErr};
 ghost use Rattle.std.specs.Map.{keys_of, values_of};
 ghost use Rattle.commonware_ordered.specs.Put.{IsPrefix, IsPut};
 ghost use Rattle.commonware_ordered.specs.Strict.{IsStrict};
@@ -41,7 +41,8 @@ impl<K: Ord + Drop, V: Drop, A: Allocator + Copy> SortedEntries<K, V, A> {
     /// Returns an empty builder with room for some of the pairs that are to come. Where none are to
     /// come it allocates nothing.
     pub fn with_room(alloc: A, coming: usize) -> Result<Self, AllocError>
-        ensures { IfOk result (λ entries. entries ≡ []) }
+        ensures blank { IfOk result (λ entries. entries ≡ []) }
+        ensures none { coming ≡ 0 → IsOk result }
     {
         Ok(SortedEntries {
             run: Run::with_room(alloc, coming.min(MOST_ROOM))?,

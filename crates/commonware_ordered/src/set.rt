@@ -62,7 +62,7 @@ impl<T: Ord, A: Allocator> Set<T, A> {
 
     /// Returns the allocator that the set was made on, which holds its items.
     /// ```
-    /// let mut set = Set::try_from_array(alloc, [5u8, 1, 3])?;
+    /// let set = Set::try_from_array(alloc, [5u8, 1, 3])?;
     /// let beside = Set::try_from_array(*set.allocator(), [7u8])?;
     /// assert!(rt; beside.len() == 1);
     /// ```

@@ -80,8 +80,8 @@ impl<K: Ord + Canonical + Read<A> + Drop, V: Read<A> + Drop, A: Allocator + Copy
 }
 
 /// Decodes a map under a range for its length and a configuration each for its keys and values, as
-/// `Map::read_cfg` does, and counts its comparisons of keys: whatever the input, fewer than the
-/// most pairs that the range allows.
+/// `Map::read_cfg` does, and counts its comparisons of keys: whatever the input, none, or fewer
+/// than the most pairs that the range allows.
 pub fn read_map_counted<
     K: Ord + Canonical + Read<A> + Drop,
     V: Read<A> + Drop,

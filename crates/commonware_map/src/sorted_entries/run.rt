@@ -1,5 +1,5 @@
 //! Pairs whose keys are strictly increasing as they come.
-ghost use Rattle.std.specs.Prelude.{◌≡◌, ◌++◌, ◌∷◌, [], IfOk, OnErr, OnOk, true};
+ghost use Rattle.std.specs.Prelude.{◌≡◌, ◌++◌, ◌∷◌, [], IfOk, IsOk, OnErr, OnOk, true};
 ghost use Rattle.std.specs.List.{AllByRecursion, list_any};
 ghost use Rattle.std.specs.List.Sorted.{IsStrictlySortedBy};
 ghost use Rattle.std.specs.Map.{keys_of, values_of};
@@ -36,7 +36,8 @@ impl<K: Ord, V, A: Allocator> Model for Run<K, V, A> {
 impl<K: Ord + Drop, V: Drop, A: Allocator + Copy> Run<K, V, A> {
     /// Returns a run without pairs, with room for `room` of them. At 0 it allocates nothing.
     pub(super) fn with_room(alloc: A, room: usize) -> Result<Self, AllocError>
-        ensures { IfOk result (λ run. run ≡ []) }
+        ensures blank { IfOk result (λ run. run ≡ []) }
+        ensures none { room ≡ 0 → IsOk result }
     {
         Ok(Run {
             keys: Vec::with_capacity(alloc, room)?,

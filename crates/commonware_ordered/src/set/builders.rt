@@ -1,8 +1,9 @@
 //! Builders of sets: of equal items the first stays, or equal items are refused.
-ghost use Rattle.std.specs.Prelude.{IfOk};
+ghost use Rattle.std.specs.Prelude.{IfOk, IsOk};
 ghost use Rattle.std.specs.Iterator.{IsFiniteIterable};
 ghost use Rattle.commonware_base.specs.Taken.{IsMadeOf};
 ghost use Rattle.commonware_ordered.specs.Dedup.{EqualsSameItems, IsDedup};
+ghost use Rattle.commonware_ordered.specs.Strict.{IsStrict};
 ghost use Rattle.commonware_ordered.specs.Whole.{IsRefusedFor, IsSetOfAll, IsWholeSet, IsWholeSetOfClones};
 
 use super::{Set, are_strict};
@@ -47,7 +48,8 @@ impl<T: Ord + Drop, A: Allocator + Copy> Set<T, A> {
     /// assert!(rt; set.as_slice() == [1u8, 3, 5].as_slice());
     /// ```
     pub fn try_from_vec(vec: Vec<T, A>) -> Result<Self, Error>
-        ensures { IsWholeSet T.eq T.cmp vec.items result }
+        ensures whole { IsWholeSet T.eq T.cmp vec.items result }
+        ensures strict { IsStrict T.cmp vec.items → IsOk result }
     {
         if are_strict(&Hidden::new(vec.as_slice()), &mut Uncounted) {
             return Ok(Set { items: vec });

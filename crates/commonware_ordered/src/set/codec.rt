@@ -103,8 +103,8 @@ pub fn set_fault_law<T: Ord + Canonical + Read<A>, A: Allocator>(
 /// Decodes a set under a range for its length and a configuration for its items. The order is
 /// checked once the whole list is read, so a fault of a later item comes before that of the order.
 ///
-/// It counts its comparisons of items: whatever the input, they are fewer than the most items that
-/// the range allows, and none where the input doesn't begin with such a list.
+/// It counts its comparisons of items: whatever the input, none, or fewer than the most items that
+/// the range allows; and none where the input doesn't begin with such a list.
 pub fn read_set_counted<T: Ord + Canonical + Read<A> + Drop, A: Allocator + Copy, C: Counter>(
     alloc: A,
     src: &mut Source<'_>,

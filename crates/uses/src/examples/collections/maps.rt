@@ -55,6 +55,11 @@ fn truncated(rt: &impl Abort, alloc: Global) -> Result<(), Error> {
     let mut map = Map::try_from_array(alloc, [(2u8, 20u8), (1, 10)])?;
     map.truncate(1);
     assert!(rt; map.get_value(&1) == Some(&10) && map.get_value(&2) == None);
+    Ok(())
+}
+
+fn allocators(rt: &impl Abort, alloc: Global) -> Result<(), Error> {
+    let map = Map::try_from_array(alloc, [(2u8, 20u8), (1, 10)])?;
     let beside = Map::try_from_array(*map.allocator(), [(3u8, 30u8)])?;
     assert!(rt; beside.len() == 1);
     Ok(())
@@ -140,6 +145,7 @@ fn examples_of_maps(rt: HostRuntime) {
     assert!(rt; pairs(&rt, rt.alloc()).is_ok());
     assert!(rt; sizes(&rt, rt.alloc()).is_ok());
     assert!(rt; truncated(&rt, rt.alloc()).is_ok());
+    assert!(rt; allocators(&rt, rt.alloc()).is_ok());
     assert!(rt; parts(&rt, rt.alloc()).is_ok());
     assert!(rt; keys(&rt, rt.alloc()).is_ok());
     assert!(rt; borrowed_value(&rt, rt.alloc()).is_ok());

@@ -44,6 +44,11 @@ fn truncated(rt: &impl Abort, alloc: Global) -> Result<(), Error> {
     let mut set = Set::try_from_array(alloc, [5u8, 1, 3])?;
     set.truncate(2);
     assert!(rt; set.as_slice() == [1u8, 3].as_slice());
+    Ok(())
+}
+
+fn allocators(rt: &impl Abort, alloc: Global) -> Result<(), Error> {
+    let set = Set::try_from_array(alloc, [5u8, 1, 3])?;
     let beside = Set::try_from_array(*set.allocator(), [7u8])?;
     assert!(rt; beside.len() == 1);
     Ok(())
@@ -93,6 +98,7 @@ fn examples_of_sets(rt: HostRuntime) {
     assert!(rt; counted(&rt, rt.alloc()).is_ok());
     assert!(rt; sizes(&rt, rt.alloc()).is_ok());
     assert!(rt; truncated(&rt, rt.alloc()).is_ok());
+    assert!(rt; allocators(&rt, rt.alloc()).is_ok());
     assert!(rt; of_an_iterator(&rt, rt.alloc()).is_ok());
     assert!(rt; of_a_list(&rt, rt.alloc()).is_ok());
     assert!(rt; of_a_slice(&rt, rt.alloc()).is_ok());
