@@ -52,6 +52,12 @@ abbrev pub NeedsMemory : Option (List ℕ) → Option (List ℕ) → Type 0
 NeedsMemory old new =
     (s : List ℕ) × ((Gave old new s × ¬ IsCommitteeMemoryFree s) ⊎ (Consumes old new s × (2 ^ 64 ≤ length s)))
 
+-- a run of the command may fail to allocate: a report on bounds always takes memory, the decoding of a committee where
+-- it can't do without
+abbrev pub MayFailToAllocate : Command → Option (List ℕ) → Option (List ℕ) → Type 0
+MayFailToAllocate commands.Read old new = NeedsMemory old new
+MayFailToAllocate (commands.Bounds n) old new = Unit {0}
+
 -- the error names the first fault of s, so it is no allocation failure
 abbrev pub IsFirstFault : List ℕ → Error → Type 0
 IsFirstFault s error = Refuses (committee_fault s) (Unit {0}) error

@@ -1,9 +1,10 @@
 //! A whole run of the program: what it writes, and its exit status.
-ghost use Rattle.std.specs.Prelude.{◌≡◌, ◌≢◌, ◌↔◌, ◌≤◌, map, string_bytes, true, false};
+ghost use Rattle.std.specs.Prelude.{◌≡◌, ◌≢◌, ◌↔◌, ◌≤◌, ◌⊎◌, map, string_bytes, true, false};
 ghost use Rattle.std.specs.Io.KnownBytes.{Appends};
 ghost use Rattle.program_io.specs.Streams.{Gave};
 ghost use Rattle.committee_core.specs.Command.{AskForNone, IsAskedFor};
-ghost use Rattle.committee_core.specs.Run.{IsDone, IsRefused, status_of};
+ghost use Rattle.committee_core.specs.Run.{IsDone, IsRefused, MayFailToAllocate, status_of};
+ghost use Rattle.committee_core.specs.declared.command.Command.{Command};
 
 use crate::command::{Command, parse_args};
 use crate::error::RunError;
@@ -38,6 +39,11 @@ pub fn session<A: Allocator + Copy, R: Read, W: Write, E: Write>(
     ensures bounds { (n : _) → IsAskedFor (map string_bytes words.now) (Command.Bounds n)
         → (input.new ≡ input.old) × (result ≢ 1) }
     ensures statuses { result ≤ 3 }
+    ensures failures { input.old.failed ≡ false → output.old.failed ≡ false → result ≡ 3
+        → (input.new.failed ≡ true) ⊎ (output.new.failed ≡ true)
+        ⊎ ((command : Command) × IsAskedFor (map string_bytes words.now) command
+        × MayFailToAllocate command
+        (R.remaining input.old.inner) (R.remaining input.new.inner)) }
 
     // The devices.
     ensures silent { result ≡ 0 → errors.new ≡ errors.old }
