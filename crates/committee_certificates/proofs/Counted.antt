@@ -119,10 +119,12 @@ module _ (range : Bounds ℕ) (count : ℕ) (start : Source) where
     -- all were read, and they rise
     pub counted_all : rising ≡ true → (begun : Source) → Consumes start begun (varint count)
         → (indices : List ℕ) × Accepts (list_enc varint) (IsWritableSet IsWord nat_cmp) (AreAllowedSigners range)
-        (rest_of start) indices (rest_of now) × AreSignersAt (record { start = begun; count = count; past = past }) indices
+        (rest_of start) indices (rest_of now) × Consumes start now (list_enc varint indices)
+        × AreSignersAt (record { start = begun; count = count; past = past }) indices
     counted_all e begun taken =
         let rises = s.rising_is.0 e in
         let strict = strict_from_rises 0 s.items rises in
+        let all = read_all varint IsWord (λ _. Unit {0}) range count start now s.items s.read in
         let from_both : varint count ++ rest_of begun ≡ varint count ++ (flat_map varint s.items ++ rest_of now) =
         sym taken.rest ∙ s.read.taken.rest ∙ append_assoc (varint count) (flat_map varint s.items) (rest_of now) in (
           s.items,
@@ -132,8 +134,9 @@ module _ (range : Bounds ℕ) (count : ℕ) (start : Source) where
               strict = strict;
             };
             allowed = read_all_allowed varint IsWord (λ _. Unit {0}) range count start now s.items s.read;
-            begins = (read_all varint IsWord (λ _. Unit {0}) range count start now s.items s.read).rest;
+            begins = all.rest;
           },
+          all,
           record {
             strict = strict;
             words = s.read.writable;

@@ -18,7 +18,7 @@ use Rattle.commonware_base.specs.Text.{Accepts, AreBytes, IsByte}
 use Rattle.commonware_base.specs.Varint.{varint}
 use Rattle.commonware_base.proofs.ByteSteps.{byte_short, bytes_join}
 use Rattle.commonware_base.proofs.ReadSteps.{list_faulty, read_outside}
-use Rattle.commonware_base.proofs.SourceLemmas.{consumes_front}
+use Rattle.commonware_base.proofs.SourceLemmas.{consumes_both, consumes_front}
 use Rattle.commonware_base.specs.Words.{IsWord}
 use Rattle.commonware_ordered.specs.Sets.{IsWritableSet}
 use Rattle.std.specs.Ordering.{nat_cmp}
@@ -52,27 +52,37 @@ module _ (value_range signers_range : Bounds ℕ) (count : ℕ) (start now : Sou
 
     module _ (enough : count ≤ length (rest_of now)) (next : Source) (bytes : bytes_of next ≡ bytes_of now)
         (position : position_of next ≡ position_of now + count) where
+      -- the bytes of the value were taken
+      value_taken : Consumes start next (list_enc byte (take count (rest_of now)))
+      value_taken =
+          let value = take count (rest_of now) in
+          let on = consumes_front now next count value bytes position enough refl in
+          subst (Consumes start next)
+          (ap (λ k. varint k ++ value) (sym (length-take-le count (rest_of now) enough))
+          ∙ ap (λ u. varint (length value) ++ u) (sym (bytes_join value)))
+          (consumes_both start now next (varint count) value taken on)
+
       -- the value is the bytes that are counted
       pub value_found : Accepts (list_enc byte) (IsWritableList IsByte) (IsAllowedValue value_range) (rest_of start)
           (take count (rest_of now)) (rest_of next)
       value_found =
           let value = take count (rest_of now) in
           let counted : length (take count (rest_of now)) ≡ count = length-take-le count (rest_of now) enough in
-          let on : Consumes now next (take count (rest_of now)) =
-          consumes_front now next count (take count (rest_of now)) bytes position enough refl in
           record {
             writable = record {
               short = subst (λ k. k < 2 ^ 32) (sym counted) short;
               each = bytes_take count (rest_of now) (rest_bytes now);
             };
             allowed = record { in_range = subst (Within value_range) (sym counted) within; each = each_allowed value };
-            begins =
-                taken.rest ∙ ap (λ t. varint count ++ t) on.rest
-                ∙ sym (append_assoc (varint count) (take count (rest_of now)) (rest_of next))
-                ∙ ap (λ k. (varint k ++ take count (rest_of now)) ++ rest_of next) (sym counted)
-                ∙ ap (λ u. (varint (length (take count (rest_of now))) ++ u) ++ rest_of next)
-                (sym (bytes_join (take count (rest_of now))));
+            begins = value_taken.rest;
           }
+
+      -- and so were those of the certificate, with the signers' after them
+      pub certificate_taken : (indices : List ℕ) (last : Source) → Consumes next last (list_enc varint indices)
+          → Consumes start last (certificate_enc (take count (rest_of now), indices))
+      certificate_taken indices last after =
+          consumes_both start next last (list_enc byte (take count (rest_of now))) (list_enc varint indices) value_taken
+          after
 
       -- what the signers after it are refused for
       pub signers_refused : (error : Error) → Refuses (SignersFault signers_range (rest_of next)) (Unit {0}) error

@@ -1,10 +1,10 @@
 -- The encoding of a certificate: its value as a list of bytes, and then its signers as a set of participants.
-use Rattle.std.specs.Prelude.{ℕ, List, Bool, ◌&&◌, nat_eq}
+use Rattle.std.specs.Prelude.{◌≡◌, ℕ, List, ◌++◌, Bool, ◌&&◌, nat_eq}
 use Rattle.std.specs.Cmp.Lexicographic.{pointwise}
 use Rattle.std.specs.Ordering.{nat_cmp}
 use Rattle.commonware_base.specs.Bytes.{byte, byte_fault}
 use Rattle.commonware_base.specs.Fault.{Fault}
-use Rattle.commonware_base.specs.Lists.{list_enc, IsWritableList, IsAllowedList, ListFault}
+use Rattle.commonware_base.specs.Lists.{list_enc, IsWritableList, IsAllowedList, IsListMemoryFree, ListFault}
 use Rattle.commonware_base.specs.Range.{Bounds}
 use Rattle.commonware_base.specs.Sequence.{sequence_enc, IsWritableSequence, IsAllowedSequence, SequenceFault}
 use Rattle.commonware_base.specs.Text.{IsByte}
@@ -55,3 +55,11 @@ abbrev pub CertificateFault : Bounds ℕ → Bounds ℕ → List ℕ → Fault �
 CertificateFault value signers =
     SequenceFault (list_enc byte) (IsWritableList IsByte) (IsAllowedValue value) (ValueFault value)
     (λ _. SignersFault signers)
+
+-- A certificate is decoded or refused without an allocation where its value is refused so, or where the value is empty
+-- and the signers are decoded or refused so.
+pub data IsCertificateMemoryFree (value signers : Bounds ℕ) (text : List ℕ) : Type 0 where
+  refused_value : (fault : Fault) → ValueFault value text fault
+      → IsListMemoryFree byte_fault (λ _. Unit {0}) value text → IsCertificateMemoryFree value signers text
+  empty_value : (rest : List ℕ) → text ≡ varint 0 ++ rest
+      → IsListMemoryFree varint_fault (λ _. Unit {0}) signers rest → IsCertificateMemoryFree value signers text

@@ -73,6 +73,8 @@ pub fn conflict<M: Faults, T: Ord, A: Allocator>(
     ensures too_few { let n = length committee.now in IsErrOf result TooFew
         ↔ (AreMembers n first.now.signers × AreMembers n second.now.signers
         × (AreTooFew M.faults n first.now.signers ⊎ AreTooFew M.faults n second.now.signers)) }
+    ensures memory { let n = length committee.now in IsErrOf result Memory
+        → (AreQuorum M.faults n first.now.signers × AreQuorum M.faults n second.now.signers) }
     ensures quorums { let n = length committee.now in OnOk result
         (AreQuorum M.faults n first.now.signers × AreQuorum M.faults n second.now.signers) }
     ensures both { IfOk result (AreInBoth first.now.signers second.now.signers) }

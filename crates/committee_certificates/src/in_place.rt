@@ -3,7 +3,7 @@ ghost use Rattle.std.specs.Prelude.{◌≡◌, ◌≤◌, ◌<◌, ◌^◌, ◌�
 ghost use Rattle.std.specs.Ordering.{nat_cmp};
 ghost use Rattle.commonware_base.specs.Lists.{list_enc};
 ghost use Rattle.commonware_base.specs.Refusal.{Refuses};
-ghost use Rattle.commonware_base.specs.Source.{rest_of};
+ghost use Rattle.commonware_base.specs.Source.{rest_of, Consumes};
 ghost use Rattle.commonware_base.specs.Text.{Accepts};
 ghost use Rattle.commonware_base.specs.Varint.{varint};
 ghost use Rattle.commonware_base.specs.Words.{IsWord};
@@ -75,6 +75,7 @@ pub fn find_certificate<'a>(
         × Accepts certificate_enc IsWritableCertificate
         (IsAllowedCertificate value_range signers_range)
         (rest_of src.old) (found.value.now, indices) (rest_of src.new)
+        × Consumes src.old src.new (certificate_enc (found.value.now, indices))
         × AreSignersAt found.signers indices) }
     ensures refused { IfErr result
         (Refuses (CertificateFault value_range signers_range (rest_of src.old)) (Unit {0})) }
@@ -105,6 +106,7 @@ pub fn find_signers<'a>(
     ensures accepted { IfOk result (λ found. (indices : List ℕ)
         × Accepts (list_enc varint) (IsWritableSet IsWord nat_cmp) (AreAllowedSigners range)
         (rest_of src.old) indices (rest_of src.new)
+        × Consumes src.old src.new (list_enc varint indices)
         × AreSignersAt found indices) }
     ensures refused { IfErr result (Refuses (SignersFault range (rest_of src.old)) (Unit {0})) }
     ensures stays { OnErr result (src.new ≡ src.old) }

@@ -1,6 +1,8 @@
 -- Certificates keep the laws of equality and of the codec.
-use Rattle.std.specs.Prelude.{◌≡◌, ℕ, List, nat_eq, true}
-use Rattle.std.proofs.Common.{subst, sym}
+use Rattle.std.specs.Prelude.{◌≡◌, ℕ, ◌<◌, ◌^◌, List, [], ◌∷◌, ◌++◌, length, nat_eq, true}
+use Rattle.std.proofs.Common.{◌∙◌, arith, subst, sym}
+use Rattle.std.proofs.lemmas.List.{append_assoc}
+use Rattle.std.specs.List.{flat_map}
 use Rattle.std.specs.Cmp.{IsEquivalence, IsPartialEquivalence}
 use Rattle.std.specs.Cmp.{and_equiv, nat_eq_equiv, on_equiv, partial_equiv_from_equiv, unsigned_ties}
 use Rattle.std.specs.Cmp.Lexicographic.{lists_equiv, pointwise}
@@ -10,22 +12,23 @@ use Rattle.commonware_base.specs.Bytes.{byte, byte_fault}
 use Rattle.commonware_base.specs.laws.ByteLaws.{byte_canonical, byte_laws, byte_prefix_free}
 use Rattle.commonware_base.specs.Fault.{Fault}
 use Rattle.commonware_base.specs.laws.ListLaws.{list_bytes, list_canonical, list_laws, list_prefix_free}
-use Rattle.commonware_base.specs.Lists.{list_enc, IsWritableList}
+use Rattle.commonware_base.specs.Lists.{empty, list_enc, IsListMemoryFree, IsWritableList}
 use Rattle.commonware_base.specs.laws.VecLaws.{vec_of}
 use Rattle.commonware_base.specs.laws.NumberLaws.{number_canonical, number_prefix_free, varint_laws}
 use Rattle.commonware_base.specs.Range.{Bounds}
 use Rattle.commonware_base.specs.Sequence.{sequence_case}
 use Rattle.commonware_base.specs.laws.SequenceLaws.{sequence_bytes, sequence_canonical}
 use Rattle.commonware_base.specs.laws.SequenceLaws.{sequence_laws, sequence_one_case, sequence_prefix_free}
-use Rattle.commonware_base.specs.Text.{AreBytes, CanonicalLaws, IsByte, IsPrefixFree, ReadLaws}
+use Rattle.commonware_base.specs.Text.{Accepts, AreBytes, CanonicalLaws, IsByte, IsPrefixFree, ReadLaws}
 use Rattle.commonware_base.specs.Varint.{varint, varint_fault}
-use Rattle.commonware_base.specs.laws.VarintLaws.{varint_bytes}
+use Rattle.commonware_base.specs.laws.VarintLaws.{varint_bytes, varint_split}
 use Rattle.commonware_base.specs.Words.{IsWord}
 use Rattle.commonware_ordered.specs.laws.SetLaws.{set_canonical, set_laws, set_prefix_free}
 use Rattle.commonware_ordered.specs.Sets.{IsWritableSet}
 use Rattle.committee_certificates.specs.Certificates.{are_equal_parts, certificate_enc, parts}
 use Rattle.committee_certificates.specs.Certificates.{AreAllowedSigners, IsAllowedCertificate, IsAllowedValue}
-use Rattle.committee_certificates.specs.Certificates.{CertificateFault, IsWritableCertificate}
+use Rattle.committee_certificates.specs.Certificates.{CertificateFault, IsCertificateMemoryFree}
+use Rattle.committee_certificates.specs.Certificates.{IsWritableCertificate, empty_value, refused_value}
 use Rattle.committee_certificates.specs.Certificates.{SignersFault, ValueFault}
 use Rattle.committee_certificates.specs.declared.certificate.Certificate.{Certificate}
 
@@ -105,6 +108,30 @@ module _ (value signers : Bounds ℕ) where
       (IsAllowedValue value) (ValueFault value) value_laws
       (λ _. AreAllowedSigners signers) (λ _. SignersFault signers) (λ _. signers_laws)
       (λ x z y _ _ _ h. h) (λ x z s f _ _ _ w. w)
+
+  -- where the value's decoding isn't memory-free, the certificate's isn't
+  pub value_needs_memory : (s : List ℕ) → ¬ IsListMemoryFree byte_fault (λ _. Unit {0}) value s
+      → ¬ IsCertificateMemoryFree value signers s
+  value_needs_memory s needs (refused_value f w free) = needs free
+  value_needs_memory s needs (empty_value rest e free) = needs (empty rest e)
+
+  -- nor where the value is decoded, and the signers' decoding isn't memory-free
+  pub signers_need_memory : (s v rest : List ℕ)
+      → Accepts (list_enc byte) (IsWritableList IsByte) (IsAllowedValue value) s v rest
+      → ¬ IsListMemoryFree varint_fault (λ _. Unit {0}) signers rest → ¬ IsCertificateMemoryFree value signers s
+  signers_need_memory s v rest a needs (refused_value f w free) = value_laws.accepted_no_fault s v rest f a w
+  signers_need_memory s v rest a needs (empty_value t e free) = go v a.writable.short split
+    where
+      split : varint (length v) ++ (flat_map byte v ++ rest) ≡ varint 0 ++ t
+      split = sym (append_assoc (varint (length v)) (flat_map byte v) rest) ∙ sym a.begins ∙ e
+
+      go : (xs : List ℕ) → length xs < 2 ^ 32 → varint (length xs) ++ (flat_map byte xs ++ rest) ≡ varint 0 ++ t → ⊥
+      go [] short same =
+          needs (subst (IsListMemoryFree varint_fault (λ _. Unit {0}) signers)
+          (sym (varint_split 0 0 rest t short short same).1) free)
+      go (x ∷ xs) short same =
+          let none = (varint_split (length (x ∷ xs)) 0 (flat_map byte (x ∷ xs) ++ rest) t short (omega arith) same).0 in
+          omega (arith, none)
 
   -- two faults of an input are in one error case
   pub certificate_one_case : (s : List ℕ) (f g : Fault)

@@ -10,7 +10,7 @@ ghost use Rattle.commonware_base.specs.laws.TextLaws.{canonical_on, laws_on, pre
 ghost use Rattle.commonware_ordered.specs.Costs.{IsOrderCost};
 ghost use Rattle.committee_certificates.specs.Certificates.{are_equal_parts, certificate_enc, parts};
 ghost use Rattle.committee_certificates.specs.Certificates.{CertificateFault, IsAllowedCertificate};
-ghost use Rattle.committee_certificates.specs.Certificates.{IsWritableCertificate};
+ghost use Rattle.committee_certificates.specs.Certificates.{IsCertificateMemoryFree, IsWritableCertificate};
 ghost use Rattle.committee_certificates.specs.laws.CertificateLaws.{certificate_bytes, certificate_laws};
 ghost use Rattle.committee_certificates.specs.laws.CertificateLaws.{certificate_canonical, certificate_of};
 ghost use Rattle.committee_certificates.specs.laws.CertificateLaws.{certificate_prefix_free};
@@ -63,7 +63,7 @@ impl<A: Allocator + Copy> Read<A> for Certificate<A> {
 
     ghost fault = { λ c. CertificateFault c.0 c.1 };
 
-    ghost memory_free = { λ _ _. ⊥ };
+    ghost memory_free = { λ c. IsCertificateMemoryFree c.0 c.1 };
 
     ghost read_laws = { λ alloc c. laws_on parts certificate_enc IsWritableCertificate
         (IsAllowedCertificate c.0 c.1) (CertificateFault c.0 c.1)
@@ -78,7 +78,7 @@ impl<A: Allocator + Copy> Read<A> for Certificate<A> {
 
 /// Decodes a certificate under a range for the length of its value and one for the number of its
 /// signers, as `Certificate::read_cfg` does, and counts the comparisons of two signers: whatever
-/// the input, fewer than the most signers that the range allows.
+/// the input, none, or fewer than the most signers that the range allows.
 pub fn read_certificate_counted<A: Allocator + Copy, C: Counter>(
     alloc: A,
     src: &mut Source<'_>,
@@ -91,7 +91,8 @@ pub fn read_certificate_counted<A: Allocator + Copy, C: Counter>(
         (rest_of src.old) (parts c) (rest_of src.new)) }
     ensures consumed { IfOk result (λ c. Consumes src.old src.new (certificate_enc (parts c))) }
     ensures refused { IfErr result
-        (Refuses (CertificateFault value_range signers_range (rest_of src.old)) ⊥) }
+        (Refuses (CertificateFault value_range signers_range (rest_of src.old))
+        (IsCertificateMemoryFree value_range signers_range (rest_of src.old))) }
     ensures stays { OnErr result (src.new ≡ src.old) }
     ensures cost { (most : ℕ) → ((n : ℕ) → Within signers_range n → n ≤ most)
         → IsOrderCost most (C.counted count.old) (C.counted count.new) }
