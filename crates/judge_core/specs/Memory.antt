@@ -14,6 +14,8 @@ use Rattle.judge_questions.specs.declared.limits.Limits.{Limits}
 use Rattle.judge_questions.specs.declared.verb.Verb.TheVariants.{Position, Quorum, WeightedQuorum, Weights}
 use Rattle.judge_verdicts.specs.Builds.{MayFailToAllocateToBuild}
 use Rattle.judge_verdicts.specs.Collections.{MayFailToAllocateToFindIn, lists_of}
+use Rattle.judge_verdicts.specs.Conflicts.{MayFailToAllocateToJudgeBoth}
+use Rattle.judge_verdicts.specs.Quorums.{MayFailToAllocateToJudge}
 use Rattle.judge_verdicts.specs.Readings.{reading_of}
 use Rattle.judge_verdicts.specs.Weights.{listed_numbers}
 use Rattle.judge_core.specs.Answered.{AsksBy, asked_from}
@@ -24,8 +26,8 @@ pub record IsReadingMemoryFree (line : List ℕ) : Type 0 where
   pub reading : (form : Form) (limits : Limits) (text : List ℕ) → IsQuestion line form limits text
       → (reading_of form limits).MemoryFree text
 
--- No allocation fails as the line is answered: none of its words is long; what is read or built or looked up takes no
--- memory, as weights that are listed do; and it asks nothing of certificates, since these are read with memory.
+-- No allocation fails as the line is answered: none of its words is long; and what is read or built or looked up takes
+-- no memory, as certificates and weights that are read do.
 pub record IsLineMemoryFree (line : List ℕ) : Type 0 where
   pub readings : IsReadingMemoryFree line
   pub builds : (unique : Bool) (collection : Collection) (text : List ℕ)
@@ -33,15 +35,19 @@ pub record IsLineMemoryFree (line : List ℕ) : Type 0 where
       → ¬ MayFailToAllocateToBuild (lists_of collection) text
   pub positions : (set : SetForm) (text item : List ℕ)
       → AsksBy line Position (λ words. AsksForPosition words set text item) → ¬ MayFailToAllocateToFindIn set text item
-  pub quorums : (k n : ℕ) (text : List ℕ) → ¬ AsksBy line Quorum (λ words. AsksForQuorum words k n text)
+  pub quorums : (k n : ℕ) (text : List ℕ) → AsksBy line Quorum (λ words. AsksForQuorum words k n text)
+      → ¬ MayFailToAllocateToJudge text
   pub conflicts : (by_slot : Bool) (k n : ℕ) (one other : List ℕ)
-      → ¬ AsksBy line (both_verb by_slot) (λ words. AsksForConflict words k n one other)
+      → AsksBy line (both_verb by_slot) (λ words. AsksForConflict words k n one other)
+      → ¬ MayFailToAllocateToJudgeBoth one other
   pub weights : (k : ℕ) (list : List ℕ) → AsksBy line Weights (λ words. AsksForWeights words k list)
       → ¬ MayFailToAllocateToBuild listed_numbers list
   pub weighted_quorums : (k : ℕ) (list text : List ℕ)
-      → ¬ AsksBy line WeightedQuorum (λ words. AsksForWeightedQuorum words k list text)
+      → AsksBy line WeightedQuorum (λ words. AsksForWeightedQuorum words k list text)
+      → ¬ MayFailToAllocateToBuild listed_numbers list
   pub weighted_conflicts : (by_slot : Bool) (k : ℕ) (list one other : List ℕ)
-      → ¬ AsksBy line (weighted_both_verb by_slot) (λ words. AsksForWeightedConflict words k list one other)
+      → AsksBy line (weighted_both_verb by_slot) (λ words. AsksForWeightedConflict words k list one other)
+      → ¬ MayFailToAllocateToBuild listed_numbers list
 
 -- each of the numbered lines has fewer than 4096 bytes and is answered without an allocation
 abbrev pub AreMemoryFree : List (ℕ × List ℕ) → Type 0

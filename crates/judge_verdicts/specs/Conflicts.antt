@@ -4,6 +4,7 @@ use Rattle.committee_certificates.specs.Signers.{AreInBoth, AreMembers, AreQuoru
 use Rattle.commonware_utils.specs.Codec.{list_enc, varint}
 use Rattle.commonware_utils.specs.Faults.{IsFaultTolerance}
 use Rattle.judge_questions.specs.Limits.{full}
+use Rattle.judge_verdicts.specs.Quorums.{MayFailToAllocateToJudge}
 use Rattle.judge_verdicts.specs.Readings.{a_certificate}
 use Rattle.judge_verdicts.specs.Whole.{IsMisread, IsWhole}
 use Rattle.judge_verdicts.specs.declared.conflict.NoConflict.{NoConflict}
@@ -21,6 +22,10 @@ AreMisread first second what =
     IsMisread (a_certificate full full) first what
     ⊎ ((one : List ℕ × List ℕ) × IsWhole (a_certificate full full) first one
     × IsMisread (a_certificate full full) second what)
+
+-- an allocation may fail as one of the certificates is read, or once both are
+abbrev pub MayFailToAllocateToJudgeBoth : List ℕ → List ℕ → Type 0
+MayFailToAllocateToJudgeBoth first second = MayFailToAllocateToJudge first ⊎ MayFailToAllocateToJudge second
 
 -- a quorum of members signed each of two certificates, and no one else
 abbrev pub AreBothOfQuorums : ℕ → ℕ → List ℕ × List ℕ → List ℕ × List ℕ → Type 0

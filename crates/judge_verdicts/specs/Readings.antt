@@ -12,7 +12,7 @@ use Rattle.commonware_utils.specs.Ordered.{IsWritableSet, SetFault, map_enc, IsW
 use Rattle.commonware_utils.specs.Ordered.{IsWritableBiMap, BiMapFault}
 use Rattle.commonware_utils.specs.Vec.{IsWritableNonEmpty, NonEmptyFault}
 use Rattle.committee_certificates.specs.Certificates.{CertificateFault, IsAllowedCertificate, IsWritableCertificate}
-use Rattle.committee_certificates.specs.Certificates.{certificate_enc}
+use Rattle.committee_certificates.specs.Certificates.{IsCertificateMemoryFree, certificate_enc}
 use Rattle.judge_questions.specs.declared.form.Form.{Form}
 use Rattle.judge_questions.specs.declared.form.Form.TheVariants.{U8, U32, U64, Varint, Usize, Participant, Member}
 use Rattle.judge_questions.specs.declared.form.Form.TheVariants.{VecU8, VecU32, VecU64, VecVecU8, VecVecVecU8, SetU8}
@@ -214,7 +214,7 @@ a_certificate value signers = record {
   Writable = IsWritableCertificate;
   Allowed = IsAllowedCertificate value signers;
   HasFault = CertificateFault value signers;
-  MemoryFree = λ _. ⊥;
+  MemoryFree = IsCertificateMemoryFree value signers;
   items = λ parts. length parts.1;
 }
 

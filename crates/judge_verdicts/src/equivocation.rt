@@ -1,9 +1,10 @@
 //! Accountability: the members that signed two different decisions for one slot.
-ghost use Rattle.std.specs.Prelude.{◌≤◌, IfOk};
+ghost use Rattle.std.specs.Prelude.{◌≤◌, IfErr, IfOk};
 ghost use Rattle.std.specs.Ordering.{nat_cmp};
 ghost use Rattle.committee_certificates.specs.Certificates.{parts};
 ghost use Rattle.commonware_utils.specs.Codec.{IsWord};
 ghost use Rattle.commonware_utils.specs.Ordered.{IsWritableSet};
+ghost use Rattle.judge_verdicts.specs.Conflicts.{MayFailToAllocateToJudgeBoth};
 ghost use Rattle.judge_verdicts.specs.Equivocations.{IsEquivocation, IsEquivocationOf};
 ghost use Rattle.judge_verdicts.specs.Whole.{items_of};
 
@@ -36,7 +37,8 @@ pub enum NoEquivocation {
 
 /// The bytes of the set of the members of a committee of `n`, at a resilience `k`, that signed two
 /// different decisions for one slot, each with a quorum; or why there are none. What is wrong with
-/// the first comes first. The error is an allocation failure. `k` is at least 2 and `n` at least 1.
+/// the first comes first. The error is an allocation failure, and comes only where the reading of
+/// one isn't memory-free, or one was read. `k` is at least 2 and `n` at least 1.
 pub fn equivocation_of<A: Allocator + Copy>(
     alloc: A,
     k: u32,
@@ -46,8 +48,9 @@ pub fn equivocation_of<A: Allocator + Copy>(
 ) -> Result<Result<Vec<u8, A>, NoEquivocation>, AllocError>
     requires resilience { 2 ≤ k }
     requires some { 1 ≤ n }
-    ensures { IfOk result (λ members.
+    ensures members { IfOk result (λ members.
         IsEquivocation k n first.now second.now (items_of members)) }
+    ensures memory { IfErr result (λ _. MayFailToAllocateToJudgeBoth first.now second.now) }
 {
     match read_both(alloc, first, second)? {
         Ok((one, other)) => by_slot(alloc, k, n, &one, &other),

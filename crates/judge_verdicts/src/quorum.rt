@@ -1,6 +1,7 @@
 //! Whether a quorum signed a certificate.
-ghost use Rattle.std.specs.Prelude.{◌≡◌, ◌≤◌, IfOk, OnOk};
-ghost use Rattle.judge_verdicts.specs.Quorums.{IsChecked, IsSlotOf, checked_of, slot_items};
+ghost use Rattle.std.specs.Prelude.{◌≡◌, ◌≤◌, IfErr, IfOk, OnOk};
+ghost use Rattle.judge_verdicts.specs.Quorums.{IsChecked, IsSlotOf, MayFailToAllocateToJudge};
+ghost use Rattle.judge_verdicts.specs.Quorums.{checked_of, slot_items};
 
 use crate::certificates::read_certificate;
 use crate::whole::Misread;
@@ -37,7 +38,8 @@ pub enum NoQuorum {
 }
 
 /// What a quorum of a committee of `n`, at a resilience `k`, signed by the certificate, or why none
-/// did. The error is an allocation failure. `k` is at least 2 and `n` at least 1.
+/// did. The error is an allocation failure, and comes only where the reading isn't memory-free, or
+/// the certificate was read. `k` is at least 2 and `n` at least 1.
 pub fn quorum_of<A: Allocator + Copy>(
     alloc: A,
     k: u32,
@@ -46,7 +48,8 @@ pub fn quorum_of<A: Allocator + Copy>(
 ) -> Result<Result<Checked<A>, NoQuorum>, AllocError>
     requires resilience { 2 ≤ k }
     requires some { 1 ≤ n }
-    ensures { IfOk result (λ checked. IsChecked k n text.now (checked_of checked)) }
+    ensures checked { IfOk result (λ checked. IsChecked k n text.now (checked_of checked)) }
+    ensures memory { IfErr result (λ _. MayFailToAllocateToJudge text.now) }
 {
     let certificate = match read_certificate(alloc, text)? {
         Ok(certificate) => certificate,

@@ -1,12 +1,14 @@
 //! Accountability: the members that signed two different decisions for one slot, where quorums are
 //! by weight.
-ghost use Rattle.std.specs.Prelude.{◌≤◌, IfOk};
+ghost use Rattle.std.specs.Prelude.{◌≤◌, IfErr, IfOk};
 ghost use Rattle.std.specs.Ordering.{nat_cmp};
 ghost use Rattle.committee_certificates.specs.Certificates.{parts};
 ghost use Rattle.commonware_utils.specs.Codec.{IsWord};
 ghost use Rattle.commonware_utils.specs.Ordered.{IsWritableSet};
+ghost use Rattle.judge_verdicts.specs.Builds.{MayFailToAllocateToBuild};
 ghost use Rattle.judge_verdicts.specs.WeightedConflicts.{weighed_of};
 ghost use Rattle.judge_verdicts.specs.WeightedEquivocations.{IsWeightedEquivocation, IsWeightedEquivocationOf};
+ghost use Rattle.judge_verdicts.specs.Weights.{listed_numbers};
 
 use crate::certificates::read_both;
 use crate::weighted_members::{WeightedMembers, weighed};
@@ -40,8 +42,9 @@ pub enum NoWeightedEquivocation {
 
 /// The members that signed two different decisions for one slot, each with a quorum by weight at a
 /// resilience `k`, and what they weigh; or why there are none. What is wrong with the weights comes
-/// first, and then what is wrong with the first certificate. The error is an allocation failure.
-/// `k` is at least 2.
+/// first, and then what is wrong with the first certificate. The error is an allocation failure,
+/// and comes only where the reading of the weights isn't memory-free, or they were read. `k` is at
+/// least 2.
 pub fn weighted_equivocation_of<A: Allocator + Copy>(
     alloc: A,
     k: u32,
@@ -50,8 +53,9 @@ pub fn weighted_equivocation_of<A: Allocator + Copy>(
     second: &[u8],
 ) -> Result<Result<WeightedMembers<A>, NoWeightedEquivocation>, AllocError>
     requires resilience { 2 ≤ k }
-    ensures { IfOk result (λ named.
+    ensures members { IfOk result (λ named.
         IsWeightedEquivocation k list.now first.now second.now (weighed_of named)) }
+    ensures memory { IfErr result (λ _. MayFailToAllocateToBuild listed_numbers list.now) }
 {
     let weights = match read_weights(alloc, list)? {
         Ok(weights) => weights,

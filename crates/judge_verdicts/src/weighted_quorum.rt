@@ -1,7 +1,9 @@
 //! Whether signers that weigh a quorum signed a certificate.
-ghost use Rattle.std.specs.Prelude.{◌≤◌, IfOk};
+ghost use Rattle.std.specs.Prelude.{◌≤◌, IfErr, IfOk};
 ghost use Rattle.committee_certificates.specs.Certificates.{parts};
+ghost use Rattle.judge_verdicts.specs.Builds.{MayFailToAllocateToBuild};
 ghost use Rattle.judge_verdicts.specs.WeightedQuorums.{IsCheckedByWeight, IsWeightChecked, weight_checked_of};
+ghost use Rattle.judge_verdicts.specs.Weights.{listed_numbers};
 
 use crate::certificates::read_certificate;
 use crate::quorum::{SlotAndDecision, copied_slot};
@@ -43,8 +45,8 @@ pub enum NoWeightedQuorum {
 }
 
 /// What signers that weigh a quorum, at a resilience `k`, signed by the certificate, or why none
-/// did. What is wrong with the weights comes first. The error is an allocation failure. `k` is at
-/// least 2.
+/// did. What is wrong with the weights comes first. The error is an allocation failure, and comes
+/// only where the reading of the weights isn't memory-free, or they were read. `k` is at least 2.
 pub fn weighted_quorum_of<A: Allocator + Copy>(
     alloc: A,
     k: u32,
@@ -52,8 +54,9 @@ pub fn weighted_quorum_of<A: Allocator + Copy>(
     text: &[u8],
 ) -> Result<Result<WeightChecked<A>, NoWeightedQuorum>, AllocError>
     requires resilience { 2 ≤ k }
-    ensures { IfOk result (λ checked.
+    ensures checked { IfOk result (λ checked.
         IsWeightChecked k list.now text.now (weight_checked_of checked)) }
+    ensures memory { IfErr result (λ _. MayFailToAllocateToBuild listed_numbers list.now) }
 {
     let weights = match read_weights(alloc, list)? {
         Ok(weights) => weights,

@@ -5,9 +5,9 @@ use Rattle.std.specs.Prelude.{IfNone, IfSome}
 use Rattle.judge_questions.specs.Tasks.{IsTask}
 use Rattle.judge_verdicts.specs.Builds.{MayFailToAllocateToBuild}
 use Rattle.judge_verdicts.specs.Collections.{IsBuilt, IsFoundIn, MayFailToAllocateToFindIn, lists_of}
-use Rattle.judge_verdicts.specs.Conflicts.{IsConflict}
+use Rattle.judge_verdicts.specs.Conflicts.{IsConflict, MayFailToAllocateToJudgeBoth}
 use Rattle.judge_verdicts.specs.Equivocations.{IsEquivocation}
-use Rattle.judge_verdicts.specs.Quorums.{IsChecked, checked_of}
+use Rattle.judge_verdicts.specs.Quorums.{IsChecked, MayFailToAllocateToJudge, checked_of}
 use Rattle.judge_verdicts.specs.Whole.{items_of}
 use Rattle.judge_verdicts.specs.declared.numbers.Refutation.{Refutation}
 use Rattle.judge_verdicts.proofs.Results.{on_error}
@@ -59,7 +59,7 @@ unfolding reply_text
 returns-in_ok-conflict_of-in-Conflict-clause-told g c =
     let f = c.in-Conflict in
     let members = items_of c.in_ok-conflict_of-in-Conflict.field-0 in
-    let half = subst (λ t. IsConflict f.k f.n t c.as_slice-in-Conflict-2.result.now members) c.as_slice-in-Conflict.ensures c.in_ok-conflict_of-in-Conflict.ensures in
+    let half = subst (λ t. IsConflict f.k f.n t c.as_slice-in-Conflict-2.result.now members) c.as_slice-in-Conflict.ensures c.in_ok-conflict_of-in-Conflict.ensures.members in
     let right = subst (λ t. IsConflict f.k f.n f.first t members) c.as_slice-in-Conflict-2.ensures half in
     λ line task. named f.k f.n f.first f.second members (asked_conflict {A = g.row.A.Denot} line f.k f.n f.first f.second (subst (IsTask line) f.is task)) right refl refl
 
@@ -68,7 +68,7 @@ unfolding reply_text
 returns-in_ok-quorum_of-in-Quorum-clause-told g c =
     let q = c.in-Quorum in
     let made = checked_of c.in_ok-quorum_of-in-Quorum.field-0 in
-    let right = subst (λ t. IsChecked q.k q.n t made) c.as_slice-in-Quorum.ensures c.in_ok-quorum_of-in-Quorum.ensures in
+    let right = subst (λ t. IsChecked q.k q.n t made) c.as_slice-in-Quorum.ensures c.in_ok-quorum_of-in-Quorum.ensures.checked in
     λ line task. checked q.k q.n q.text made (asked_quorum {A = g.row.A.Denot} line q.k q.n q.text (subst (IsTask line) q.is task)) right refl refl
 
 pub returns-in_ok-equivocation_of-in-Equivocation-clause-told : goal.returns-in_ok-equivocation_of-in-Equivocation-clause-told
@@ -76,7 +76,7 @@ unfolding reply_text
 returns-in_ok-equivocation_of-in-Equivocation-clause-told g c =
     let e = c.in-Equivocation in
     let members = items_of c.in_ok-equivocation_of-in-Equivocation.field-0 in
-    let half = subst (λ t. IsEquivocation e.k e.n t c.as_slice-in-Equivocation-2.result.now members) c.as_slice-in-Equivocation.ensures c.in_ok-equivocation_of-in-Equivocation.ensures in
+    let half = subst (λ t. IsEquivocation e.k e.n t c.as_slice-in-Equivocation-2.result.now members) c.as_slice-in-Equivocation.ensures c.in_ok-equivocation_of-in-Equivocation.ensures.members in
     let right = subst (λ t. IsEquivocation e.k e.n e.first t members) c.as_slice-in-Equivocation-2.ensures half in
     λ line task. accused e.k e.n e.first e.second members (asked_equivocation {A = g.row.A.Denot} line e.k e.n e.first e.second (subst (IsTask line) e.is task)) right refl refl
 
@@ -98,20 +98,25 @@ returns-in_err-position-in-Position-clause-memory g c =
 pub returns-in_err-conflict_of-in-Conflict-clause-memory : goal.returns-in_err-conflict_of-in-Conflict-clause-memory
 returns-in_err-conflict_of-in-Conflict-clause-memory g c =
     let f = c.in-Conflict in
+    let half = subst (λ t. MayFailToAllocateToJudgeBoth t c.as_slice-in-Conflict-2.result.now) c.as_slice-in-Conflict.ensures c.in_err-conflict_of-in-Conflict.ensures.memory in
+    let may = subst (λ t. MayFailToAllocateToJudgeBoth f.first t) c.as_slice-in-Conflict-2.ensures half in
     on_error ((line : List ℕ) → IsTask line c.args.task.now → ¬ IsLineMemoryFree line) c.from_residual-in_err-conflict_of-in-Conflict.result
-    (λ line task free. free.conflicts false f.k f.n f.first f.second (asked_conflict {A = g.row.A.Denot} line f.k f.n f.first f.second (subst (IsTask line) f.is task)))
+    (λ line task free. free.conflicts false f.k f.n f.first f.second (asked_conflict {A = g.row.A.Denot} line f.k f.n f.first f.second (subst (IsTask line) f.is task)) may)
 
 pub returns-in_err-quorum_of-in-Quorum-clause-memory : goal.returns-in_err-quorum_of-in-Quorum-clause-memory
 returns-in_err-quorum_of-in-Quorum-clause-memory g c =
     let q = c.in-Quorum in
+    let may = subst MayFailToAllocateToJudge c.as_slice-in-Quorum.ensures c.in_err-quorum_of-in-Quorum.ensures.memory in
     on_error ((line : List ℕ) → IsTask line c.args.task.now → ¬ IsLineMemoryFree line) c.from_residual-in_err-quorum_of-in-Quorum.result
-    (λ line task free. free.quorums q.k q.n q.text (asked_quorum {A = g.row.A.Denot} line q.k q.n q.text (subst (IsTask line) q.is task)))
+    (λ line task free. free.quorums q.k q.n q.text (asked_quorum {A = g.row.A.Denot} line q.k q.n q.text (subst (IsTask line) q.is task)) may)
 
 pub returns-in_err-equivocation_of-in-Equivocation-clause-memory : goal.returns-in_err-equivocation_of-in-Equivocation-clause-memory
 returns-in_err-equivocation_of-in-Equivocation-clause-memory g c =
     let e = c.in-Equivocation in
+    let half = subst (λ t. MayFailToAllocateToJudgeBoth t c.as_slice-in-Equivocation-2.result.now) c.as_slice-in-Equivocation.ensures c.in_err-equivocation_of-in-Equivocation.ensures.memory in
+    let may = subst (λ t. MayFailToAllocateToJudgeBoth e.first t) c.as_slice-in-Equivocation-2.ensures half in
     on_error ((line : List ℕ) → IsTask line c.args.task.now → ¬ IsLineMemoryFree line) c.from_residual-in_err-equivocation_of-in-Equivocation.result
-    (λ line task free. free.conflicts true e.k e.n e.first e.second (asked_equivocation {A = g.row.A.Denot} line e.k e.n e.first e.second (subst (IsTask line) e.is task)))
+    (λ line task free. free.conflicts true e.k e.n e.first e.second (asked_equivocation {A = g.row.A.Denot} line e.k e.n e.first e.second (subst (IsTask line) e.is task)) may)
 
 pub reply_by_weight-requires : goal.reply_by_weight-requires
 reply_by_weight-requires g c =

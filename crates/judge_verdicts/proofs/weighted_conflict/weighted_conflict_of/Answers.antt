@@ -19,10 +19,10 @@ module _ (k : ℕ) (list first second weights : List ℕ) (one other : List ℕ 
   read (Err (Unlisted why)) h = absurd h
   read (Err (Unread what)) h = absurd h
 
-pub returns-in-Ok-2 : goal.returns-in-Ok-2
-returns-in-Ok-2 g c =
+pub returns-in-Ok-2-clause-members : goal.returns-in-Ok-2-clause-members
+returns-in-Ok-2-clause-members g c =
     let listed = rw c.in-Ok.is at c.in_ok-weights.ensures.listed in
-    let whole = rw c.in-Ok-2.is at c.in_ok-one.ensures in
+    let whole = rw c.in-Ok-2.is at c.in_ok-one.ensures.read in
     let p = parts c.in-Ok-2.one in
     let q = parts c.in-Ok-2.other in
     if_ok_so (λ named. IsWeightedConflictOf c.args.k c.in-Ok.weights p q (weighed_of named)) (λ named. IsWeightedConflict c.args.k c.args.list.now c.args.first.now c.args.second.now (weighed_of named)) c.among.result
