@@ -43,8 +43,8 @@
  *
  * `block` is never NULL: where `ok` is false, it is any valid address. `size` may be 0. A block is
  * aligned to each power of two up to 16 that divides its size. The first `kept` bytes of a block
- * stay. The three are for the archive alone: the shared library hides its own, which take the C
- * library's heap. */
+ * stay. None of the three may throw an exception or longjmp out of the call. They are for the
+ * archive alone: the shared library hides its own, which take the C library's heap. */
 #ifndef COMMONWARE_H
 #define COMMONWARE_H
 
