@@ -1,6 +1,6 @@
 -- The value of a certificate, found where it is, and then its signers.
 use Rattle.std.proofs.Common.{◌≡◌, ℕ, zero, suc, ◌+◌, ◌<◌, ◌≤◌, ◌^◌, List, [], ◌∷◌, ◌++◌, length, take, refl, ap, sym, ◌∙◌, arith, subst}
-use Rattle.std.proofs.lemmas.List.{append_assoc, length-take-le}
+use Rattle.std.proofs.lemmas.List.{length-take-le}
 use Rattle.commonware_base.specs.declared.codec.source.Source.{Source}
 use Rattle.commonware_base.specs.declared.codec.error.Error.{Error}
 use Rattle.commonware_base.specs.Bytes.{byte, byte_fault}
@@ -77,13 +77,6 @@ module _ (value_range signers_range : Bounds ℕ) (count : ℕ) (start now : Sou
             begins = value_taken.rest;
           }
 
-      -- and so were those of the certificate, with the signers' after them
-      pub certificate_taken : (indices : List ℕ) (last : Source) → Consumes next last (list_enc varint indices)
-          → Consumes start last (certificate_enc (take count (rest_of now), indices))
-      certificate_taken indices last after =
-          consumes_both start next last (list_enc byte (take count (rest_of now))) (list_enc varint indices) value_taken
-          after
-
       -- what the signers after it are refused for
       pub signers_refused : (error : Error) → Refuses (SignersFault signers_range (rest_of next)) (Unit {0}) error
           → Refuses (CertificateFault value_range signers_range (rest_of start)) (Unit {0}) error
@@ -92,16 +85,22 @@ module _ (value_range signers_range : Bounds ℕ) (count : ℕ) (start now : Sou
           (CertificateFault value_range signers_range (rest_of start)) (Unit {0}) (Unit {0})
           (λ f v. bad_second (take count (rest_of now)) (rest_of next) value_found v) (λ never. never) error w
 
-      -- and the signers after it
-      pub certificate_found : (indices rest : List ℕ)
+      -- and the signers after it, whose bytes were taken as well
+      pub certificate_found : (indices : List ℕ) (last : Source)
           → Accepts (list_enc varint) (IsWritableSet IsWord nat_cmp) (AreAllowedSigners signers_range) (rest_of next) indices
-          rest
+          (rest_of last)
+          → Consumes next last (list_enc varint indices)
           → Accepts certificate_enc IsWritableCertificate (IsAllowedCertificate value_range signers_range) (rest_of start)
-          (take count (rest_of now), indices) rest
-      certificate_found indices rest accepted = record {
-        writable = (value_found.writable, accepted.writable);
-        allowed = (value_found.allowed, accepted.allowed);
-        begins =
-            value_found.begins ∙ ap (λ t. list_enc byte (take count (rest_of now)) ++ t) accepted.begins
-            ∙ sym (append_assoc (list_enc byte (take count (rest_of now))) (list_enc varint indices) rest);
-      }
+          (take count (rest_of now), indices) (rest_of last)
+          × Consumes start last (certificate_enc (take count (rest_of now), indices))
+      certificate_found indices last accepted after =
+          let whole =
+          consumes_both start next last (list_enc byte (take count (rest_of now))) (list_enc varint indices) value_taken
+          after in (
+            record {
+              writable = (value_found.writable, accepted.writable);
+              allowed = (value_found.allowed, accepted.allowed);
+              begins = whole.rest;
+            },
+            whole,
+          )

@@ -3,8 +3,7 @@ use Rattle.commonware_base.proofs.Errors.{err_along}
 use Rattle.commonware_base.specs.Source.{rest_of, Consumes}
 use Rattle.commonware_base.specs.Text.{Accepts}
 use Rattle.committee_certificates.specs.Certificates.{certificate_enc, IsAllowedCertificate, IsWritableCertificate}
-use Rattle.committee_certificates.proofs.FoundValue.{certificate_found, certificate_taken, signers_refused, value_lacks}
-use Rattle.committee_certificates.proofs.FoundValue.{value_outside}
+use Rattle.committee_certificates.proofs.FoundValue.{certificate_found, signers_refused, value_lacks, value_outside}
 use Rattle.committee_certificates.proofs.in_place.find_certificate.Goals as goal
 
 pub returns-then-not-contains-clause-refused : goal.returns-then-not-contains-clause-refused
@@ -33,17 +32,11 @@ returns-clause-accepted c =
     certificate_found c.args.value_range c.args.signers_range c.in_ok-length.length c.args.src.now c.read_varint.new.src
     c.in_ok-length.ensures.fits c.in_ok-length.ensures.consumed (c.if-not-contains.ensures.0 refl)
     (omega (arith, c.remaining.ensures, c.if-remaining-length.false)) c.advance.new.self c.advance.ensures.bytes
-    c.advance.ensures.position indices (rest_of c.find_signers.new.src) accepted in
-    let whole =
-    certificate_taken c.args.value_range c.args.signers_range c.in_ok-length.length c.args.src.now c.read_varint.new.src
-    c.in_ok-length.ensures.fits c.in_ok-length.ensures.consumed (c.if-not-contains.ensures.0 refl)
-    (omega (arith, c.remaining.ensures, c.if-remaining-length.false)) c.advance.new.self c.advance.ensures.bytes
-    c.advance.ensures.position indices c.find_signers.new.src taken in (
-      indices,
-      subst (λ r. Accepts certificate_enc IsWritableCertificate
-          (IsAllowedCertificate c.args.value_range c.args.signers_range) (rest_of c.args.src.now)
-          (take c.in_ok-length.length r, indices) (rest_of c.find_signers.new.src)) (sym c.rest.ensures) found,
-      subst (λ r. Consumes c.args.src.now c.find_signers.new.src
-          (certificate_enc (take c.in_ok-length.length r, indices))) (sym c.rest.ensures) whole,
-      signers,
-    )
+    c.advance.ensures.position indices c.find_signers.new.src accepted taken in
+    let (whole, consumed) =
+    subst (λ r. Accepts certificate_enc IsWritableCertificate
+    (IsAllowedCertificate c.args.value_range c.args.signers_range) (rest_of c.args.src.now)
+    (take c.in_ok-length.length r, indices) (rest_of c.find_signers.new.src)
+    × Consumes c.args.src.now c.find_signers.new.src (certificate_enc (take c.in_ok-length.length r, indices)))
+    (sym c.rest.ensures) found in
+    (indices, whole, consumed, signers)
