@@ -23,9 +23,11 @@ AreMisread first second what =
     ⊎ ((one : List ℕ × List ℕ) × IsWhole (a_certificate full full) first one
     × IsMisread (a_certificate full full) second what)
 
--- an allocation may fail as one of the certificates is read, or once both are
+-- an allocation may fail as the first certificate is read; where it is one, as the second is read, or once both are
 abbrev pub MayFailToAllocateToJudgeBoth : List ℕ → List ℕ → Type 0
-MayFailToAllocateToJudgeBoth first second = MayFailToAllocateToJudge first ⊎ MayFailToAllocateToJudge second
+MayFailToAllocateToJudgeBoth first second =
+    (¬ (a_certificate full full).MemoryFree first)
+    ⊎ ((one : List ℕ × List ℕ) × IsWhole (a_certificate full full) first one × MayFailToAllocateToJudge second)
 
 -- a quorum of members signed each of two certificates, and no one else
 abbrev pub AreBothOfQuorums : ℕ → ℕ → List ℕ × List ℕ → List ℕ × List ℕ → Type 0

@@ -1,5 +1,5 @@
 //! Certificates, each the whole of an input.
-ghost use Rattle.std.specs.Prelude.{◌⊎◌, IfErr, IfOk, MatchResult};
+ghost use Rattle.std.specs.Prelude.{◌⊎◌, ℕ, IfErr, IfOk, List, MatchResult};
 ghost use Rattle.committee_certificates.specs.Certificates.{parts};
 ghost use Rattle.judge_questions.specs.Limits.{full};
 ghost use Rattle.judge_verdicts.specs.Conflicts.{AreMisread, AreWhole};
@@ -27,8 +27,8 @@ pub(crate) fn read_certificate<A: Allocator + Copy>(
 }
 
 /// The certificates whose encodings the inputs are, or why one of them is that of none, the first
-/// before the second. The error is an allocation failure, and comes only where the reading of one
-/// isn't memory-free.
+/// before the second. The error is an allocation failure, and comes only where the reading of the
+/// first isn't memory-free, or where it is a certificate and the reading of the second isn't.
 pub(crate) fn read_both<A: Allocator + Copy>(
     alloc: A,
     first: &[u8],
@@ -38,7 +38,8 @@ pub(crate) fn read_both<A: Allocator + Copy>(
         (λ both. AreWhole first.now second.now (parts both.0) (parts both.1))
         (AreMisread first.now second.now)) }
     ensures memory { IfErr result (λ _. (¬ (a_certificate full full).MemoryFree first.now)
-        ⊎ (¬ (a_certificate full full).MemoryFree second.now)) }
+        ⊎ ((one : List ℕ × List ℕ) × IsWhole (a_certificate full full) first.now one
+        × (¬ (a_certificate full full).MemoryFree second.now))) }
 {
     let one = match read_certificate(alloc, first)? {
         Ok(one) => one,

@@ -32,8 +32,9 @@ pub enum NoConflict {
 
 /// The bytes of the set of the members of a committee of `n`, at a resilience `k`, that signed both
 /// of two certificates for different values, or why there are none. What is wrong with the first
-/// comes first. The error is an allocation failure, and comes only where the reading of one isn't
-/// memory-free, or one was read. `k` is at least 2 and `n` at least 1.
+/// comes first. The error is an allocation failure, and comes only where the reading of the first
+/// isn't memory-free, or where it is a certificate and the second is one or isn't read without
+/// memory. `k` is at least 2 and `n` at least 1.
 pub fn conflict_of<A: Allocator + Copy>(
     alloc: A,
     k: u32,
