@@ -113,9 +113,11 @@ halved_within base size window k r more room one low high = ⊎_elim before afte
     after : base + (size - window) ≤ k → Goal r
     after h = subst Goal (sym (one.0 h)) (omega arith, omega arith)
 
--- a sum of three comparisons' results times a quarter is at most three quarters
-pub passed_at_most : (q a b c : ℕ) → a ≤ 1 → b ≤ 1 → c ≤ 1 → q * (a + b + c) ≤ q * 3
-passed_at_most q a b c x y z = mul-le q (a + b + c) q 3 (omega arith) (omega arith)
+-- what is left of places that are quartered is inside the list
+pub quartered_inside : (base size q all a b c : ℕ) → 4 * q ≤ size → base + size ≤ all → a ≤ 1 → b ≤ 1 → c ≤ 1
+    → base + q * (a + b + c) + (size - 3 * q) ≤ all
+quartered_inside base size q all a b c room within x y z =
+    let most = mul-le q (a + b + c) q 3 (omega arith) (omega arith) in omega arith
 
 -- where the only place that can hold an equal item holds none, none does
 pub none_from_only : {X : Type 0} (eq : X → X → Bool) (xs : List X) (x : X) (place : ℕ)

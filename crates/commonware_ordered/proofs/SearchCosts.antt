@@ -1,44 +1,54 @@
 -- How many comparisons the search makes.
-use Rattle.std.proofs.Common.{◌≡◌, ◌⊎◌, inl, inr, ℕ, zero, suc, ◌+◌, ◌-◌, ◌*◌, ◌/◌, ◌^◌, ◌<◌, ◌≤◌, refl, arith, ⊎_elim}
+use Rattle.std.proofs.Common.{◌≡◌, ◌⊎◌, inl, inr, ℕ, zero, suc, ◌+◌, ◌*◌, ◌^◌, ◌<◌, ◌≤◌, arith, ⊎_elim}
 use native.Mathlib.Numerals.{unary_clauses}
 
 -- Before a step that quarters there were `old` comparisons, and now there are `new`: where `size` places are left of fewer
 -- than 2^k, three halves of j are left of those of k.
 abbrev pub IsLeft : ℕ → ℕ → ℕ → ℕ → Type 0
 IsLeft old new size k =
-    (j : ℕ) × (2 * new + 3 * j ≤ 2 * old + 3 * k) × (size < 2 ^ j + 3) × ((size < 2 ^ j) ⊎ (5 ≤ size))
+    (j : ℕ) × (2 * new + 3 * j ≤ 2 * old + 3 * k) × ((size < 2 ^ j) ⊎ ((2 ≤ j) × (size < 2 ^ j + 3)))
 
 -- at first
 pub left_at_first : (old size k : ℕ) → size < 2 ^ k → IsLeft old old size k
-left_at_first old size k h = (k, omega arith, omega arith, inl h)
+left_at_first old size k h = (k, omega arith, inl h)
 
 -- a step of three comparisons
-pub left_by_quarter : (old new n1 n2 n3 size k : ℕ) → n1 ≤ new + 1 → n2 ≤ n1 + 1 → n3 ≤ n2 + 1 → 16 < size
-    → IsLeft old new size k → IsLeft old n3 (size - 3 * (size / 4)) k
-left_by_quarter old new n1 n2 n3 size k e1 e2 e3 more (zero, e, room, side) = let a : size < 1 + 3 = room in absurd (omega arith)
-left_by_quarter old new n1 n2 n3 size k e1 e2 e3 more (suc zero, e, room, side) = let a : size < 2 + 3 = room in absurd (omega arith)
-left_by_quarter old new n1 n2 n3 size k e1 e2 e3 more (suc (suc i), e, room, side) =
-    let a = simp unary_clauses at room in
-    let f = simp unary_clauses at e in
-    (i, omega arith, omega arith, inr (omega arith))
+pub left_by_quarter : (old new next size left k : ℕ) → (next ≤ new + 3) × (4 * left ≤ size + 9) → 16 < size
+    → IsLeft old new size k → IsLeft old next left k
+left_by_quarter old new next size left k cost more (j, e, side) = go j e (⊎_elim (λ h. omega arith) (λ h. h.1) side)
+  where
+    many : (i : ℕ) → size < 2 ^ suc (suc i) + 3 → 2 ≤ i
+    many zero room = let a : size < 4 + 3 = room in absurd (omega arith)
+    many (suc zero) room = let a : size < 8 + 3 = room in absurd (omega arith)
+    many (suc (suc i)) room = omega arith
+
+    go : (j : ℕ) → 2 * new + 3 * j ≤ 2 * old + 3 * k → size < 2 ^ j + 3 → IsLeft old next left k
+    go zero e room = let a : size < 1 + 3 = room in absurd (omega arith)
+    go (suc zero) e room = let a : size < 2 + 3 = room in absurd (omega arith)
+    go (suc (suc i)) e room =
+        let one = cost.0 in
+        let less = cost.1 in
+        let a = simp unary_clauses at room in
+        let f = simp unary_clauses at e in
+        (i, omega arith, inr (many i room, omega arith))
 
 -- at the end
 pub cost_of_quarters : (old new size k last : ℕ) → size ≤ 16 → IsLeft old new size k → ((j : ℕ) → size ≤ 2 ^ j → last ≤ new + j)
     → 2 * last ≤ 2 * old + 3 * k
-cost_of_quarters old new size k last few (j, e, room, side) halves = ⊎_elim low (high j e room) side
+cost_of_quarters old new size k last few (j, e, side) halves = ⊎_elim low (λ h. high j e h.0 h.1) side
   where
     low : size < 2 ^ j → 2 * last ≤ 2 * old + 3 * k
     low h = let a = halves j (omega arith) in omega arith
 
-    high : (i : ℕ) → 2 * new + 3 * i ≤ 2 * old + 3 * k → size < 2 ^ i + 3 → 5 ≤ size → 2 * last ≤ 2 * old + 3 * k
-    high zero e room some = let a : size < 1 + 3 = room in absurd (omega arith)
-    high (suc zero) e room some = let a : size < 2 + 3 = room in absurd (omega arith)
-    high (suc (suc zero)) e room some =
+    high : (i : ℕ) → 2 * new + 3 * i ≤ 2 * old + 3 * k → 2 ≤ i → size < 2 ^ i + 3 → 2 * last ≤ 2 * old + 3 * k
+    high zero e some room = absurd (omega arith)
+    high (suc zero) e some room = absurd (omega arith)
+    high (suc (suc zero)) e some room =
         let a : size < 4 + 3 = room in
         let b : last ≤ new + 3 = halves 3 (omega arith) in
         let f : 2 * new + 3 * 2 ≤ 2 * old + 3 * k = e in
         omega arith
-    high (suc (suc (suc i))) e room some =
+    high (suc (suc (suc i))) e some room =
         let b : last ≤ new + 4 = halves 4 few in
         let f = simp unary_clauses at e in
         omega arith
@@ -99,9 +109,12 @@ pub half_left_at_first : (old size k : ℕ) → size ≤ 2 ^ k → IsHalfLeft ol
 half_left_at_first old size k h = (k, omega arith, h)
 
 -- a step of one comparison
-pub left_by_half : (old new next size k : ℕ) → next ≤ new + 1 → 1 < size → IsHalfLeft old new size k → IsHalfLeft old next (size - size / 2) k
-left_by_half old new next size k one more (zero, e, room) = let a : size ≤ 1 = room in absurd (omega arith)
-left_by_half old new next size k one more (suc i, e, room) =
+pub left_by_half : (old new next size left k : ℕ) → (next ≤ new + 1) × (2 * left ≤ size + 1) → 1 < size
+    → IsHalfLeft old new size k → IsHalfLeft old next left k
+left_by_half old new next size left k cost more (zero, e, room) = let a : size ≤ 1 = room in absurd (omega arith)
+left_by_half old new next size left k cost more (suc i, e, room) =
+    let one = cost.0 in
+    let less = cost.1 in
     let a = simp unary_clauses at room in
     let f = simp unary_clauses at e in
     (i, omega arith, omega arith)

@@ -97,11 +97,39 @@ fn last_steps<T: Ord, C: Counter>(
 /// The most items for which the search halves rather than quarters.
 const FEW: usize = 16;
 
+/// Quarters the `size` places from `base` on, which are more than `FEW`. It returns where those
+/// that are left begin, and how many they are: after three comparisons at most (size + 9) / 4.
+///
+/// It compares with the items at three places, which divide the others in four, and adds up the
+/// results: what follows depends on no branch that a processor could mispredict.
+#[inline(always)]
+fn quartering_step<T: Ord, C: Counter>(
+    items: &Hidden<'_, T>,
+    base: usize,
+    size: usize,
+    item: &T,
+    count: &mut C,
+) -> (usize, usize)
+    requires strict { IsStrict T.cmp (items_of items.now) }
+    requires inside { base + size ≤ length (items_of items.now) }
+    requires many { 16 < size }
+    requires within { IsWithin T.eq (items_of items.now) item.now base size }
+    ensures inside { result.0 + result.1 ≤ length (items_of items.now) }
+    ensures within { IsWithin T.eq (items_of items.now) item.now result.0 result.1 }
+    ensures cost { (C.counted count.new ≤ C.counted count.old + 3)
+        × (4 * result.1 ≤ size + 9) }
+{
+    let quarter = size / 4;
+    let passed = reached(items, base + quarter, item, count)
+        + reached(items, base + 2 * quarter, item, count)
+        + reached(items, base + 3 * quarter, item, count);
+    (base + quarter * passed, size - 3 * quarter)
+}
+
 /// Returns the position of the item that equals the one sought, or `None` where none does.
 ///
-/// Each step compares with the items at three places, which divide the list in four, and adds up
-/// the results: the next step depends on no branch that a processor could mispredict. It takes one
-/// and a half comparisons where halving takes one, so the last few are halved.
+/// A step that quarters takes one and a half comparisons where halving takes one, so the last few
+/// are halved.
 #[inline(always)]
 fn narrowed<T: Ord, C: Counter>(items: &Hidden<'_, T>, item: &T, count: &mut C) -> Option<usize>
     requires { IsStrict T.cmp (items_of items.now) }
@@ -112,12 +140,9 @@ fn narrowed<T: Ord, C: Counter>(items: &Hidden<'_, T>, item: &T, count: &mut C) 
     let mut base = 0;
     let mut size = items.len();
     while size > FEW {
-        let quarter = size / 4;
-        let passed = reached(items, base + quarter, item, count)
-            + reached(items, base + 2 * quarter, item, count)
-            + reached(items, base + 3 * quarter, item, count);
-        base += quarter * passed;
-        size -= 3 * quarter;
+        let (next, left) = quartering_step(items, base, size, item, count);
+        base = next;
+        size = left;
     }
     let place = last_steps(items, base, size, item, count);
     if place >= items.len() {
@@ -127,6 +152,35 @@ fn narrowed<T: Ord, C: Counter>(items: &Hidden<'_, T>, item: &T, count: &mut C) 
         Some(place)
     } else {
         None
+    }
+}
+
+/// Halves the `size` places from `base` on, which are two or more. It returns where those that are
+/// left begin, and how many they are: after one comparison at most half, rounded up.
+#[inline(always)]
+fn halving_step<T: Ord, C: Counter>(
+    items: &Hidden<'_, T>,
+    base: usize,
+    size: usize,
+    item: &T,
+    count: &mut C,
+) -> (usize, usize)
+    requires strict { IsStrict T.cmp (items_of items.now) }
+    requires inside { base + size ≤ length (items_of items.now) }
+    requires many { 1 < size }
+    requires within { IsWithin T.eq (items_of items.now) item.now base size }
+    ensures inside { result.0 + result.1 ≤ length (items_of items.now) }
+    ensures some { 1 ≤ result.1 }
+    ensures within { IsWithin T.eq (items_of items.now) item.now result.0 result.1 }
+    ensures cost { (C.counted count.new ≤ C.counted count.old + 1)
+        × (2 * result.1 ≤ size + 1) }
+{
+    let step = size / 2;
+    let middle = base + step;
+    if items.cmp_from(middle, item, count).is_gt() {
+        (base, size - step)
+    } else {
+        (middle, size - step)
     }
 }
 
@@ -144,14 +198,9 @@ fn halved<T: Ord, C: Counter>(items: &Hidden<'_, T>, item: &T, count: &mut C) ->
     }
     let mut base = 0;
     while size > 1 {
-        let step = size / 2;
-        let middle = base + step;
-        if items.cmp_from(middle, item, count).is_gt() {
-            size -= step;
-        } else {
-            base = middle;
-            size -= step;
-        }
+        let (next, left) = halving_step(items, base, size, item, count);
+        base = next;
+        size = left;
     }
     if items.cmp_from(base, item, count).is_eq() {
         Some(base)

@@ -1,5 +1,5 @@
 -- How many comparisons a search makes that halves what is left, and leaves out what it compared with.
-use Rattle.std.proofs.Common.{ℕ, zero, suc, ◌+◌, ◌/◌, ◌^◌, ◌<◌, ◌≤◌, arith}
+use Rattle.std.proofs.Common.{ℕ, zero, suc, ◌+◌, ◌*◌, ◌^◌, ◌<◌, ◌≤◌, arith}
 use native.Mathlib.Numerals.{unary_clauses}
 
 -- Before a step there were `old` comparisons, and now there are `new`: of those of k, j are left.
@@ -11,7 +11,7 @@ pub halving_at_first : (old size k : ℕ) → size < 2 ^ k → IsHalvingLeft old
 halving_at_first old size k h = (k, omega arith, h)
 
 -- a step of one comparison
-pub left_by_halving : (old new next size half k : ℕ) → next ≤ new + 1 → 0 < size → half ≤ size / 2 → IsHalvingLeft old new size k → IsHalvingLeft old next half k
+pub left_by_halving : (old new next size half k : ℕ) → next ≤ new + 1 → 0 < size → 2 * half ≤ size → IsHalvingLeft old new size k → IsHalvingLeft old next half k
 left_by_halving old new next size half k one some less (zero, e, room) = let a : size < 1 = room in absurd (omega arith)
 left_by_halving old new next size half k one some less (suc i, e, room) =
     let a = simp unary_clauses at room in

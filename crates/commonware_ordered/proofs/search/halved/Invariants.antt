@@ -1,4 +1,4 @@
-use Rattle.std.proofs.Common.{ℕ, ◌≤◌, ◌<◌, ◌^◌, length, ◌+◌}
+use Rattle.std.proofs.Common.{ℕ, ◌≤◌, ◌^◌, length, ◌+◌}
 use Rattle.commonware_ordered.specs.Hidden.{items_of}
 use Rattle.commonware_ordered.specs.Strict.{IsWithin}
 use Rattle.commonware_ordered.proofs.SearchCosts.{IsHalfLeft}

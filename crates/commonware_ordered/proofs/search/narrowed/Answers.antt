@@ -1,23 +1,15 @@
-use Rattle.std.proofs.Common.{◌≤◌, ◌*◌, ◌/◌, sym, ap, ◌∙◌, arith}
+use Rattle.std.proofs.Common.{sym, ◌∙◌, arith}
 use Rattle.commonware_ordered.specs.Hidden.{items_of}
 use Rattle.commonware_ordered.proofs.SearchCosts.{left_by_quarter, cost_of_quarters}
-use Rattle.commonware_ordered.proofs.Narrowing.{quartered_within, passed_at_most, none_from_only}
+use Rattle.commonware_ordered.proofs.Narrowing.{none_from_only}
 use Rattle.commonware_ordered.proofs.search.narrowed.Goals as goal
 
 pub loop-size-preserved : goal.loop-size-preserved
-loop-size-preserved g c =
-    let base = c.loop-size.base in
-    let size = c.loop-size.size in
-    let quarter = size / 4 in
-    let room : 4 * quarter ≤ size = omega arith in
-    let most = passed_at_most quarter c.reached.result c.reached-in-loop-size.result c.reached-in-loop-size-2.result c.reached.ensures.bound c.reached-in-loop-size.ensures.bound c.reached-in-loop-size-2.ensures.bound in
-    let inside = c.loop-size.invariant.0 in (
-      omega arith,
-      λ k there h.
-          let p = c.loop-size.invariant.1 k there h in
-          quartered_within base size quarter k c.reached.result c.reached-in-loop-size.result c.reached-in-loop-size-2.result room (c.reached.ensures.value k there h) (c.reached-in-loop-size.ensures.value k there h) (c.reached-in-loop-size-2.ensures.value k there h) p.0 p.1,
-      λ k few. left_by_quarter (g.C.Counter.counted c.args.count.now) (g.C.Counter.counted c.loop-size.count) (g.C.Counter.counted c.reached.new.count) (g.C.Counter.counted c.reached-in-loop-size.new.count) (g.C.Counter.counted c.reached-in-loop-size-2.new.count) size k c.reached.ensures.cost c.reached-in-loop-size.ensures.cost c.reached-in-loop-size-2.ensures.cost c.loop-size-test.true (c.loop-size.invariant.2 k few),
-    )
+loop-size-preserved g c = (
+  c.quartering_step-next.ensures.inside,
+  c.quartering_step-next.ensures.within,
+  λ k few. left_by_quarter (g.C.Counter.counted c.args.count.now) (g.C.Counter.counted c.loop-size.count) (g.C.Counter.counted c.quartering_step-next.new.count) c.loop-size.size c.quartering_step-next.result.1 k c.quartering_step-next.ensures.cost c.loop-size-test.true (c.loop-size.invariant.2 k few),
+)
 
 pub returns-then-place-len-clause-place : goal.returns-then-place-len-clause-place
 returns-then-place-len-clause-place g c =

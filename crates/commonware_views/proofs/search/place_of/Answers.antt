@@ -1,4 +1,4 @@
-use Rattle.std.proofs.Common.{◌≡◌, ◌∙◌, ◌+◌, ◌-◌, ◌/◌, ◌<◌, ◌≤◌, ℕ, get_or, arith, ap, sym, subst}
+use Rattle.std.proofs.Common.{◌≡◌, ◌∙◌, ◌+◌, ◌-◌, ◌<◌, ℕ, get_or, arith, ap, sym, subst}
 use Rattle.std.specs.Prelude.{Some}
 use Rattle.std.specs.List.{slice_get}
 use Rattle.std.specs.Simd.{first_chunks}
@@ -6,9 +6,10 @@ use Rattle.std.specs.declared.result.Result.{Result}
 use Rattle.std.specs.declared.result.Result.TheVariants.{Ok, Err}
 use Rattle.std.specs.declared.cmp.Ordering.TheVariants.{Less, Greater}
 use Rattle.std.proofs.lemmas.Map.Lookups.{exact_bytes}
+use Rattle.std.proofs.lemmas.Nat.{mul-le}
 use Rattle.std.proofs.lemmas.Option.{slice_get_read, slice_get_within, get_or_from_slice_get}
 use Rattle.commonware_sequence.specs.FixedBytes.{bytes_cmp}
-use Rattle.commonware_views.proofs.Chunks.{chunk_at, chunk_inside, chunks_count}
+use Rattle.commonware_views.proofs.Chunks.{chunk_at, chunks_count}
 use Rattle.commonware_views.proofs.Halving.{left_by_halving, halving_at_first, found_by_halving, cost_of_halving}
 use Rattle.commonware_views.proofs.NoGap.{not_in_gap, same_place}
 use Rattle.commonware_views.specs.Lists.{IsGapFor}
@@ -19,15 +20,10 @@ abbrev told_place : Result ℕ ℕ → ℕ
 told_place (Ok n) = n
 told_place (Err n) = n
 
--- the place that was compared is inside
-inside : (low high n : ℕ) → low < high → high ≤ n → low + (high - low) / 2 < n
-inside low high n some within = omega (arith, some, within)
-
-pub item_at-requires : goal.item_at-requires
-item_at-requires g c =
-    let middle = c.loop-low.low + (c.loop-low.high - c.loop-low.low) / 2 in
-    let within = inside c.loop-low.low c.loop-low.high c.args.count c.loop-low-test.true c.loop-low.invariant.1 in
-    omega (arith, chunk_inside c.args.size c.args.count middle within, c.requires)
+pub compare_middle-middle-requires-clause-inside : goal.compare_middle-middle-requires-clause-inside
+compare_middle-middle-requires-clause-inside g c =
+    let most = mul-le c.loop-low.high c.args.size c.args.count c.args.size c.loop-low.invariant.1 (omega arith) in
+    omega (arith, most, c.requires)
 
 pub loop-low-preserved-in-Less : goal.loop-low-preserved-in-Less
 loop-low-preserved-in-Less g c =
@@ -35,16 +31,19 @@ loop-low-preserved-in-Less g c =
     let count = c.args.count in
     let s = c.args.bytes.now in
     let items = first_chunks size count s in
-    let middle = c.loop-low.low + (c.loop-low.high - c.loop-low.low) / 2 in
-    let within = inside c.loop-low.low c.loop-low.high count c.loop-low-test.true c.loop-low.invariant.1 in
+    let middle = c.compare_middle-middle.result.0 in
+    let up = c.compare_middle-middle.ensures.inside.0 in
+    let down = c.compare_middle-middle.ensures.inside.1 in
+    let less = c.compare_middle-middle.ensures.cost.2 in
+    let within : middle < count = omega (arith, down, c.loop-low.invariant.1) in
     let back : middle ≡ middle + 1 - 1 = omega arith in (
-      omega (arith, c.loop-low-test.true),
+      omega (arith, down),
       c.loop-low.invariant.1,
       (λ _ d. subst (λ n. bytes_cmp (get_or items n d) c.new-key.result ≡ Less) back
-          (ap (λ k. bytes_cmp k c.new-key.result) (chunk_at size count middle s d within ∙ sym c.item_at.ensures ∙ sym c.new-item.ensures)
-          ∙ sym c.order.ensures.value ∙ c.in-Less.is)),
+          (ap (λ k. bytes_cmp k c.new-key.result) (chunk_at size count middle s d within)
+          ∙ sym c.compare_middle-middle.ensures.value ∙ c.in-Less.is)),
       c.loop-low.invariant.3,
-      λ k few. left_by_halving (g.C.Counter.counted c.args.counter.now) (g.C.Counter.counted c.loop-low.counter) (g.C.Counter.counted c.order.new.counter) (c.loop-low.high - c.loop-low.low) (c.loop-low.high - (middle + 1)) k c.order.ensures.cost (omega (arith, c.loop-low-test.true)) (omega (arith, c.loop-low-test.true)) (c.loop-low.invariant.4 k few),
+      λ k few. left_by_halving (g.C.Counter.counted c.args.counter.now) (g.C.Counter.counted c.loop-low.counter) (g.C.Counter.counted c.compare_middle-middle.new.counter) (c.loop-low.high - c.loop-low.low) (c.loop-low.high - (middle + 1)) k c.compare_middle-middle.ensures.cost.0 (omega (arith, up, down)) less (c.loop-low.invariant.4 k few),
     )
 
 pub loop-low-preserved : goal.loop-low-preserved
@@ -52,14 +51,16 @@ loop-low-preserved g c =
     let size = c.args.size in
     let count = c.args.count in
     let s = c.args.bytes.now in
-    let middle = c.loop-low.low + (c.loop-low.high - c.loop-low.low) / 2 in
-    let within = inside c.loop-low.low c.loop-low.high count c.loop-low-test.true c.loop-low.invariant.1 in (
-      omega arith,
+    let middle = c.compare_middle-middle.result.0 in
+    let up = c.compare_middle-middle.ensures.inside.0 in
+    let down = c.compare_middle-middle.ensures.inside.1 in
+    let within : middle < count = omega (arith, down, c.loop-low.invariant.1) in (
+      up,
       omega (arith, within),
       c.loop-low.invariant.2,
-      (λ _ d. ap (λ k. bytes_cmp k c.new-key.result) (chunk_at size count middle s d within ∙ sym c.item_at.ensures ∙ sym c.new-item.ensures)
-          ∙ sym c.order.ensures.value ∙ c.in-Greater.is),
-      λ k few. left_by_halving (g.C.Counter.counted c.args.counter.now) (g.C.Counter.counted c.loop-low.counter) (g.C.Counter.counted c.order.new.counter) (c.loop-low.high - c.loop-low.low) (middle - c.loop-low.low) k c.order.ensures.cost (omega (arith, c.loop-low-test.true)) (omega (arith, c.loop-low-test.true)) (c.loop-low.invariant.4 k few),
+      (λ _ d. ap (λ k. bytes_cmp k c.new-key.result) (chunk_at size count middle s d within)
+          ∙ sym c.compare_middle-middle.ensures.value ∙ c.in-Greater.is),
+      λ k few. left_by_halving (g.C.Counter.counted c.args.counter.now) (g.C.Counter.counted c.loop-low.counter) (g.C.Counter.counted c.compare_middle-middle.new.counter) (c.loop-low.high - c.loop-low.low) (middle - c.loop-low.low) k c.compare_middle-middle.ensures.cost.0 (omega (arith, up, down)) c.compare_middle-middle.ensures.cost.1 (c.loop-low.invariant.4 k few),
     )
 
 pub returns-in-Equal-clause-found : goal.returns-in-Equal-clause-found
@@ -69,10 +70,11 @@ returns-in-Equal-clause-found g c =
     let s = c.args.bytes.now in
     let items = first_chunks size count s in
     let key = c.args.key.now in
-    let middle = c.loop-low.low + (c.loop-low.high - c.loop-low.low) / 2 in
-    let within = inside c.loop-low.low c.loop-low.high count c.loop-low-test.true c.loop-low.invariant.1 in
-    let same : c.new-item.result ≡ key = exact_bytes _ c.new-key.result (sym c.order.ensures.value ∙ c.in-Equal.is) ∙ c.new-key.ensures in
-    let item : key ≡ get_or items middle key = sym same ∙ c.new-item.ensures ∙ c.item_at.ensures ∙ sym (chunk_at size count middle s key within) in
+    let middle = c.compare_middle-middle.result.0 in
+    let down = c.compare_middle-middle.ensures.inside.1 in
+    let within : middle < count = omega (arith, down, c.loop-low.invariant.1) in
+    let same : _ ≡ key = exact_bytes _ c.new-key.result (sym c.compare_middle-middle.ensures.value ∙ c.in-Equal.is) ∙ c.new-key.ensures in
+    let item : key ≡ get_or items middle key = sym same ∙ sym (chunk_at size count middle s key within) in
     slice_get_read items count middle key (sym (chunks_count size count s)) within item
 
 pub returns-in-Equal-clause-exactly : goal.returns-in-Equal-clause-exactly
@@ -115,7 +117,7 @@ loop-low-init g c = (
 
 pub returns-in-Equal-clause-cost : goal.returns-in-Equal-clause-cost
 returns-in-Equal-clause-cost g c = λ k few.
-    found_by_halving (g.C.Counter.counted c.args.counter.now) (g.C.Counter.counted c.loop-low.counter) (g.C.Counter.counted c.order.new.counter) (c.loop-low.high - c.loop-low.low) k c.order.ensures.cost
+    found_by_halving (g.C.Counter.counted c.args.counter.now) (g.C.Counter.counted c.loop-low.counter) (g.C.Counter.counted c.compare_middle-middle.new.counter) (c.loop-low.high - c.loop-low.low) k c.compare_middle-middle.ensures.cost.0
     (omega (arith, c.loop-low-test.true)) (c.loop-low.invariant.4 k few)
 
 pub returns-clause-cost : goal.returns-clause-cost

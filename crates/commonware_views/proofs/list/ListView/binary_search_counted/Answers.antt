@@ -1,4 +1,4 @@
-use Rattle.std.proofs.Common.{◌∙◌, ap, arith, length, sym}
+use Rattle.std.proofs.Common.{ap, arith, length}
 use Rattle.commonware_views.proofs.Chunks.{chunks_count}
 use Rattle.commonware_views.proofs.list.ListView.binary_search_counted.Goals as goal
 
