@@ -96,9 +96,11 @@ export class Commonware {
     smallerQuorum(k: number, n: number): number;
     readCommittee(input: Uint8Array, limits?: Limits): Committee & Left;
     decodeCommittee(input: Uint8Array, limits?: Limits): Uint8Array[];
+    /** The members may come in any order and repeat. Throws WrongSize for the first of another size, and NotWhole for
+     * bytes after the last whole member. */
     encodeCommittee(members: Items): Uint8Array;
     /** The members have to be in order, as decodeCommittee returns them. Null where the key is none of them, as one of
-     * another size than theirs never is. Throws NotWhole, and WrongSize for a member of another size. */
+     * another size than theirs never is. Throws what encodeCommittee does. */
     indexOfMember(members: Items, key: Uint8Array): number | null;
     readSet(size: number, input: Uint8Array, limits?: Limits): Keys & Left;
     decodeSet(size: number, input: Uint8Array, limits?: Limits): Uint8Array[];

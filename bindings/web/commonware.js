@@ -111,6 +111,13 @@ function checkWhole(bytes, size) {
     }
 }
 
+/** Returns members one after another, with their number. */
+function membersOf(members) {
+    const bytes = joined("a member", members, MEMBER_SIZE);
+    checkWhole(bytes, MEMBER_SIZE);
+    return new Counted(bytes, bytes.length / MEMBER_SIZE);
+}
+
 function signersOf(signers) {
     return Uint32Array.from(signers, (it) => numberOf("a signer", it));
 }
@@ -180,24 +187,18 @@ export class Commonware {
 
     /** Encodes the committee of these members, which may come in any order and repeat. */
     encodeCommittee(members) {
-        const bytes = joined("a member", members, MEMBER_SIZE);
-        const count = Math.floor(bytes.length / MEMBER_SIZE);
-        if (count * MEMBER_SIZE !== bytes.length) {
-            throw new WrongSize(count, bytes.length % MEMBER_SIZE, MEMBER_SIZE);
-        }
-        return this.#written("committee_write", [new Counted(bytes, count)], 5 + bytes.length);
+        const list = membersOf(members);
+        return this.#written("committee_write", [list], 5 + list.bytes.length);
     }
 
     /** Returns the index of a member, or null where the key is none, as one of another size never is. The members have
      * to be in order, as decodeCommittee returns them: else null says nothing. */
     indexOfMember(members, key) {
-        const bytes = joined("a member", members, MEMBER_SIZE);
-        checkWhole(bytes, MEMBER_SIZE);
+        const list = membersOf(members);
         const sought = bytesOf("key", key);
         if (sought.length !== MEMBER_SIZE) {
             return null;
         }
-        const list = new Counted(bytes, bytes.length / MEMBER_SIZE);
         return this.#place("committee_index", [list, new Counted(sought, null)]);
     }
 

@@ -46,7 +46,8 @@ function tryArguments(commonware) {
     refused("a limit that isn't exact", () => commonware.readSet(1, new Uint8Array(1), { most: 2 ** 53 }), "OutOfRange", `most is ${wide} ${2 ** 53}`);
     refused("a negative bigint", () => commonware.weightNumbers(3, [-1n]), "OutOfRange", `a weight is ${wide} -1`, { most: 2n ** 64n - 1n });
     refused("a key of another size", () => commonware.encodeSet(2, [bytes("0102"), bytes("03")]), "WrongSize", "key 1 has 1 bytes");
-    refused("a member too short", () => commonware.encodeCommittee(new Uint8Array(33)), "WrongSize", "key 1 has 1 bytes");
+    refused("a member too short", () => commonware.encodeCommittee([new Uint8Array(32), new Uint8Array(31)]), "WrongSize", "key 1 has 31 bytes");
+    refused("half a member", () => commonware.encodeCommittee(new Uint8Array(33)), "NotWhole", "1 bytes after the last whole item", { count: 1 });
     refused("keys of no bytes", () => commonware.encodeSet(0, new Uint8Array(3)), "NoSize", "keys of no bytes");
     refused("half a key", () => commonware.encodeSet(2, new Uint8Array(3)), "NotWhole", "1 bytes after the last whole item");
     refused("k below 2", () => commonware.quorum(1, 4), "NoModel", "k is below 2");
