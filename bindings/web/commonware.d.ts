@@ -100,7 +100,7 @@ export class Commonware {
      * bytes after the last whole member. */
     encodeCommittee(members: Items): Uint8Array;
     /** The members have to be in order, as decodeCommittee returns them. Null where the key is none of them, as one of
-     * another size than theirs never is. Throws what encodeCommittee does. */
+     * another size than theirs never is. Throws WrongSize and NotWhole as encodeCommittee does. */
     indexOfMember(members: Items, key: Uint8Array): number | null;
     readSet(size: number, input: Uint8Array, limits?: Limits): Keys & Left;
     decodeSet(size: number, input: Uint8Array, limits?: Limits): Uint8Array[];
