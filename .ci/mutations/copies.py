@@ -45,20 +45,21 @@ def proof_files(folder, function):
     return folder / "proofs" / "/".join(function.split("::")[1:])
 
 
-class Harmless:
-    """A copy of the function of an edit, whose body gets a statement that changes nothing."""
+class RightBody:
+    """A copy of the function of an edit, whose body has another shape and means the same: it returns by a name."""
 
-    name, answers, left_out = "harmless", "", frozenset()
+    name, left_out = "right_body", frozenset()
 
-    def __init__(self, edit, lines, begins, round_number):
+    def __init__(self, edit, lines, begins, ends, round_number):
         self.of, self.function, self.place = edit.function, f"{edit.function}_0", edit.place
         self.attributes = edit.attributes
         # The number has each round prove it anew.
-        self.part = "\n".join([*lines[: begins + 1], f"let _harmless = {round_number}u32;", *lines[begins + 1 :]])
+        value = f"right_{round_number}"
+        self.part = "\n".join([*lines[: begins + 1], f"let {value} = {{", *lines[begins + 1 : ends], f"}}; {value}", *lines[ends:]])
 
 
-def harmless(folder, edits, round_number):
-    """Returns the simplest harmless body of the functions of these edits that are proved without a proof file, or None."""
+def right_body(folder, edits, round_number):
+    """Returns a right body of the simplest of the functions of these edits that are proved without a proof file, or None."""
     found, least = None, None
     for edit in (it for it in edits if it.function and it.is_plain and not proof_files(folder, it.function).exists()):
         file, at = edit.place
@@ -66,7 +67,7 @@ def harmless(folder, edits, round_number):
         begins, ends = body(lines)
         marks = len(re.findall(r"[^\w\s]", "".join(lines[:ends])))
         if least is None or marks < least:
-            found, least = Harmless(edit, lines, begins, round_number), marks
+            found, least = RightBody(edit, lines, begins, ends, round_number), marks
     return found
 
 
@@ -90,8 +91,8 @@ class Copy:
             path.write_text(text)
         for edit in (it for it in edits if it.function and is_copy(it)):
             self.copy_proofs(edit)
-        for edit in (it for it in edits if it.answers or it.left_out):
-            self.answer(edit)
+        for edit in (it for it in edits if it.left_out):
+            self.leave_out(edit)
         for name in set(known) - {it.function for it in edits}:
             self.leave_open(name)
 
@@ -117,17 +118,11 @@ class Copy:
                 of = r"\.".join(["proofs", *edit.of.split("::")[1:]])
                 (folder / file.name).write_text(re.sub(rf"\b{of}\b", path.partition(".")[2], file.read_text()))
 
-    def answer(self, edit):
-        """Leaves out answers of an edit's function, and puts the edit's own beside the others."""
-        folder, path = self.proofs(edit.function)
-        file = folder / "Answers.antt"
-        text = file.read_text() if file.exists() else f"use Rattle.{path}.Goals as goal\n"
+    def leave_out(self, edit):
+        """Leaves out answers of an edit's function."""
+        file = proof_files(self.folder, edit.function) / "Answers.antt"
         named = lambda it: set(re.findall(r"(?m)^pub (\S+) :", it))
-        own = [it for it in edit.answers.split("\n\n") if not named(it) & edit.left_out]
-        kept = [it for it in text.split("\n\n") if not named(it) & (named(edit.answers) | edit.left_out)]
-        lines = "\n\n".join([*kept, *own]).split("\n")
-        used = [it for it in lines if it.startswith("use ")]
-        file.write_text("\n".join([*dict.fromkeys(used), "", *(it for it in lines if it not in used), ""]))
+        file.write_text("\n\n".join(it for it in file.read_text().split("\n\n") if not named(it) & edit.left_out))
 
     def hush(self, edits):
         """Has the prover offer no answers for the functions of these edits."""

@@ -2,16 +2,25 @@
 
 wrong-bodies/*.edits has for each source a line 'file: PATH', and below it of each of its mutations a line '[NAME]', a line
 'function: PATH', as rt check prints it, that names the function to be refused, and pairs of lines 'old: TEXT' and 'new: TEXT',
-which are read as those of a must-fail edit. A mutation of what is in no function has no line 'function:'. wrong-bodies/NAME.answers
-has answers for the goals of that mutation.
+which are read as those of a must-fail edit. A mutation of what is in no function has no line 'function:'.
+
+What shows that a mutation means something else, where the prover has no values and no test of the repository tells it apart:
+'witness: CODE' is code in the module of the function that holds for the function and not for the mutation (lines before the last
+are statements; `alloc` is an allocator); 'reason: TEXT' says why no code can tell the two apart, or why it isn't run.
+'compile-error: TEXT' says that the mutation must not compile, and what the error says.
+
+right-bodies/*.edits has right bodies of another shape, in the same form: no proof of them may be found, and nothing may show that
+they are wrong.
 """
 import copy
-import hashlib
 import os
 import re
 
 from . import paths
 from .source import FUNCTION, attributes, is_plain, parts
+
+# What a mutation may say of how it is shown to be wrong.
+SAYS = ("witness", "reason", "compile-error")
 
 
 class Edit:
@@ -19,11 +28,14 @@ class Edit:
 
     The function to be refused may be a copy of that which the line names (of)."""
 
-    def __init__(self, name, file, function, pairs, folder, answers=""):
+    def __init__(self, name, file, function, pairs, folder, said=()):
         self.name, self.file, self.of, self.function, self.place = name, file, function, function, None
-        # Answers of its own, and those of its function that are left out, with the verdict on it with them.
-        self.answers, self.left_out, self.verdict = answers, frozenset(), None
-        self.key = hashlib.sha256(repr((file, function, pairs, answers)).encode()).hexdigest()
+        # The answers of its function that are left out, with the verdict on it with them; whether it means the same.
+        self.left_out, self.verdict, self.is_right = frozenset(), None, False
+        # What its lines say of how it is shown to be wrong, by the words before the colon.
+        self.said = {word: [text for it, text in said if it == word] for word in SAYS}
+        if sum(map(bool, self.said.values())) > 1:
+            raise ValueError("more than one of 'witness', 'reason' and 'compile-error' says what shows that it is wrong")
         was = self.text = (folder / file).read_text()
         for old, new in pairs:
             if self.text.count(old) != 1:
@@ -67,7 +79,7 @@ def is_copy(edit):
 
 
 def read(text):
-    """Returns of each mutation of this text the file that it changes, its name, its function and its pairs of texts."""
+    """Returns of each mutation of this text the file that it changes, its name, its function, its pairs of texts and what it says."""
     file, found, old = None, [], None
     for line in filter(str.strip, text.splitlines()):
         name = re.fullmatch(r"\[(\w+)\]", line)
@@ -77,13 +89,15 @@ def read(text):
             raise ValueError(f"an old text without a new one: {old}")
         here = [it for it in found if it[0] == file]
         if name and file:
-            found.append((file, name[1], None, []))
+            found.append((file, name[1], None, [], []))
         elif word == "file" and re.fullmatch(r"src/[\w/]+\.rt", rest):
             if any(it[0] == rest for it in found):
                 raise ValueError(f"the mutations of {rest} stand in two places")
             file = rest
         elif word == "function" and here and not any(here[-1][2:]):
-            found[-1] = (*here[-1][:2], rest, [])
+            found[-1] = (*here[-1][:2], rest, [], [])
+        elif word in SAYS and here:
+            found[-1][4].append((word, rest))
         elif word == "old" and here:
             old = rest
         elif word == "new" and old is not None:
@@ -97,28 +111,23 @@ def read(text):
 
 
 def edits(folder, tell):
-    """Returns the mutations of the crate in this folder, and tells of those that can't be applied."""
+    """Returns the mutations of the crate in this folder and its right bodies, and tells of those that can't be applied."""
     found, seen = [], set()
-    for path in sorted((folder / "wrong-bodies").iterdir()):
-        if path.suffix == ".answers":
-            continue
+    for path in sorted([*folder.glob("wrong-bodies/*.edits"), *folder.glob("right-bodies/*.edits")]):
         try:
             mutations = read(path.read_text())
         except (OSError, ValueError) as error:
-            tell(path.name, False, f"not applicable: {error}")
+            tell(path.name, f"not applicable: {error}")
             continue
-        for file, name, function, pairs in mutations:
-            answers = path.with_name(f"{name}.answers")
+        for file, name, function, pairs, said in mutations:
             try:
                 if name in seen:
                     raise ValueError("another mutation of this crate has its name")
                 seen.add(name)
-                found.append(Edit(name, file, function, pairs, folder, answers.read_text() if answers.exists() else ""))
+                found.append(Edit(name, file, function, pairs, folder, said))
+                found[-1].is_right = path.parent.name == "right-bodies"
             except (OSError, ValueError) as error:
-                tell(name, False, f"not applicable: {error}")
-    for path in sorted((folder / "wrong-bodies").glob("*.answers")):
-        if path.stem not in seen:
-            tell(path.name, False, "not applicable: no mutation has its name")
+                tell(name, f"not applicable: {error}")
     return found
 
 

@@ -51,8 +51,8 @@ def grouped(found):
     return outer[0].items
 
 
-def body(text):
-    """Returns the tokens between the braces of a function's body, or None where it has none."""
+def body_span(text):
+    """Returns where the braces of a function's body are in its text, or None where it has none."""
     items = grouped(tokens(text))
     begins = next((at for at, it in enumerate(items) if it.text == "fn"), len(items))
     is_clause = False
@@ -64,8 +64,14 @@ def body(text):
         elif item.text == "{" and is_clause:
             is_clause = False
         elif item.text == "{":
-            return [it for it in tokens(text) if item.opening.start < it.start < item.closing.start]
+            return item.opening.start, item.closing.start
     return None
+
+
+def body(text):
+    """Returns the tokens between the braces of a function's body, or None where it has none."""
+    span = body_span(text)
+    return [it for it in tokens(text) if span[0] < it.start < span[1]] if span else None
 
 
 def texts(some):

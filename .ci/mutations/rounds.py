@@ -5,12 +5,11 @@ import re
 import shutil
 
 import proved
-from proved import ROOT
 
 from .checks import CHECKS, LIBRARIES
-from .copies import Copy, harmless
+from .copies import Copy, right_body
 from .edits import edits, is_copy
-from .verdicts import CALLEES, FALSE, PROVED, Said
+from .verdicts import CALLEES, PROVED, Said, Verdict
 
 # The most mutations of a round: on a loaded machine 150 of commonware_c took more than the seconds of a check.
 MOST = 40
@@ -18,11 +17,6 @@ MOST = 40
 
 class Crate(proved.Crate):
     """A crate with mutations."""
-
-    def sum(self):
-        """Returns a checksum of all that the verdicts on its mutations rest on, but for these themselves."""
-        scripts = sorted((ROOT / ".ci/mutations").glob("*.py"))
-        return self.stamp(ROOT / ".ci/wrong_bodies", ROOT / ".ci/proved.py", *scripts)
 
     def functions(self, names):
         """Returns those of these names that are its functions, and no closures."""
@@ -38,10 +32,15 @@ class Crate(proved.Crate):
         return sum(it.stat().st_size for part in ("src", "proofs") for it in (self.folder / part).rglob("*.*t*"))
 
 
+def is_alone(edit):
+    """Tells whether an edit has a round of its own: it is in no function, or it must not compile."""
+    return not edit.function or bool(edit.said["compile-error"])
+
+
 def rounds(some):
-    """Shares edits out so that each round has one of each function, or of each copy of it; those of none are alone."""
+    """Shares edits out so that each round has one of each function, or of each copy of it; some are alone."""
     shared, seen = [], collections.Counter()
-    for edit in filter(lambda it: it.function, some):
+    for edit in (it for it in some if not is_alone(it)):
         at = seen[edit.function]
         seen[edit.function] += 1
         if edit.is_plain:
@@ -49,7 +48,7 @@ def rounds(some):
         shared += [[]] if at == len(shared) else []
         shared[at].append(edit)
     cut = [them[at : at + MOST] for them in shared for at in range(0, len(them), MOST)]
-    return cut + [[it] for it in some if not it.function]
+    return cut + [[it] for it in some if is_alone(it)]
 
 
 def halves(some):
@@ -64,8 +63,8 @@ class Trial:
     def __init__(self, crate, room, tell):
         self.crate, self.room, self.copy, self.tell = crate, room, Copy(crate.name, crate.folder, room / "copy"), tell
         # All edits, of which those that are tried may be some; the functions that are proved where nothing is changed; how many
-        # rounds there were, and how many had no harmless body.
-        self.all = self.edits = edits(crate.folder, tell)
+        # rounds there were, and how many had no right body.
+        self.all = self.edits = edits(crate.folder, lambda name, why: tell(name, Verdict(False, why)))
         self.known, self.tried, self.bare = [], 0, 0
         # The edits that their answers alone refuse, without them; the rounds that met the time limit, and whether these are tried.
         self.unanswered, self.late, self.is_last = [], [], False
@@ -76,10 +75,13 @@ class Trial:
         """Tries the edits. Where they were named, rt lib proves the unchanged crate, which costs nothing again."""
         self.control(is_named)
         for some in rounds(self.edits):
-            self.round(some)
+            if some[0].said["compile-error"]:
+                self.compile(some[0])
+            else:
+                self.round(some)
         self.round_unanswered()
         if self.bare:
-            print(f"{self.crate.name}: {self.bare} rounds without a harmless body", flush=True)
+            print(f"{self.crate.name}: {self.bare} rounds without a right body", flush=True)
         self.leave()
 
     def run_late(self):
@@ -120,10 +122,17 @@ class Trial:
             for edit in list(self.edits):
                 why = ill or said.verdict(edit.function).why
                 if why != PROVED:
-                    self.tell(edit.name, False, f"before any edit: {why}")
+                    self.tell(edit.name, Verdict(False, f"before any edit: {why}"))
                     self.edits.remove(edit)
         if self.edits and (self.crate.folder / "out/incremental").is_dir():
             shutil.copytree(self.crate.folder / "out/incremental", self.kept)
+
+    def compile(self, edit):
+        """Tries an edit that must not compile: the compiler has to say what the edit says that it does."""
+        words, said = edit.said["compile-error"][0], self.check([edit], False, False)
+        is_refused = bool(said.compile_error) and words in said.compile_error
+        why = said.compile_error if is_refused else f"no compile error says '{words}': {said.trouble or 'it compiles'}"
+        self.tell(edit.name, Verdict(is_refused, why, by=("the compiler",) * is_refused))
 
     def check(self, some, is_alone, is_first):
         """Checks the crate with the bodies of these edits and no others, or these functions alone."""
@@ -141,7 +150,7 @@ class Trial:
         is_first = is_first and has_functions
         is_alone = is_first and bool(self.known)
         self.tried += 1
-        control = [harmless(self.crate.folder, self.all, self.tried)] if has_functions else []
+        control = [right_body(self.crate.folder, self.all, self.tried)] if has_functions else []
         control = list(filter(None, control))
         said = self.check(some + control, is_alone, is_first)
         why = said.trouble or ("" if is_alone else ", ".join(said.others(some)))
@@ -149,7 +158,7 @@ class Trial:
             self.late.append(some)
         elif any(it.function in said.refused for it in control):
             for edit in some:
-                self.tell(edit.name, False, f"beside it the harmless body of {control[0].function} is refused")
+                self.tell(edit.name, Verdict(False, f"beside it a right body of {control[0].of} is refused"))
         elif is_first and why and not said.died:
             print(f"{self.crate.name}: {len(some)} edits are tried beside the whole crate: {why[:200]}", flush=True)
             self.round(some, False)
@@ -177,8 +186,7 @@ class Trial:
     def conclude(self, edit, verdict):
         """Tells of an edit. An answer that doesn't fit says little: where it is left out, the search may prove its goal."""
         if edit.left_out and verdict.why == PROVED:
-            self.tell(edit.name, False, f"{PROVED} without its answers to {', '.join(sorted(edit.left_out))}")
-        elif edit.left_out and not (verdict.is_refused and (verdict.goal not in edit.left_out or FALSE in verdict.why)):
-            self.tell(edit.name, edit.verdict.is_refused, edit.verdict.why)
-        else:
-            self.tell(edit.name, verdict.is_refused, verdict.why)
+            verdict = Verdict(False, f"{PROVED} without its answers to {', '.join(sorted(edit.left_out))}")
+        elif edit.left_out and not (verdict.is_refused and (verdict.goal not in edit.left_out or verdict.has_values)):
+            verdict = edit.verdict
+        self.tell(edit.name, verdict)

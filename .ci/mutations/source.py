@@ -38,6 +38,11 @@ def body(lines):
     return (begins, ends[0]) if ends and lines[ends[0]] == " " * depth + "}" else None
 
 
+def is_evaluated(part):
+    """Tells whether a part of a source begins with what the compiler evaluates, as a constant is."""
+    return not re.search(r"\bfn \w", part.split("\n")[0]) or bool(re.search(r"\bconst\b.*\bfn\b", part.split("\n")[0]))
+
+
 def bodiless(part):
     """Returns a function with a loop as its body, which costs no proof, in as many lines; what the compiler evaluates stays."""
     lines = part.split("\n")

@@ -29,12 +29,20 @@ FALSE = "allow values at which this goal is false"
 
 
 class Verdict(typing.NamedTuple):
-    """Whether a mutation is refused as it has to be, why, by which goal, and without which goals' answers more may be known."""
+    """Whether the prover refuses a mutation as it has to, why, by which goal, and without which goals' answers more may be known;
+    which clauses and goals refuse it, and whether the prover has values at which one of these is false."""
 
     is_refused: bool
     why: str
     goal: str = ""
     by_answers: frozenset = frozenset()
+    by: tuple = ()
+    has_values: bool = False
+
+    @property
+    def is_judged(self):
+        """Tells whether the prover has judged the function, and no goal of another one decides."""
+        return self.is_refused or self.why.startswith((PROVED, SHAPE, BESIDE))
 
 
 class Refusal:
@@ -47,15 +55,23 @@ class Refusal:
         # Whether it is in a closure.
         self.is_inner = False
 
-    def says(self):
+    def kind(self):
+        """Returns the clause, the goal or the error that refuses."""
         clause = re.match(r"returns\S*-clause-(\w+)", self.goal)
         is_returned = self.goal.startswith("returns")
-        kind = f"clause {clause[1]}" if clause else "its clause" if is_returned else f"goal {self.goal}" if self.goal else "error"
-        return f"{kind}: {self.words}"
+        return f"clause {clause[1]}" if clause else "its clause" if is_returned else f"goal {self.goal}" if self.goal else "error"
+
+    def says(self):
+        return f"{self.kind()}: {self.words}"
 
     def rank(self, is_reached):
         """Puts a clause first, and last what counts for nothing: a proof's shape, and what is beside the change."""
         return [not is_reached, self.is_shape, not self.goal.startswith("returns"), not self.goal]
+
+
+def has_values(refusals):
+    """Tells whether the prover has values at which one of these goals is false."""
+    return any(FALSE in it.words for it in refusals)
 
 
 class Said:
@@ -88,7 +104,8 @@ class Said:
         last = (text.strip().splitlines() or ["nothing"])[-1]
         self.is_late = status == LATE
         self.died = "" if ended or compiled else f"no verdict (status {status}): {last}"
-        self.trouble = next(unread, compiled[1] if compiled else self.died)
+        self.compile_error = next(unread, compiled[1] if compiled else "")
+        self.trouble = self.compile_error or self.died
 
     def pass_on(self, name):
         """A closure, a::fn::f::name, is part of the body of a::f."""
@@ -108,7 +125,7 @@ class Said:
             return Verdict(False, self.trouble)
         if not function:
             found = [it for some in self.refused.values() for it in some if not it.is_shape]
-            return Verdict(bool(found), found[0].says() if found else PROVED)
+            return Verdict(bool(found), found[0].says() if found else PROVED, by=("another function",), has_values=has_values(found))
         words = self.words.get(function, "the check has no line for this function")
         if words.startswith("proved"):
             return Verdict(False, PROVED)
@@ -123,4 +140,5 @@ class Said:
         untried = frozenset(it.goal for it in counted if it.goal and not it.is_tried)
         by_answers = frozenset() if is_refused and any(it.is_tried for it in counted) else untried
         why = (SHAPE if is_shape else BESIDE if is_beside else "") + refusal.says()
-        return Verdict(is_refused, why, refusal.goal, by_answers)
+        by = tuple(dict.fromkeys(it.kind() for it in counted)) if is_refused else ()
+        return Verdict(is_refused, why, refusal.goal, by_answers, by, is_refused and has_values(counted))

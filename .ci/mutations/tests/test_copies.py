@@ -1,7 +1,7 @@
 """Tests what a copy of a crate has."""
 import unittest
 
-from .. import copies, edits, rounds
+from .. import copies, edits, rounds, verdicts
 from .crates import SOURCE, crate
 
 KNOWN = ["small::pairs::pair::Pair::first", "small::pairs::pair::Pair::sum"]
@@ -49,9 +49,18 @@ class Copies(unittest.TestCase):
         copied = self.copy.folder / "proofs/pairs/pair/Pair/first_2/Answers.antt"
         self.assertEqual(copied.read_text(), "use Rattle.small.proofs.pairs.pair.Pair.first_2.Goals as goal\n")
 
-    def test_the_harmless_body_differs_by_one_statement(self):
-        found = copies.harmless(self.folder, self.edits, 7)
+    def test_answers_are_left_out(self):
+        place = self.folder / "proofs/pairs/pair/Pair/first"
+        place.mkdir(parents=True)
+        (place / "Answers.antt").write_text("use a.Goals as goal\n\npub one : goal.one\none = 1\n\npub two : goal.two\ntwo = 2\n")
+        edit = self.edits[0].without(verdicts.Verdict(False, "", by_answers=frozenset({"one"})))
+        self.written([edit])
+        text = (self.copy.folder / "proofs/pairs/pair/Pair/first/Answers.antt").read_text()
+        self.assertEqual(text, "use a.Goals as goal\n\npub two : goal.two\ntwo = 2\n")
+
+    def test_the_right_body_returns_by_a_name(self):
+        found = copies.right_body(self.folder, self.edits, 7)
         text = self.written([found])
         self.assertEqual(found.function, "small::pairs::pair::Pair::first_0")
-        self.assertEqual(text.count("let _harmless = 7u32;"), 1)
+        self.assertIn("let right_7 = {\n        let first = self.0;\n        first\n}; right_7\n    }", text)
         self.assertEqual(text.count("let first = self.0;"), 2)

@@ -22,11 +22,19 @@ class Read(unittest.TestCase):
         self.assertEqual([it.strip() for it in first.attributes], ["#[inline]"])
         self.assertTrue(first.is_plain)
 
-    def test_keys_go_by_the_meaning_and_not_by_the_name(self):
-        first, second = read(EDITS)[0]
-        renamed = read(EDITS.replace("[first_is_the_second]", "[other]"))[0][0]
-        self.assertEqual(first.key, renamed.key)
-        self.assertNotEqual(first.key, second.key)
+    def test_what_shows_that_it_is_wrong(self):
+        (first, second), told = read(f"{EDITS}witness: let two = 2;\nwitness: two == 2\n")
+        self.assertEqual((first.said["witness"], second.said["witness"], told), ([], ["let two = 2;", "two == 2"], []))
+        self.assertEqual(read(f"{EDITS}reason: a ghost\n")[0][1].said["reason"], ["a ghost"])
+        self.assertEqual(read(f"{EDITS}compile-error: moved\n")[0][1].said["compile-error"], ["moved"])
+        self.assertIn("more than one of", read(f"{EDITS}reason: a ghost\nwitness: true\n")[1][0][1])
+
+    def test_right_bodies_are_told_apart(self):
+        with crate() as folder:
+            (folder / "right-bodies").mkdir()
+            (folder / "right-bodies/right.edits").write_text(EDITS.replace("[first", "[other"))
+            found = edits.edits(folder, self.fail)
+        self.assertEqual([it.is_right for it in found], [True, True, False, False])
 
     def test_what_can_not_be_applied(self):
         for old, new, why in [
@@ -43,8 +51,7 @@ class Read(unittest.TestCase):
             with self.subTest(why):
                 self.assertIn(old, EDITS)
                 told = read(EDITS.replace(old, new, 1))[1]
-                self.assertIn(why, told[0][2])
-                self.assertFalse(told[0][1])
+                self.assertIn(why, told[0][1])
 
     def test_names(self):
         edit = read(EDITS)[0][0]

@@ -8,6 +8,7 @@ import unittest
 from unittest import mock
 
 from .. import rounds
+from ..edits import edits
 from ..verdicts import LATE
 from .crates import EDITS, crate
 
@@ -34,7 +35,7 @@ class Crate:
 
 
 def prover(statuses, proved=()):
-    """Returns what stands for a check: it takes these statuses in turn, and refuses all but harmless bodies and those proved."""
+    """Returns what stands for a check: it takes these statuses in turn, and refuses all but right bodies and those proved."""
 
     def run(words, _):
         asked = [words[at + 1] for at, it in enumerate(words) if it == "--only"]
@@ -58,7 +59,7 @@ def tried(statuses, proved=()):
         for it in patches:
             stack.enter_context(it)
         stack.enter_context(contextlib.redirect_stdout(io.StringIO()))
-        trial = rounds.Trial(Crate(folder), pathlib.Path(room), lambda name, *words: told.update({name: words}))
+        trial = rounds.Trial(Crate(folder), pathlib.Path(room), lambda name, verdict: told.update({name: verdict}))
         trial.run(False)
         if trial.late:
             trial.run_late()
@@ -74,7 +75,7 @@ class Rounds(unittest.TestCase):
 
     def test_a_mutation_that_is_proved_fails(self):
         told, _ = tried([], ["small::pairs::pair::Pair::first_1"])
-        self.assertEqual(told["first_is_none"], (False, "still proved"))
+        self.assertEqual(told["first_is_none"][:2], (False, "still proved"))
         self.assertTrue(told["first_is_the_second"][0])
 
     def test_a_round_that_met_the_time_limit_is_tried_again_by_halves(self):
@@ -87,6 +88,11 @@ class Rounds(unittest.TestCase):
         self.assertEqual(len(asked), 3)
         self.assertEqual([it[0] for it in told.values()], [False, True])
         self.assertTrue(told["first_is_the_second"][1].startswith("no verdict"))
+
+    def test_a_body_that_must_not_compile_is_alone(self):
+        with crate(f"{EDITS}compile-error: moved\n") as folder:
+            found = edits(folder, self.fail)
+        self.assertEqual([[it.name for it in some] for some in rounds.rounds(found)], [["first_is_the_second"], ["first_is_none"]])
 
     def test_halves(self):
         self.assertEqual(rounds.halves([1, 2, 3]), [[1, 2], [3]])
