@@ -23,6 +23,8 @@ pub fn chosen(function: u32) -> u32 {
     unsafe { mutation_switch_chosen(function) }
 }
 """
+# The crate that says which mutation runs, which all crates name, and the one whose equipment a witness may use.
+SWITCH, EQUIPMENT = "mutation_switch", "test_equipment"
 # The module of the tests that are made of the witnesses of a source.
 MODULE = "witnesses_of_mutations"
 TESTS = """
@@ -53,6 +55,13 @@ def switched(edit):
     return bool(was and now) and edit.was[: was[0]] == edit.part[: now[0]]
 
 
+def with_more(line):
+    """Returns a line of crates.txt whose crate names these two crates as well."""
+    name, colon, below = line.partition("#")[0].partition(":")
+    more = {SWITCH, *({EQUIPMENT} if name.strip() != EQUIPMENT else ())} - set(below.split())
+    return f"{name}: {' '.join([*below.split(), *sorted(more)])}\n" if colon else ""
+
+
 class Switched:
     """The crates of this repository in a folder, with the bodies of these edits by crate where they can stand side by side, and
     with the tests that their witnesses are. The numbers are those of the edits, and of the functions that they change."""
@@ -68,16 +77,15 @@ class Switched:
             path.write_text(self.with_bodies(crate, path.read_text(), list(filter(switched, them))) + tests_of(them))
 
     def copy(self):
-        """Copies the sources, and adds the crate that says which mutation runs to what each crate names."""
-        name = "mutation_switch"
+        """Copies the sources, and adds the crate that says which mutation runs."""
         for source in sorted(ROOT.glob("crates/*/src")):
             shutil.copytree(source, self.folder / source.relative_to(ROOT))
         shutil.copy(ROOT / "HANDLES", self.folder)
-        listed = re.sub(r"(?m)^(\w[^:#\n]*:)", rf"\1 {name}", (ROOT / "crates.txt").read_text())
-        (self.folder / "crates.txt").write_text(f"{listed}{name}:\n")
+        listed = "".join(map(with_more, (ROOT / "crates.txt").read_text().splitlines()))
+        (self.folder / "crates.txt").write_text(f"{listed}{SWITCH}:\n")
         for path, text in (("src/lib.rt", CRATE), ("c/switch.c", pathlib.Path(__file__).with_name("switch.c").read_text())):
-            (self.folder / "crates" / name / path).parent.mkdir(parents=True)
-            (self.folder / "crates" / name / path).write_text(text)
+            (self.folder / "crates" / SWITCH / path).parent.mkdir(parents=True)
+            (self.folder / "crates" / SWITCH / path).write_text(text)
 
     def with_bodies(self, crate, text, edits):
         """Returns a source in which the functions of these edits have the bodies of all."""
