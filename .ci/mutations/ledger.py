@@ -3,7 +3,7 @@
 crates/NAME/wrong-bodies/refusals.tsv has a line for each mutation of a crate, with four columns: its name; its key (keys.py); the
 clauses and goals that refused it; and what shows that it means something else: 'values', at which the prover finds a goal false;
 'witness TEST SUM', a test of this repository that fails with it, with a checksum of that test's module; 'its own witness', which
-it states; 'reason', which it states; or 'compile error'.
+it states; 'reason', which it states; or 'compile error'. 'nothing yet' counts only for a lenient run.
 """
 import typing
 
@@ -12,7 +12,8 @@ from proved import ROOT
 from .witnesses import test_text
 
 VALUES, OWN, REASON, COMPILER, WITNESS = "values", "its own witness", "reason", "compile error", "witness"
-KINDS = (VALUES, WITNESS, OWN, REASON, COMPILER)
+NOTHING = "nothing yet"
+KINDS = (VALUES, WITNESS, OWN, REASON, COMPILER, NOTHING)
 
 
 class Line(typing.NamedTuple):

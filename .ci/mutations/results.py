@@ -22,8 +22,8 @@ def sampled(names):
 class Results:
     """What became of each edit: by its crate and name the verdict of the prover, and the line of the ledger that it has then."""
 
-    def __init__(self, is_anew, is_whole):
-        self.is_anew, self.is_whole, self.lock = is_anew, is_whole, threading.Lock()
+    def __init__(self, is_anew, is_whole, is_lenient=False):
+        self.is_anew, self.is_whole, self.is_lenient, self.lock = is_anew, is_whole, is_lenient, threading.Lock()
         self.verdicts, self.edits, self.lines, self.known, self.failed, self.again = {}, {}, {}, {}, {}, set()
         # The right bodies.
         self.right = {}
@@ -37,7 +37,8 @@ class Results:
             self.edits[at] = edit
             self.known[at] = line = lines.get(edit.name)
             edit.key = keys.key(crate, edit)
-            if line and line.holds(edit.key) and not self.is_anew:
+            is_shown = line and (self.is_lenient or line.kind() != ledger.NOTHING)
+            if is_shown and line.holds(edit.key) and not self.is_anew:
                 self.lines[at] = line
 
     def choose(self):
@@ -93,7 +94,8 @@ class Results:
         if at in self.right:
             if shown:
                 self.fail(at, f"a right body is shown to be wrong: {shown}")
-        elif shown:
+        elif shown or self.is_lenient:
+            shown = shown or ledger.NOTHING
             self.lines[at] = ledger.Line(at[1], self.edits[at].key, self.verdicts[at].by, shown)
             print(f"{' '.join(at)}: {shown}", flush=True)
         else:
