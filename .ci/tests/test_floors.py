@@ -3,6 +3,7 @@ import contextlib
 import io
 import os
 import pathlib
+import runpy
 import shutil
 import subprocess
 import sys
@@ -274,6 +275,27 @@ go: a line that isn't an event
 {"Action":"pass","Package":"some","Elapsed":0.2}
 """
         self.assertEqual(trial.tests_of_go(text), [("TestOne/part", True), ("TestOne", False), ("TestTwo", None)])
+
+    def test_rt_ci(self):
+        text = """== low
+rt: low proved
+rt: high is kept: an earlier run on this machine proved the same files over the same libraries
+rt: high: its tests are proved
+rt: wrong NOT PROVED
+test rows::one ... ok
+test rows::two ... FAILED
+test result: FAILED. 1 passed; 1 failed
+rt: high: its tests FAILED
+test rows::one ... ok
+rt: high: its tests passed
+rt: program ran, and wrote what its file stdout has
+rt: program ran (built by Rattle's own compiler), and wrote what its file stdout has
+"""
+        names = [("low: its proof", True), ("high: its proof", True)]
+        names += [("high: rows::one", True), ("high: rows::two", False), ("high: its tests", False)]
+        names += [("high: rows::one", True), ("high: its tests", True)]
+        names += [("program: it runs", True), ("program: it runs, built by Rattle's own compiler", True)]
+        self.assertEqual(runpy.run_path(str(TOP / "rattle_tests"))["tests_of"](text), names)
 
     def test_lines(self):
         text = "ok a: b\nnot ok c\n    why\n# 3 cases\nokay\n"
