@@ -1,7 +1,8 @@
 #!/usr/bin/env python3
 """Compares what a script of the gate passed with the names that it has to pass.
 
-Usage: .ci/floors.py [--update-floor] NAME FILE    FILE has what the script NAME passed, a name a line
+Usage: .ci/floors.py [--update-floor] NAME PASSED [FAILED]    PASSED has what the script NAME passed, a name a line; FAILED
+                                                              has what failed, which was said before
 
 The names are in .ci/floors/NAME.txt: sorted, one a line. A name that is there twice has to pass twice. What needs a tool has it
 at the end of its line, as in 'gofmt [needs go, gofmt]', and isn't looked for where that tool isn't there. A name of the list that
@@ -65,10 +66,10 @@ def hold(name, passed, failed=(), skipped=(), gone=(), is_updated=False):
 
 def main():
     words = [it for it in sys.argv[1:] if it != UPDATE]
-    if len(words) != 2:
+    if len(words) not in (2, 3):
         sys.exit(__doc__)
-    passed = [line_of(it) for it in pathlib.Path(words[1]).read_text(errors="backslashreplace").splitlines()]
-    return bool(hold(words[0], passed, is_updated=UPDATE in sys.argv))
+    texts = [pathlib.Path(it).read_text(errors="backslashreplace") for it in words[1:]]
+    return bool(hold(words[0], *([line_of(it) for it in text.splitlines()] for text in texts), is_updated=UPDATE in sys.argv))
 
 
 if __name__ == "__main__":

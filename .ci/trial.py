@@ -106,7 +106,7 @@ def run_tests(what, names_of, words, folder=ROOT, **environment):
     found = names_of(text)
     for name, good in found:
         note(good, f"{what}: {name}")
-    note(bool(found), f"{what}: a test is found")
+    note(bool(found), f"{what}: a test is found", "none is")
     note(told.returncode == 0, f"{what}: they end well", text[-4000:])
     return text
 

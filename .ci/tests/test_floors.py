@@ -31,7 +31,7 @@ cd "$top"
 program=it
 for word in $cases; do
     run ''
-    (exit 0)
+    (exit "${status-0}")
     expect "$word" 0 '' ''
 done
 report some
@@ -180,7 +180,7 @@ class Scripts(WithFloor):
 
 
 class Bash(unittest.TestCase):
-    def end(self, cases, *words):
+    def end(self, cases, *words, **settings):
         """Returns the status of a script in bash that tries these cases, and what it says."""
         with tempfile.TemporaryDirectory() as folder:
             top = pathlib.Path(folder)
@@ -191,7 +191,7 @@ class Bash(unittest.TestCase):
             (top / "it").write_text("#!/bin/sh\n")
             (top / "it").chmod(0o755)
             (top / ".ci/floors/some.txt").write_text("it: one\nit: two\n")
-            settings = {"PATH": f"{folder}:{os.environ['PATH']}", "top": folder, "cases": cases}
+            settings |= {"PATH": f"{folder}:{os.environ['PATH']}", "top": folder, "cases": cases}
             told = subprocess.run(["bash", top / "some", *words], env=settings, capture_output=True, text=True)
             return told.returncode, told.stdout + told.stderr
 
@@ -208,6 +208,12 @@ class Bash(unittest.TestCase):
         status, said = self.end("")
         self.assertEqual(status, 1)
         self.assertTrue(said.startswith("some: nothing passed\n"), said)
+
+    def test_what_fails_fails_once(self):
+        status, said = self.end("one two", status="1")
+        self.assertEqual(status, 1)
+        self.assertTrue(said.endswith("some: nothing passed\nsome: 0 passed, 3 failed\n"), said)
+        self.assertNotIn("didn't pass", said)
 
     def test_the_list_is_written(self):
         self.assertEqual(self.end("one new", "--update-floor"), (0, "some: 2 passed, 0 failed\n"))
