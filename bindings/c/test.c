@@ -699,22 +699,22 @@ static void test_memory(void) {
 #endif
 
 int main(void) {
-    test_version();
-    test_status_text();
-    test_numbers();
-    test_committee();
-    test_index();
-    test_set();
-    test_set_extremes();
-    test_set_index();
-    test_set_write();
-    test_map();
-    test_map_write();
-    test_map_write_unique();
-    test_certificate();
-    test_conflict();
-    test_slots();
-    test_sizes();
-    test_memory();
+    RUN(test_version);
+    RUN(test_status_text);
+    RUN(test_numbers);
+    RUN(test_committee);
+    RUN(test_index);
+    RUN(test_set);
+    RUN(test_set_extremes);
+    RUN(test_set_index);
+    RUN(test_set_write);
+    RUN(test_map);
+    RUN(test_map_write);
+    RUN(test_map_write_unique);
+    RUN(test_certificate);
+    RUN(test_conflict);
+    RUN(test_slots);
+    RUN(test_sizes);
+    RUN(test_memory);
     return report();
 }

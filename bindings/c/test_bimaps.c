@@ -160,10 +160,10 @@ static void test_many(void) {
 }
 
 int main(void) {
-    test_pairs();
-    test_room();
-    test_faults();
-    test_repeated();
-    test_many();
+    RUN(test_pairs);
+    RUN(test_room);
+    RUN(test_faults);
+    RUN(test_repeated);
+    RUN(test_many);
     return report();
 }

@@ -224,11 +224,11 @@ static void test_long(void) {
 }
 
 int main(void) {
-    test_keys();
-    test_committee();
-    test_certificate();
-    test_conflict();
-    test_rooms();
-    test_long();
+    RUN(test_keys);
+    RUN(test_committee);
+    RUN(test_certificate);
+    RUN(test_conflict);
+    RUN(test_rooms);
+    RUN(test_long);
     return report();
 }

@@ -129,7 +129,7 @@ static size_t deepest(enum order keys, enum order values, size_t pairs_count) {
     return most;
 }
 
-int main(void) {
+static void test_deepest(void) {
     static const size_t counts[] = {1, 2, 12, 50, 1000, PAIRS};
     size_t most = 0;
     for (size_t i = 0; i < ORDERS * ORDERS * sizeof counts / sizeof *counts; i++) {
@@ -140,5 +140,9 @@ int main(void) {
     }
     CHECK(most > 0 && most <= MOST);
     printf("the deepest call takes %zu bytes of stack\n", most);
+}
+
+int main(void) {
+    RUN(test_deepest);
     return report();
 }

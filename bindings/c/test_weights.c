@@ -195,6 +195,14 @@ static void try_namer(namer *name) {
     CHECK(out[0] == 9 && out[3] == 9);
 }
 
+static void test_conflict(void) {
+    try_namer(commonware_weighted_conflict);
+}
+
+static void test_equivocation(void) {
+    try_namer(commonware_weighted_equivocation);
+}
+
 /* Values without a slot, and of two slots, are in conflict, and no equivocation. */
 static void test_slots(void) {
     uint32_t out[4] = {9, 9, 9, 9};
@@ -301,16 +309,16 @@ static void test_too_many(void) {
 }
 
 int main(void) {
-    test_numbers();
-    test_sums();
-    test_check();
-    test_exactly();
-    test_weights_first();
-    try_namer(commonware_weighted_conflict);
-    try_namer(commonware_weighted_equivocation);
-    test_slots();
-    test_pages();
-    test_many();
-    test_too_many();
+    RUN(test_numbers);
+    RUN(test_sums);
+    RUN(test_check);
+    RUN(test_exactly);
+    RUN(test_weights_first);
+    RUN(test_conflict);
+    RUN(test_equivocation);
+    RUN(test_slots);
+    RUN(test_pages);
+    RUN(test_many);
+    RUN(test_too_many);
     return report();
 }

@@ -25,6 +25,15 @@ static inline void check(bool holds, const char *what, const char *file, int lin
 
 #define CHECK(condition) check((condition), #condition, __FILE__, __LINE__)
 
+/* Runs a test, and prints its name and whether all its checks hold. */
+static inline void run_test(void (*test)(void), const char *name) {
+    const int before = failed;
+    test();
+    printf("%s %s\n", failed == before ? "ok" : "not ok", name);
+}
+
+#define RUN(test) run_test(test, #test)
+
 #define OF(array) (array), sizeof(array) / sizeof *(array)
 
 /* Two certificates for different values, by 0, 1, 2 and by 1, 2, 3. */

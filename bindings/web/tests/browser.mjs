@@ -3,7 +3,8 @@
 // Usage: node browser.mjs BROWSER SINGLE CASES [PICTURES]   SINGLE is the page as a single file; CASES is how many
 //        random cases are tried; PICTURES is a folder for pictures of the page
 //
-// Each thing that is tried is a line, 'ok WHAT' or 'not ok WHAT: WHY'.
+// Each thing that is tried is a line, 'ok WHAT', or 'not ok WHAT' and below it why. What was counted or measured is a line
+// '# ..'.
 
 import { mkdtemp, rm, writeFile } from "node:fs/promises";
 import { tmpdir } from "node:os";
@@ -18,7 +19,7 @@ let failed = 0;
 
 function note(good, what, why = "") {
     failed += good ? 0 : 1;
-    console.log(good ? `ok ${what}` : `not ok ${what}: ${why}`);
+    console.log(good ? `ok ${what}` : `not ok ${what}\n    ${why}`);
 }
 
 /** Compares the text of an element with what it has to contain. */
@@ -49,7 +50,7 @@ async function tryModule(tab) {
             const file = await (await fetch("/vectors/${name}.json")).json();
             return tryVectors(await load(), "${name}", file);
         })()`);
-        note(wrong.length === 0, `browser: ${count} vectors of ${name}`, wrong.slice(0, 3).join("; "));
+        note(count > 0 && wrong.length === 0, `browser: the vectors of ${name}`, wrong.slice(0, 3).join("; "));
     }
     const { wrong, met, seconds } = await tab.value(`(async () => {
         const { load } = await import("/bindings/web/commonware.js");
@@ -59,7 +60,8 @@ async function tryModule(tab) {
         return { ...found, seconds: (performance.now() - begun) / 1000 };
     })()`);
     const results = Object.keys(met).length;
-    note(wrong.length === 0, `browser: ${cases} random cases in ${seconds.toFixed(1)} s, ${results} results of calls`, wrong.join("; "));
+    note(wrong.length === 0, "browser: random cases", wrong.join("; "));
+    console.log(`# browser: ${cases} random cases in ${seconds.toFixed(1)} s, ${results} results of calls`);
 }
 
 async function tryExamples(tab) {

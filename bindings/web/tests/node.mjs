@@ -2,7 +2,8 @@
 //
 // Usage: node node.mjs CASES
 //
-// Each thing that is tried is a line, 'ok WHAT' or 'not ok WHAT: WHY'.
+// Each thing that is tried is a line, 'ok WHAT', or 'not ok WHAT' and below it why. What was counted or measured is a line
+// '# ..'.
 
 import { readFile } from "node:fs/promises";
 import { resolve } from "node:path";
@@ -20,7 +21,7 @@ let failed = 0;
 
 function note(good, what, why = "") {
     failed += good ? 0 : 1;
-    console.log(good ? `ok ${what}` : `not ok ${what}: ${why}`);
+    console.log(good ? `ok ${what}` : `not ok ${what}\n    ${why}`);
 }
 
 /** Expects that a call throws an error of this name, which says this, and has these numbers. */
@@ -230,12 +231,13 @@ if (!module.isSupported()) {
     for (const name of Object.keys(FILES)) {
         const file = JSON.parse(await readFile(`${ROOT}/vectors/${name}.json`, "utf8"));
         const { count, wrong } = tryVectors(commonware, name, file);
-        note(wrong.length === 0, `node: ${count} vectors of ${name}`, wrong.slice(0, 3).join("; "));
+        note(count > 0 && wrong.length === 0, `node: the vectors of ${name}`, wrong.slice(0, 3).join("; "));
     }
     const { wrong, met } = tryRandom(commonware, cases, 2 ** 31);
-    note(wrong.length === 0, `node: ${cases} random cases, ${Object.keys(met).length} results of calls`, wrong.join("; "));
+    note(wrong.length === 0, "node: random cases", wrong.join("; "));
     const faults = tryFaults(commonware, Math.ceil(cases / 5));
-    note(faults.wrong.length === 0, `node: the place of each fault of ${faults.refused} random inputs`, faults.wrong.join("; "));
+    note(faults.wrong.length === 0, "node: the place of each fault of random inputs", faults.wrong.join("; "));
+    console.log(`# node: ${cases} random cases, ${Object.keys(met).length} results of calls; the place of ${faults.refused} faults`);
     tryArguments(commonware);
     tryLookUps(commonware);
     tryPairs(commonware);
