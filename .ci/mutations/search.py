@@ -15,7 +15,9 @@ class Search:
     def run(self):
         """Looks for a witness of each, and tells of those that have none."""
         left = self.results.unshown()
-        if not left:
+        if not left or self.results.is_lenient:
+            for at in left:
+                self.results.show(at, None)
             return
         witnesses, found = Witnesses(self.every, self.room, self.jobs), {}
         for at, edit in left.items():
