@@ -71,4 +71,4 @@ def key(crate, edit):
         own = plain(edit.was), plain(edit.part), edit.attributes, answers(crate, edit.of)
     else:
         own = plain((proved.ROOT / "crates" / crate / edit.file).read_text()), plain(edit.text)
-    return digest(base(crate), edit.of, edit.file, own, edit.said)
+    return digest(base(crate), edit.of, edit.file, own)

@@ -2,13 +2,14 @@
 
 crates/NAME/wrong-bodies/refusals.tsv has a line for each mutation of a crate, with four columns: its name; its key (keys.py); the
 clauses and goals that refused it; and what shows that it means something else: 'values', at which the prover finds a goal false;
-'witness TEST SUM', a test of this repository that fails with it, with a checksum of that test's module; 'its own witness', which
-it states; 'reason', which it states; or 'compile error'. 'nothing yet' counts only for a lenient run.
+'witness TEST SUM', a test of this repository that fails with it, with a checksum of that test's module; 'its own witness SUM', which
+it states, with a checksum of it; 'reason', which it states; or 'compile error'. 'nothing yet' counts only for a lenient run.
 """
 import typing
 
 from proved import ROOT
 
+from .keys import digest
 from .witnesses import test_text
 
 VALUES, OWN, REASON, COMPILER, WITNESS = "values", "its own witness", "reason", "compile error", "witness"
@@ -29,15 +30,20 @@ class Line(typing.NamedTuple):
         """Returns the name of the test that fails with the mutation, or None where none is noted."""
         return self.shown.split()[1] if self.kind() == WITNESS else None
 
-    def holds(self, key):
-        """Tells whether the line is of a mutation with this key, and of a test that is as it was."""
-        test = self.test()
-        return self.key == key and (not test or test_text(test) == self.shown.split()[2])
+    def holds(self, edit):
+        """Tells whether the line is of this edit, which has its key, and of a test or a witness that is as it was."""
+        is_same = {WITNESS: lambda: self.shown == witness(self.test()), OWN: lambda: self.shown == own_witness(edit)}
+        return self.key == edit.key and is_same.get(self.kind(), lambda: True)()
 
 
 def witness(test):
     """Returns what a line has for a test that fails with a mutation."""
     return f"{WITNESS} {test} {test_text(test)}"
+
+
+def own_witness(edit):
+    """Returns what a line has for a witness that an edit states."""
+    return f"{OWN} {digest(edit.said['witness'])[:8]}"
 
 
 def place(crate):

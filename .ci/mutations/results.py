@@ -38,7 +38,7 @@ class Results:
             self.known[at] = line = lines.get(edit.name)
             edit.key = keys.key(crate, edit)
             is_shown = line and (self.is_lenient or line.kind() != ledger.NOTHING)
-            if is_shown and line.holds(edit.key) and not self.is_anew:
+            if is_shown and line.holds(edit) and not self.is_anew:
                 self.lines[at] = line
 
     def choose(self):

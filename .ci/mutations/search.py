@@ -22,7 +22,7 @@ class Search:
         witnesses, found = Witnesses(self.every, self.room, self.jobs), {}
         for at, edit in left.items():
             if edit.said["witness"]:
-                found[at] = ledger.OWN if witnesses.is_shown(at[0], edit) else None
+                found[at] = ledger.own_witness(edit) if witnesses.is_shown(at[0], edit) else None
         tests = [at for at, edit in left.items() if at not in found and switched(edit)]
         for crate in self.crates(tests):
             some = [(at[0], left[at]) for at in tests if at not in found and self.may_tell(crate, at)]

@@ -75,6 +75,13 @@ class Conclusions(unittest.TestCase):
         self.assertEqual(self.run_of([edit("a", "2")], {}), ([], {}))
         self.assertEqual(self.run_of([edit("a", "2")], {"a": FALSE}, is_anew=True)[0], ["a"])
 
+    def test_a_line_of_a_stated_witness_holds_until_that_changes(self):
+        stated = lambda code: edit("a", "1", witness=[code])
+        told = {"a": ledger.own_witness(stated("first() == 1"))}
+        self.assertEqual(self.run_of([stated("first() == 1")], {"a": REFUSED}, told), (["a"], {}))
+        self.assertEqual(self.run_of([stated("first() == 1")], {}), ([], {}))
+        self.assertEqual(self.run_of([stated("first() == 2")], {"a": FALSE})[0], ["a"])
+
     def test_lines_of_no_mutation_go(self):
         self.run_of([edit("a", "1"), edit("b", "2")], {"a": FALSE, "b": FALSE})
         self.run_of([edit("b", "2")], {})
