@@ -46,6 +46,12 @@ class Results:
         self.again = sampled(self.lines) if self.is_whole else set()
         return {**self.right, **{at: it for at, it in self.edits.items() if at not in self.lines or at in self.again}}
 
+    def reopen(self):
+        """Takes what the ledger says that the prover refused, where nothing shows it yet, as if this run had tried it."""
+        for at, line in [(at, it) for at, it in self.lines.items() if it.kind() == ledger.NOTHING]:
+            del self.lines[at]
+            self.verdicts[at] = Verdict(True, "the ledger says so", by=line.by)
+
     def tell(self, crate, name, verdict):
         """Notes the verdict of the prover on an edit, and says it."""
         with self.lock:

@@ -60,6 +60,17 @@ class Conclusions(unittest.TestCase):
         self.assertEqual(self.run_of([edit("a", "1")], {}, is_lenient=True), ([], {}))
         self.assertEqual(list(self.run_of([edit("a", "1")], {"a": REFUSED})[1]), ["a"])
 
+    def test_what_nothing_shows_yet_is_reopened(self):
+        self.run_of([edit("a", "1"), edit("b", "2")], {"a": REFUSED, "b": FALSE}, is_lenient=True)
+        run = results.Results(False, False, True)
+        run.take("small", [edit("a", "1"), edit("b", "2")])
+        run.reopen()
+        self.assertEqual(list(run.unshown()), [("small", "a")])
+        run.show(("small", "a"), ledger.witness("small::bench::a"))
+        run.write()
+        lines = ledger.read("small")
+        self.assertEqual((lines["a"].by, lines["a"].test(), lines["b"].kind()), (REFUSED.by, "small::bench::a", ledger.VALUES))
+
     def test_a_witness_shows_it(self):
         found = self.run_of([edit("a", "1")], {"a": REFUSED}, {"a": ledger.witness("small::bench::a")})
         self.assertEqual(found, (["a"], {}))
