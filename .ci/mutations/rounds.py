@@ -176,7 +176,7 @@ class Trial:
     def judge(self, edit, said, may_be_tried_again):
         """Concludes what a check has said of an edit, or tries it otherwise."""
         verdict = said.verdict(edit.function, edit.change())
-        if may_be_tried_again and verdict.why.startswith(CALLEES):
+        if may_be_tried_again and verdict.why.startswith(CALLEES) and not edit.is_right:
             self.round([edit], False)
         elif verdict.by_answers and not edit.left_out:
             self.unanswered.append(edit.without(verdict))

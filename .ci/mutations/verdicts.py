@@ -41,8 +41,8 @@ class Verdict(typing.NamedTuple):
 
     @property
     def is_judged(self):
-        """Tells whether the prover has judged the function, and no goal of another one decides."""
-        return self.is_refused or self.why.startswith((PROVED, SHAPE, BESIDE))
+        """Tells whether the prover has judged the function."""
+        return self.is_refused or self.why.startswith((PROVED, SHAPE, BESIDE, CALLEES))
 
 
 class Refusal:
