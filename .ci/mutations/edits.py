@@ -2,7 +2,8 @@
 
 wrong-bodies/*.edits has for each source a line 'file: PATH', and below it of each of its mutations a line '[NAME]', a line
 'function: PATH', as rt check prints it, that names the function to be refused, and pairs of lines 'old: TEXT' and 'new: TEXT',
-which are read as those of a must-fail edit. A mutation of what is in no function has no line 'function:'.
+which are read as those of a must-fail edit; but an old text that is in several functions may be once in this one. A mutation of
+what is in no function has no line 'function:'.
 
 What shows that a mutation means something else, where the prover has no values and no test of the repository tells it apart:
 'witness: CODE' is code in the module of the function that holds for the function and not for the mutation (lines before the last
@@ -38,9 +39,7 @@ class Edit:
             raise ValueError("more than one of 'witness', 'reason' and 'compile-error' says what shows that it is wrong")
         was = self.text = (folder / file).read_text()
         for old, new in pairs:
-            if self.text.count(old) != 1:
-                raise ValueError(f"an old text is in {file} {self.text.count(old)} times, and not once")
-            self.text = self.text.replace(old, new)
+            self.text = replaced(self.text, old, new, function)
         if self.text == was:
             raise ValueError("it changes nothing")
         if function:
@@ -71,6 +70,20 @@ class Edit:
     def change(self):
         """Returns what it changes, where it has been written to a file (line)."""
         return paths.Change(self.was, self.part, self.file, self.line) if self.function else None
+
+
+def replaced(text, old, new, function):
+    """Returns a text in which the one old text is replaced, which is the only one in the text, or at least in the function."""
+    found, cut = text.count(old), parts(text)
+    if found > 1 and function:
+        name = function.split("::")[-1]
+        here = [at for at, it in enumerate(cut) if (head := FUNCTION.match(it)) and head[1] == name and old in it]
+        if len(here) == 1 and cut[here[0]].count(old) == 1:
+            cut[here[0]] = cut[here[0]].replace(old, new)
+            return "".join(cut)
+    if found != 1:
+        raise ValueError(f"an old text is there {found} times, and not once")
+    return text.replace(old, new)
 
 
 def is_copy(edit):

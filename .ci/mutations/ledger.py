@@ -3,7 +3,7 @@
 crates/NAME/wrong-bodies/refusals.tsv has a line for each mutation of a crate, with four columns: its name; its key (keys.py); the
 clauses and goals that refused it; and what shows that it means something else: 'values', at which the prover finds a goal false;
 'witness TEST SUM', a test of this repository that fails with it, with a checksum of that test's module; 'its own witness SUM', which
-it states, with a checksum of it; 'reason', which it states; or 'compile error'. 'nothing yet' counts only for a lenient run.
+it states, with a checksum of it; 'reason', which it states; or 'compile error'.
 """
 import typing
 
@@ -13,8 +13,7 @@ from .keys import digest
 from .witnesses import test_text
 
 VALUES, OWN, REASON, COMPILER, WITNESS = "values", "its own witness", "reason", "compile error", "witness"
-NOTHING = "nothing yet"
-KINDS = (VALUES, WITNESS, OWN, REASON, COMPILER, NOTHING)
+KINDS = (VALUES, WITNESS, OWN, REASON, COMPILER)
 
 
 class Line(typing.NamedTuple):

@@ -6,7 +6,6 @@ import threading
 from proved import ROOT
 
 from . import keys, ledger
-from .verdicts import Verdict
 
 # The part of the lines that hold which a whole run tries again.
 SHARE = 0.05
@@ -22,8 +21,8 @@ def sampled(names):
 class Results:
     """What became of each edit: by its crate and name the verdict of the prover, and the line of the ledger that it has then."""
 
-    def __init__(self, is_anew, is_whole, is_lenient=False):
-        self.is_anew, self.is_whole, self.is_lenient, self.lock = is_anew, is_whole, is_lenient, threading.Lock()
+    def __init__(self, is_anew, is_whole):
+        self.is_anew, self.is_whole, self.lock = is_anew, is_whole, threading.Lock()
         self.verdicts, self.edits, self.lines, self.known, self.failed, self.again = {}, {}, {}, {}, {}, set()
         # The right bodies.
         self.right = {}
@@ -37,20 +36,13 @@ class Results:
             self.edits[at] = edit
             self.known[at] = line = lines.get(edit.name)
             edit.key = keys.key(crate, edit)
-            is_shown = line and (self.is_lenient or line.kind() != ledger.NOTHING)
-            if is_shown and line.holds(edit) and not self.is_anew:
+            if line and not self.is_anew and line.holds(edit):
                 self.lines[at] = line
 
     def choose(self):
         """Returns what is to be tried: what has no line that holds, and in a whole run a part of what has one."""
         self.again = sampled(self.lines) if self.is_whole else set()
         return {**self.right, **{at: it for at, it in self.edits.items() if at not in self.lines or at in self.again}}
-
-    def reopen(self):
-        """Takes what the ledger says that the prover refused, where nothing shows it yet, as if this run had tried it."""
-        for at, line in [(at, it) for at, it in self.lines.items() if it.kind() == ledger.NOTHING]:
-            del self.lines[at]
-            self.verdicts[at] = Verdict(True, "the ledger says so", by=line.by)
 
     def tell(self, crate, name, verdict):
         """Notes the verdict of the prover on an edit, and says it."""
@@ -100,8 +92,7 @@ class Results:
         if at in self.right:
             if shown:
                 self.fail(at, f"a right body is shown to be wrong: {shown}")
-        elif shown or self.is_lenient:
-            shown = shown or ledger.NOTHING
+        elif shown:
             self.lines[at] = ledger.Line(at[1], self.edits[at].key, self.verdicts[at].by, shown)
             print(f"{' '.join(at)}: {shown}", flush=True)
         else:

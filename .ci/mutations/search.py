@@ -7,17 +7,15 @@ from .witnesses import Witnesses, test_crates
 
 
 class Search:
-    """The search for witnesses of what a run has refused, in a folder; every has all edits, by crate. A lenient run has none."""
+    """The search for witnesses of what a run has refused, in a folder; every has all edits, by crate."""
 
-    def __init__(self, results, every, room, jobs, is_wanted):
-        self.results, self.every, self.room, self.jobs, self.is_wanted = results, every, room, jobs, is_wanted
+    def __init__(self, results, every, room, jobs):
+        self.results, self.every, self.room, self.jobs = results, every, room, jobs
 
     def run(self):
         """Looks for a witness of each, and tells of those that have none."""
         left = self.results.unshown()
-        if not left or not self.is_wanted:
-            for at in left:
-                self.results.show(at, None)
+        if not left:
             return
         witnesses, found = Witnesses(self.every, self.room, self.jobs), {}
         for at, edit in left.items():

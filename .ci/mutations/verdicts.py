@@ -140,5 +140,7 @@ class Said:
         untried = frozenset(it.goal for it in counted if it.goal and not it.is_tried)
         by_answers = frozenset() if is_refused and any(it.is_tried for it in counted) else untried
         why = (SHAPE if is_shape else BESIDE if is_beside else "") + refusal.says()
-        by = tuple(dict.fromkeys(it.kind() for it in counted)) if is_refused else ()
+        # A term that doesn't fit says nothing of its own goal, where another goal was tried and left open.
+        open_goals = [it for it in counted if it.is_tried] or counted
+        by = tuple(dict.fromkeys(it.kind() for it in open_goals)) if is_refused else ()
         return Verdict(is_refused, why, refusal.goal, by_answers, by, is_refused and has_values(counted))

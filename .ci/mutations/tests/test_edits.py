@@ -29,6 +29,12 @@ class Read(unittest.TestCase):
         self.assertEqual(read(f"{EDITS}compile-error: moved\n")[0][1].said["compile-error"], ["moved"])
         self.assertIn("more than one of", read(f"{EDITS}reason: a ghost\nwitness: true\n")[1][0][1])
 
+    def test_a_text_of_several_functions_is_that_of_the_one(self):
+        (first, _), told = read(EDITS.replace("old: let first = self.0;\nnew: let first = self.1;", "old: self.0\nnew: self.1"))
+        self.assertEqual(told, [])
+        self.assertIn("let first = self.1;", first.part)
+        self.assertIn("self.0.checked_add(self.1)", first.text)
+
     def test_right_bodies_are_told_apart(self):
         with crate() as folder:
             (folder / "right-bodies").mkdir()
@@ -38,7 +44,7 @@ class Read(unittest.TestCase):
 
     def test_what_can_not_be_applied(self):
         for old, new, why in [
-            ("old: let first = self.0;", "old: self.0", "3 times, and not once"),
+            ("old: let first = self.0;", "old: first", "4 times, and not once"),
             ("new: let first = self.1;", "new: let first = self.0;", "it changes nothing"),
             ("Pair::first\nold: let", "Pair::sum\nold: let", "not all in one function"),
             ("[first_is_none]", "[first_is_the_second]", "another mutation of this crate has its name"),

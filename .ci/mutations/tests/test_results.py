@@ -34,9 +34,9 @@ class Conclusions(unittest.TestCase):
             self.enterContext(patch)
         self.again = []
 
-    def run_of(self, edits, verdicts, tests={}, is_anew=False, is_lenient=False):
+    def run_of(self, edits, verdicts, tests={}, is_anew=False):
         """Returns the names that a run tries, which then finds these verdicts and tests, and what fails; it writes the ledger."""
-        run = results.Results(is_anew, True, is_lenient)
+        run = results.Results(is_anew, True)
         run.take("small", edits)
         tried = [name for _, name in run.choose()]
         for name in tried:
@@ -54,22 +54,6 @@ class Conclusions(unittest.TestCase):
         lines = ledger.read("small")
         self.assertEqual({name: it.kind() for name, it in lines.items()}, {"b": ledger.VALUES, "c": ledger.REASON})
         self.assertEqual(lines["b"].by, ("clause value", "goal loop-x-preserved"))
-
-    def test_a_lenient_run_notes_that_nothing_shows_it(self):
-        self.assertEqual(self.run_of([edit("a", "1")], {"a": REFUSED}, is_lenient=True), (["a"], {}))
-        self.assertEqual(self.run_of([edit("a", "1")], {}, is_lenient=True), ([], {}))
-        self.assertEqual(list(self.run_of([edit("a", "1")], {"a": REFUSED})[1]), ["a"])
-
-    def test_what_nothing_shows_yet_is_reopened(self):
-        self.run_of([edit("a", "1"), edit("b", "2")], {"a": REFUSED, "b": FALSE}, is_lenient=True)
-        run = results.Results(False, False, True)
-        run.take("small", [edit("a", "1"), edit("b", "2")])
-        run.reopen()
-        self.assertEqual(list(run.unshown()), [("small", "a")])
-        run.show(("small", "a"), ledger.witness("small::bench::a"))
-        run.write()
-        lines = ledger.read("small")
-        self.assertEqual((lines["a"].by, lines["a"].test(), lines["b"].kind()), (REFUSED.by, "small::bench::a", ledger.VALUES))
 
     def test_a_witness_shows_it(self):
         found = self.run_of([edit("a", "1")], {"a": REFUSED}, {"a": ledger.witness("small::bench::a")})

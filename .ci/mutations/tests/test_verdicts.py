@@ -50,6 +50,17 @@ class Words(unittest.TestCase):
         with mock.patch.object(verdicts, "CONTINUED", re.compile(r"(?!)")):
             self.assertFalse(all(is_read(*it[1:]) for it in cases()))
 
+    def test_an_answer_that_fits_no_more_does_not_name_its_goal(self):
+        open_goal = "note: src/lib.rt:3:5: not proved (`returns-clause-value`)\n"
+        no_term = "proofs/f/Answers.antt:4:1: error: `returns-clause-cost`: record `Lts.View` expects a number\n"
+        for text, by in (
+            (open_goal, ("clause value",)),
+            (no_term + open_goal, ("clause value",)),
+            (no_term, ("clause cost",)),
+        ):
+            said = verdicts.Said(1, f"{text}fn a::f: not proved\nlogic=not-proved")
+            self.assertEqual(said.verdict("a::f").by, by)
+
     def test_the_time_limit_is_no_verdict(self):
         said = verdicts.Said(verdicts.LATE, "fn a::f: proved\nended after 1200 seconds")
         self.assertTrue(said.is_late)
