@@ -378,8 +378,9 @@ COMMONWARE_CHECKED commonware_written_view commonware_certificate_write(
     uint8_t *out, size_t out_length);
 
 /* Writes the value that a decision for a slot is to the start of `out`: the slot's length, the slot
- * and the decision. A slot is what a protocol decides once, as bytes of its choice: a height and a
- * view, say. Members sign this value, and a certificate of it is written by
+ * and the decision. A slot is what an honest member signs at most once, as bytes of the protocol's
+ * choice: chain, committee, height, round and kind of vote, say. A height alone is too little where
+ * there are rounds. Members sign this value, and a certificate of it is written by
  * commonware_certificate_write. At OK and ROOM the view's `size` is told, `count` never.
  * INVALID_LENGTH for the first of the slot, the decision and the value that is past 4294967295.
  * Never MEMORY. */

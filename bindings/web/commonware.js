@@ -317,8 +317,8 @@ export class Commonware {
         return this.#plain("certificate_write", [bytes, indices], 10 + bytes.length + 5 * indices.length);
     }
 
-    /** Encodes the value that a decision for a slot is. A slot is what a protocol decides once: a height and a
-     * view, say. Members sign this value. */
+    /** Encodes the value that a decision for a slot is. A slot is what an honest member signs at most once: chain,
+     * committee, height, round and kind of vote, say. Members sign this value. */
     encodeValue(slot, decision) {
         const parts = [bytesOf("slot", slot), bytesOf("decision", decision)];
         return this.#plain("value_write", parts, 5 + parts[0].length + parts[1].length);

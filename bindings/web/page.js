@@ -367,7 +367,7 @@ class Page {
             show($("both"), "bad", made("strong", {}, `Equivocation: ${named(found)} signed two different decisions for one slot.`), `If the signatures are genuine, none of them is honest. ${rest}`);
         } catch (error) {
             if (error.name === "OtherSlot") {
-                show($("both"), "good", made("strong", {}, "Two different slots."), "Honest members sign one decision a slot, so whoever signed both did nothing wrong.");
+                show($("both"), "good", made("strong", {}, "Two different slots."), "An honest member signs at most one decision a slot. Between two slots this rule accuses no one, and clears no one.");
             } else if (error.name === "SameValue") {
                 show($("both"), "good", made("strong", {}, "One decision for one slot."), "Two certificates for the same accuse no one.");
             } else if (error.name === "NoSlot") {
