@@ -123,8 +123,8 @@ func checkedOf(view foundChecked, input []byte) (Checked, error) {
 // model's k is 3 or more, at least one of them is outside every set of f members. Each input is exactly one
 // certificate.
 //
-// To sign two values is a fault only where both are for one slot (a height and a view, say), which [Equivocation] asks:
-// honest members sign many values, one a slot.
+// To sign two values is a fault only where both are for one slot (chain, committee, height, round and kind of vote,
+// say), which [Equivocation] asks: honest members sign many values, at most one a slot.
 //
 // Warning: no signature is looked at. Whoever doesn't verify them first may accuse an innocent member.
 //

@@ -221,7 +221,8 @@ typedef struct {
  * is the number of keys, which are 32 * members_length bytes in a row: &keys[0][0] of a `uint8_t
  * keys[n][32]`. They may come in any order and repeat. COMMONWARE_COMMITTEE_SIZE(members_length)
  * bytes always suffice. INVALID_LENGTH where the distinct keys are more than 4294967295. Never
- * NOT_STRICT, NO_SIZE or NOT_WHOLE. */
+ * MEMORY where the keys come in order, each once, as one key and no keys do: nothing is allocated
+ * then. Never NOT_STRICT, NO_SIZE or NOT_WHOLE. */
 COMMONWARE_CHECKED commonware_written_view commonware_committee_write(
     const uint8_t *members, size_t members_length, uint8_t *out, size_t out_length);
 
@@ -263,7 +264,8 @@ COMMONWARE_CHECKED commonware_place_view commonware_set_index(
  * key once. The keys may come in any order and repeat; `keys_length` is in bytes. 5 + keys_length
  * bytes always suffice. NO_SIZE exactly where `size` is 0, NOT_WHOLE exactly where it is greater
  * and doesn't divide `keys_length`, INVALID_LENGTH where the distinct keys are more than
- * 4294967295. Never NOT_STRICT. At a size of 32 it is commonware_committee_write. */
+ * 4294967295. Never MEMORY where the keys come in order, each once, as one key and no keys do:
+ * nothing is allocated then. Never NOT_STRICT. At a size of 32 it is commonware_committee_write. */
 COMMONWARE_CHECKED commonware_written_view commonware_set_write(
     size_t size, const uint8_t *keys, size_t keys_length, uint8_t *out, size_t out_length);
 
@@ -333,7 +335,8 @@ COMMONWARE_CHECKED commonware_bimap_view commonware_bimap_read(
  * ROOM `count` is less than the number of pairs exactly where a key repeats. 10 + pairs_length
  * bytes always suffice. NO_SIZE exactly where `key_size` is 0; NOT_WHOLE exactly where it is
  * greater and the sum of both sizes, which never wraps, doesn't divide `pairs_length`;
- * INVALID_LENGTH where the distinct keys are more than 4294967295. Never NOT_STRICT. */
+ * INVALID_LENGTH where the distinct keys are more than 4294967295. Never MEMORY for no pairs, and
+ * never NOT_STRICT. */
 COMMONWARE_CHECKED commonware_written_view commonware_map_write(
     size_t key_size, size_t value_size, const uint8_t *pairs, size_t pairs_length, uint8_t *out,
     size_t out_length);
@@ -343,8 +346,8 @@ COMMONWARE_CHECKED commonware_written_view commonware_map_write(
  * pair whose key an earlier pair has. The status is the first of these: NO_SIZE, NOT_WHOLE,
  * REPEATED_KEY or MEMORY, whichever is met first, INVALID_LENGTH where the pairs are more than
  * 4294967295, ROOM. Where there is memory, it is REPEATED_KEY exactly where the keys have bytes,
- * the pairs are whole and a key repeats. 10 + pairs_length bytes always suffice. Never
- * NOT_STRICT. */
+ * the pairs are whole and a key repeats. 10 + pairs_length bytes always suffice. Never MEMORY for
+ * no pairs, and never NOT_STRICT. */
 COMMONWARE_CHECKED commonware_written_view commonware_map_write_unique(
     size_t key_size, size_t value_size, const uint8_t *pairs, size_t pairs_length, uint8_t *out,
     size_t out_length);

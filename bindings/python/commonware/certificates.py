@@ -247,8 +247,8 @@ def conflict(k: int, members: _Members, first: _Given, second: _Given) -> Tuple[
     encoded, or a `Certificate`; `members` is the `Committee`, or the number of its members, whose keys may have any
     size.
 
-    To sign two values is a fault only where both are for one slot (a height and a view, say), which
-    `equivocation` asks: honest members sign many values, one a slot.
+    To sign two values is a fault only where both are for one slot (chain, committee, height, round and kind of vote,
+    say), which `equivocation` asks: honest members sign many values, at most one a slot.
 
     Warning: no signature is looked at. Whoever doesn't verify them first may accuse an innocent member.
 

@@ -8,7 +8,7 @@ use Rattle.committee_certificates.specs.Cursors.{IsAt}
 use Rattle.committee_certificates.specs.InPlace.{sum_at}
 use Rattle.committee_certificates.specs.Signers.{AreMembers}
 use Rattle.committee_certificates.specs.declared.walk.Cursor.{Cursor}
-use Rattle.committee_certificates.proofs.Walked.{IsNext}
+use Rattle.committee_certificates.proofs.Ascended.{IsNext}
 
 -- the number at an index, or 0 past the last
 abbrev number_at : List ℕ → ℕ → ℕ
@@ -46,7 +46,7 @@ module _ (numbers indices : List ℕ) (cursor : Cursor) (sum : ℕ) (p : IsSumme
         go (x ∷ left) at same = then x left at same
 
     -- its number is added
-    pub summed_more : (next : Cursor) (number : ℕ) → IsNext cursor next → cursor.index < length numbers
+    pub summed_more : (next : Cursor) (number : ℕ) → IsNext Cursor IsAt cursor next → cursor.index < length numbers
         → number ≡ get_or numbers cursor.index 0 → IsSummed numbers indices next (sum + number)
     summed_more next number step inside is = opened (λ x left at same. record {
       before = p.before ++ cursor.index ∷ [];

@@ -1,10 +1,8 @@
 -- What a walk along signers in place keeps.
-use Rattle.std.proofs.Common.{◌≡◌, ℕ, suc, ◌+◌, ◌<◌, ◌≤◌, ◌^◌, ◌⊎◌, inl, inr, List, [], ◌∷◌, ◌++◌, append-nil, append_assoc, length, slice_set}
+use Rattle.std.proofs.Common.{◌≡◌, ℕ, suc, ◌+◌, ◌<◌, ◌≤◌, ◌^◌, List, [], ◌∷◌, ◌++◌, append-nil, append_assoc, length, slice_set}
 use Rattle.std.proofs.Common.{refl, ap, subst, sym, ◌∙◌, arith, length-append}
 use Rattle.std.proofs.Math.Seq.{drop-nil, take-nil}
 use Rattle.std.specs.List.{flat_map}
-use Rattle.std.specs.Ordering.{nat_cmp}
-use Rattle.commonware_ordered.specs.Strict.{IsStrict}
 use Rattle.commonware_base.specs.declared.codec.error.Error.{Error}
 use Rattle.commonware_base.specs.declared.codec.source.Source.{Source}
 use Rattle.commonware_base.specs.Refusal.{Refuses}
@@ -12,10 +10,8 @@ use Rattle.commonware_base.specs.Source.{Consumes, rest_of}
 use Rattle.commonware_base.specs.Varint.{varint, varint_fault}
 use Rattle.commonware_base.specs.laws.RefusalLaws.{fault_of_refusal}
 use Rattle.commonware_base.specs.laws.VarintLaws.{varint_no_fault, varint_split}
-use Rattle.committee_certificates.proofs.Both.{AreInBoth-common, common, common_equal, common_greater, common_less, common_none}
-use Rattle.commonware_ordered.specs.laws.PositionLaws.{RisesFrom, rises_from_strict, rises_lower}
 use Rattle.committee_certificates.specs.Cursors.{GoesOnWith, IsAt}
-use Rattle.committee_certificates.specs.InPlace.{AreWrittenBoth, written}
+use Rattle.committee_certificates.specs.InPlace.{written}
 use Rattle.committee_certificates.specs.declared.walk.Cursor.{Cursor}
 
 -- one index more, where the room has its place
@@ -122,130 +118,3 @@ module _ (indices : List ℕ) (cursor : Cursor) (count : ℕ) (old_room room : L
           p.room
           ∙ ap (λ l. written l old_room) (sym (append-nil p.before) ∙ ap (λ l. p.before ++ l) (sym e) ∙ p.same)
       go (x ∷ left) e = absurd (let at = subst (IsAt cursor) e p.at in omega (arith, at.0, none))
-
--- Along two lists of signers the indices in both before the two places are `kept`, and they are written to the room.
-pub record ArePassed (first second : List ℕ) (one two : Cursor) (count : ℕ) (old_room new_room : List ℕ) : Type 0 where
-  pub kept : List ℕ
-  pub firsts : List ℕ
-  pub seconds : List ℕ
-  pub at_first : IsAt one firsts
-  pub at_second : IsAt two seconds
-  pub firsts_rise : RisesFrom 0 firsts
-  pub seconds_rise : RisesFrom 0 seconds
-  pub same : kept ++ common firsts seconds ≡ common first second
-  pub count_is : count ≡ length kept
-  pub room : new_room ≡ written kept old_room
-
--- none is before the first places
-pub both_none : (first second : List ℕ) (one two : Cursor) (room : List ℕ) → IsStrict nat_cmp first
-    → IsStrict nat_cmp second → IsAt one first → IsAt two second → ArePassed first second one two 0 room room
-both_none first second one two room s t at_first at_second = record {
-  kept = [];
-  firsts = first;
-  seconds = second;
-  at_first = at_first;
-  at_second = at_second;
-  firsts_rise = rises_from_strict first s;
-  seconds_rise = rises_from_strict second t;
-  same = refl;
-  count_is = refl;
-  room = sym (written_none room);
-}
-
--- what the place after another is
-abbrev pub IsNext : Cursor → Cursor → Type 0
-IsNext cursor next = (index : ℕ) (rest : List ℕ) → IsAt cursor (index ∷ rest) → IsAt next rest
-
-module _ (first second : List ℕ) (one two : Cursor) (count : ℕ) (old_room room : List ℕ)
-    (p : ArePassed first second one two count old_room room) where
-  module _ (first_left : 0 < one.left) (second_left : 0 < two.left) where
-    -- there is an index at both places
-    opened : {Goal : Type 0}
-        → ((x y : ℕ) (xs ys : List ℕ) → IsAt one (x ∷ xs) → IsAt two (y ∷ ys) → RisesFrom 0 (x ∷ xs)
-        → RisesFrom 0 (y ∷ ys) → p.kept ++ common (x ∷ xs) (y ∷ ys) ≡ common first second → Goal) → Goal
-    opened {Goal} then = go p.firsts p.seconds p.at_first p.at_second p.firsts_rise p.seconds_rise p.same
-      where
-        go : (xs ys : List ℕ) → IsAt one xs → IsAt two ys → RisesFrom 0 xs → RisesFrom 0 ys
-            → p.kept ++ common xs ys ≡ common first second → Goal
-        go [] ys at at' r r' same = absurd (omega (arith, at, first_left))
-        go (x ∷ xs) [] at at' r r' same = absurd (omega (arith, at', second_left))
-        go (x ∷ xs) (y ∷ ys) at at' r r' same = then x y xs ys at at' r r' same
-
-    -- the first one is less
-    pub both_less : (next : Cursor) → one.index < two.index → IsNext one next
-        → ArePassed first second next two count old_room room
-    both_less next less step = opened (λ x y xs ys at at' r r' same. record {
-      kept = p.kept;
-      firsts = xs;
-      seconds = y ∷ ys;
-      at_first = step x xs at;
-      at_second = at';
-      firsts_rise = rises_lower (x + 1) 0 xs (omega arith) r.1;
-      seconds_rise = r';
-      same = ap (λ l. p.kept ++ l) (sym (common_less x y xs ys (omega (arith, less, at.1, at'.1)) r')) ∙ same;
-      count_is = p.count_is;
-      room = p.room;
-    })
-
-    -- the second one is
-    pub both_greater : (next : Cursor) → two.index < one.index → IsNext two next
-        → ArePassed first second one next count old_room room
-    both_greater next less step = opened (λ x y xs ys at at' r r' same. record {
-      kept = p.kept;
-      firsts = x ∷ xs;
-      seconds = ys;
-      at_first = at;
-      at_second = step y ys at';
-      firsts_rise = r;
-      seconds_rise = rises_lower (y + 1) 0 ys (omega arith) r'.1;
-      same = ap (λ l. p.kept ++ l) (sym (common_greater x y xs ys (omega (arith, less, at.1, at'.1)) r)) ∙ same;
-      count_is = p.count_is;
-      room = p.room;
-    })
-
-    -- they are the same, which is put
-    pub both_equal : (next next' : Cursor) (new_room : List ℕ) → one.index ≡ two.index → IsNext one next
-        → IsNext two next'
-        → ((before room' : List ℕ) → count ≡ length before → room ≡ written before room'
-        → new_room ≡ written (before ++ one.index ∷ []) room')
-        → ArePassed first second next next' (count + 1) old_room new_room
-    both_equal next next' new_room same_index step step' put = opened (λ x y xs ys at at' r r' same. record {
-      kept = p.kept ++ one.index ∷ [];
-      firsts = xs;
-      seconds = ys;
-      at_first = step x xs at;
-      at_second = step' y ys at';
-      firsts_rise = rises_lower (x + 1) 0 xs (omega arith) r.1;
-      seconds_rise = rises_lower (y + 1) 0 ys (omega arith) r'.1;
-      same =
-          let is : y ≡ x = omega (arith, same_index, at.1, at'.1) in
-          let here : common (x ∷ xs) (y ∷ ys) ≡ x ∷ common xs ys =
-          ap (λ z. common (x ∷ xs) (z ∷ ys)) is ∙ common_equal x xs ys r in
-          append_assoc p.kept (one.index ∷ []) (common xs ys) ∙ ap (λ i. p.kept ++ i ∷ common xs ys) at.1
-          ∙ ap (λ l. p.kept ++ l) (sym here) ∙ same;
-      count_is = let n = length-append p.kept (one.index ∷ []) in omega (arith, n, p.count_is);
-      room = put p.kept old_room p.count_is p.room;
-    })
-
-  -- where no index is left at one of the places, all that are in both are written
-  pub both_all : (one.left ≤ 0) ⊎ (two.left ≤ 0) → IsStrict nat_cmp first
-      → AreWrittenBoth first second count old_room room
-  both_all over strict = record {
-    both = common first second;
-    in_both = AreInBoth-common first second strict;
-    count_is = p.count_is ∙ ap length all;
-    room = p.room ∙ ap (λ l. written l old_room) all;
-  }
-    where
-      rest_none : (xs ys : List ℕ) → IsAt one xs → IsAt two ys → common xs ys ≡ []
-      rest_none [] ys at at' = refl
-      rest_none (x ∷ xs) [] at at' = common_none (x ∷ xs)
-      rest_none (x ∷ xs) (y ∷ ys) at at' = absurd (elim over [
-        | inl h ↦ omega (arith, h, at.0)
-        | inr h ↦ omega (arith, h, at'.0)
-      ])
-
-      all : p.kept ≡ common first second
-      all =
-          sym (append-nil p.kept)
-          ∙ ap (λ l. p.kept ++ l) (sym (rest_none p.firsts p.seconds p.at_first p.at_second)) ∙ p.same

@@ -1,5 +1,5 @@
--- Slots: what a protocol decides once, as bytes of its choice (a height and a view, say). What members sign for a slot
--- is the slot's length as a varint, the slot, and the decision.
+-- Slots: what an honest member signs at most once, as bytes of a protocol's choice: chain, committee, height, round and
+-- kind of vote, say. What members sign for a slot is the slot's length as a varint, the slot, and the decision.
 use Rattle.std.specs.Prelude.{◌≡◌, ◌≢◌, ℕ, ◌<◌, ◌^◌, List, length}
 use Rattle.commonware_base.specs.Unions.{union_text}
 

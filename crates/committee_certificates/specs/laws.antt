@@ -1,2 +1,3 @@
 pub mod CertificateLaws
+pub mod ReadCostLaws
 pub mod SignerLaws

@@ -1,5 +1,5 @@
 //! Accountability: the members that signed both of two certificates for different values.
-ghost use Rattle.std.specs.Prelude.{◌≡◌, ◌≢◌, ◌+◌, ◌*◌, ◌<◌, ◌≤◌, ◌⊎◌, ◌↔◌, ℕ, IfErr, IfOk, IsErrOf, IsFalse, IsTrue, OnOk, length, pos};
+ghost use Rattle.std.specs.Prelude.{◌≡◌, ◌≢◌, ◌+◌, ◌*◌, ◌<◌, ◌≤◌, ◌⊎◌, ◌↔◌, ℕ, IfErr, IfOk, IsErrOf, IsFalse, IsTrue, OnErr, OnOk, length, pos};
 ghost use Rattle.committee_certificates.specs.declared.conflicts.ConflictError.TheVariants.{Memory, Outside, TooFew};
 ghost use Rattle.committee_certificates.specs.Signers.{AreInBoth, AreMembers, AreQuorum, AreTooFew};
 ghost use Rattle.committee_certificates.specs.Signers.{HasOutsider, LeavesOneOutside, OutnumberFaults};
@@ -8,6 +8,7 @@ ghost use Rattle.commonware_faults.specs.Subsets.{Greatest, Greatest3, Greatest5
 ghost use Rattle.commonware_ordered.specs.Strict.{IsStrict};
 
 use crate::certificate::Certificate;
+use crate::intersection::in_both;
 use commonware_base::Participant;
 use commonware_faults::Faults;
 use commonware_ordered::{Counter, Quorum, Set, Uncounted};
@@ -42,15 +43,17 @@ impl From<AllocError> for ConflictError {
 /// signers of both. It requires that the values differ, and that the committee has 1 to `u32::MAX`
 /// members.
 ///
-/// To sign two values is a fault only where both are for one slot (a height and a view, say), which
-/// `equivocation` asks: honest members sign many values, one a slot.
+/// To sign two values is a fault only where both are for one slot (chain, committee, height, round
+/// and kind of vote, say), which `equivocation` asks: honest members sign many values, at most one
+/// a slot.
 ///
 /// **Warning.** No signature is looked at. Whoever doesn't verify them first may accuse an innocent
 /// member.
 ///
 /// A signer at or past the committee's length gives the error `Outside`; else, where every signer
 /// is a member, a certificate with fewer signers than a quorum of the fault model gives `TooFew`.
-/// Both are checked before anything is allocated, so `Memory` comes after them.
+/// Both are checked before anything is allocated, so `Memory` comes after them, and only where both
+/// certificates have signers.
 ///
 /// With f the model's number of faults, at least n - 2f of n members are returned, in every model,
 /// by quorum intersection; and where 3f + 1 is at most n, whichever f members are faulty
@@ -75,6 +78,8 @@ pub fn conflict<M: Faults, T: Ord, A: Allocator>(
         × (AreTooFew M.faults n first.now.signers ⊎ AreTooFew M.faults n second.now.signers)) }
     ensures memory { let n = length committee.now in IsErrOf result Memory
         → (AreQuorum M.faults n first.now.signers × AreQuorum M.faults n second.now.signers) }
+    ensures nothing { IsErrOf result Memory
+        → (1 ≤ length first.now.signers) × (1 ≤ length second.now.signers) }
     ensures quorums { let n = length committee.now in OnOk result
         (AreQuorum M.faults n first.now.signers × AreQuorum M.faults n second.now.signers) }
     ensures both { IfOk result (AreInBoth first.now.signers second.now.signers) }
@@ -119,6 +124,8 @@ pub fn conflict_among<A: Allocator>(
         ⊎ AreTooFew (λ _. faults) members second.now.signers)) }
     ensures memory { IsErrOf result Memory → (AreQuorum (λ _. faults) members first.now.signers
         × AreQuorum (λ _. faults) members second.now.signers) }
+    ensures nothing { IsErrOf result Memory
+        → (1 ≤ length first.now.signers) × (1 ≤ length second.now.signers) }
     ensures quorums { OnOk result
         (AreQuorum (λ _. faults) members first.now.signers
         × AreQuorum (λ _. faults) members second.now.signers) }
@@ -151,6 +158,8 @@ pub fn conflict_among_counted<A: Allocator, C: Counter>(
         ⊎ AreTooFew (λ _. faults) members second.now.signers)) }
     ensures memory { IsErrOf result Memory → (AreQuorum (λ _. faults) members first.now.signers
         × AreQuorum (λ _. faults) members second.now.signers) }
+    ensures nothing { IsErrOf result Memory
+        → (1 ≤ length first.now.signers) × (1 ≤ length second.now.signers) }
     ensures quorums { OnOk result
         (AreQuorum (λ _. faults) members first.now.signers
         × AreQuorum (λ _. faults) members second.now.signers) }
@@ -210,40 +219,4 @@ pub(crate) fn has_outsider(members: usize, signers: &[Participant]) -> bool
         Some(last) => usize::from(*last) >= members,
         None => false,
     }
-}
-
-/// Returns the participants in both of two strictly increasing lists. Both are walked once, side by
-/// side: each comparison walks past one participant of a list, or past one of both.
-fn in_both<A: Allocator, C: Counter>(
-    alloc: A,
-    first: &[Participant],
-    second: &[Participant],
-    count: &mut C,
-) -> Result<Vec<Participant, A>, AllocError>
-    requires first_strict { IsStrict ⟦<Participant as Ord>⟧.cmp first.now }
-    requires second_strict { IsStrict ⟦<Participant as Ord>⟧.cmp second.now }
-    ensures both { IfOk result (λ both. AreInBoth first.now second.now both.items) }
-    ensures cost { C.counted count.new
-        ≤ C.counted count.old + length first.now + length second.now }
-    ensures once { IfOk result (λ both. C.counted count.new + length both.items
-        ≤ C.counted count.old + length first.now + length second.now) }
-{
-    let mut both = Vec::with_capacity(alloc, first.len().min(second.len()))?;
-    let mut i = 0;
-    let mut j = 0;
-    while i < first.len() && j < second.len() {
-        count.tick();
-        let x = first[i];
-        let y = second[j];
-        if x.get() < y.get() {
-            i += 1;
-        } else if y.get() < x.get() {
-            j += 1;
-        } else {
-            both.push(x)?;
-            i += 1;
-            j += 1;
-        }
-    }
-    Ok(both)
 }

@@ -77,6 +77,8 @@ pub fn equivocation<M: Faults, T: Ord, A: Allocator>(
     ensures memory { let n = length committee.now in IsErrOf result Memory
         → (Contradict first.now.value.items second.now.value.items
         × AreQuorum M.faults n first.now.signers × AreQuorum M.faults n second.now.signers) }
+    ensures nothing { IsErrOf result Memory
+        → (1 ≤ length first.now.signers) × (1 ≤ length second.now.signers) }
     ensures contradict { OnOk result
         (Contradict first.now.value.items second.now.value.items) }
     ensures quorums { let n = length committee.now in OnOk result
@@ -132,6 +134,8 @@ pub fn equivocation_among<A: Allocator>(
         → (Contradict first.now.value.items second.now.value.items
         × AreQuorum (λ _. faults) members first.now.signers
         × AreQuorum (λ _. faults) members second.now.signers) }
+    ensures nothing { IsErrOf result Memory
+        → (1 ≤ length first.now.signers) × (1 ≤ length second.now.signers) }
     ensures contradict { OnOk result
         (Contradict first.now.value.items second.now.value.items) }
     ensures quorums { OnOk result
@@ -179,6 +183,8 @@ pub fn equivocation_among_counted<A: Allocator, C: Counter>(
         → (Contradict first.now.value.items second.now.value.items
         × AreQuorum (λ _. faults) members first.now.signers
         × AreQuorum (λ _. faults) members second.now.signers) }
+    ensures nothing { IsErrOf result Memory
+        → (1 ≤ length first.now.signers) × (1 ≤ length second.now.signers) }
     ensures contradict { OnOk result
         (Contradict first.now.value.items second.now.value.items) }
     ensures quorums { OnOk result

@@ -1,4 +1,4 @@
-//! Slots: what a protocol decides once, and the values that are signed for them.
+//! Slots: what an honest member signs at most once, and the values that are signed for them.
 ghost use Rattle.std.specs.Prelude.{◌≡◌, ℕ, List, IfNone, IfSome};
 ghost use Rattle.committee_certificates.specs.Slots.{HasSlot, IsFor};
 

@@ -1,12 +1,15 @@
 //! Signers walked in place, index by index.
 ghost use Rattle.std.specs.Prelude.{◌≡◌, ◌<◌, ◌≤◌, ◌^◌, ◌+◌, ◌++◌, ℕ, List, SomeIff, [], ◌∷◌, length};
+ghost use Rattle.std.specs.Ordering.{MatchOrdering};
 ghost use Rattle.committee_certificates.specs.Cursors.{GoesOnWith, IsAt};
 ghost use Rattle.committee_certificates.specs.InPlace.{AreSignersAt, AreWrittenBoth, sum_at, written};
 ghost use Rattle.committee_certificates.specs.Signers.{AreMembers};
 
+use crate::ascent::{Ascent, write_common};
 use crate::in_place::SignersAt;
 use commonware_base::codec::{Source, read_varint};
 use commonware_ordered::{Counter, Uncounted};
+use std::cmp::Ordering;
 
 /// A place among signers.
 #[derive(Clone, Copy)]
@@ -77,23 +80,59 @@ pub fn write_both_counted<C: Counter>(
     ensures cost { (one two : List ℕ) → AreSignersAt first.now one → AreSignersAt second.now two
         → C.counted count.new + result ≤ C.counted count.old + length one + length two }
 {
-    let mut one = first_place(first);
-    let mut two = first_place(second);
-    let mut found = 0;
-    while one.left > 0 && two.left > 0 {
-        count.tick();
-        if one.index < two.index {
-            one = next_place(&one);
-        } else if two.index < one.index {
-            two = next_place(&two);
-        } else {
-            put_at(one.index, found, out);
-            found += 1;
-            one = next_place(&one);
-            two = next_place(&two);
-        }
+    write_common(first_place(first), first_place(second), out, count)
+}
+
+impl<'a, C: Counter> Ascent<C> for Cursor<'a> {
+    type Number = u32;
+
+    ghost left = { λ cursor. cursor.left };
+
+    ghost index = { λ cursor. cursor.index };
+
+    ghost is_at = { IsAt };
+
+    ghost indices = { λ numbers. numbers };
+
+    #[inline(always)]
+    fn is_over(&self) -> bool {
+        self.left == 0
     }
-    found
+
+    #[inline(always)]
+    fn order(&self, other: &Self, count: &mut C) -> Ordering {
+        count.tick();
+        index_order(self.index, other.index)
+    }
+
+    #[inline(always)]
+    fn next(&self) -> Self {
+        next_place(self)
+    }
+
+    #[inline(always)]
+    fn put(&self, place: usize, out: &mut [u32]) {
+        put_at(self.index, place, out);
+    }
+
+    ghost at_end = { λ _ none. none };
+
+    ghost at_index = { λ _ _ _ at. (at.0, at.1) };
+}
+
+/// Returns the order of two indices. A compiler folds two `<` with the tests of their order, where
+/// it makes more of a `cmp`.
+#[inline(always)]
+fn index_order(one: u32, other: u32) -> Ordering
+    ensures { MatchOrdering result (one < other) (one ≡ other) (other < one) }
+{
+    if one < other {
+        Ordering::Less
+    } else if other < one {
+        Ordering::Greater
+    } else {
+        Ordering::Equal
+    }
 }
 
 /// Returns the place of the first signer.

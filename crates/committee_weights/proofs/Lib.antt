@@ -3,6 +3,7 @@ pub mod Grouped
 pub mod KeyedReads
 pub mod Listed
 pub mod Meeting
+pub mod OneEach
 pub mod Refusing
 pub mod Refuting
 pub mod Safe

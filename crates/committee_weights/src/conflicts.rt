@@ -33,8 +33,9 @@ pub enum WeightedConflictError {
 /// by weight: exactly the signers of both. It requires that the values differ, and that `k` is at
 /// least 2.
 ///
-/// To sign two values is a fault only where both are for one slot (a height and a view, say), which
-/// `weighted_equivocation` asks: honest members sign many values, one a slot.
+/// To sign two values is a fault only where both are for one slot (chain, committee, height, round
+/// and kind of vote, say), which `weighted_equivocation` asks: honest members sign many values, at
+/// most one a slot.
 ///
 /// **Warning.** No signature is looked at. Whoever doesn't verify them first may accuse an innocent
 /// member.

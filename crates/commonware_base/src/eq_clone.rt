@@ -1,12 +1,26 @@
 //! Clones that equal their source.
-ghost use Rattle.std.specs.Prelude.{◌≡◌, true};
+ghost use Rattle.std.specs.Prelude.{◌≡◌, ◌≤◌, IfOk, OnErr, length, true};
+ghost use Rattle.std.specs.List.{AllZip};
 ghost use Rattle.std.specs.String.{string_bytes};
 ghost use Rattle.std.proofs.Common.{ap};
 ghost use Rattle.std.proofs.lemmas.Cmp.{int_eq_equiv, nat_eq_equiv, nat_list_eq_equiv};
 ghost use Rattle.commonware_base.specs.laws.CloneLaws.{equal_from_all_zip, equal_from_same};
 
 use crate::codec::UInt;
-use std::alloc::Allocator;
+use std::alloc::{AllocError, Allocator};
+
+/// Returns clones of the items. Of no items it allocates nothing.
+///
+/// The clones of `[3, 1]` are 3 and 1, in that order.
+pub fn clones_of<T: Clone, A: Allocator>(alloc: A, items: &[T]) -> Result<Vec<T, A>, AllocError>
+    ensures clones { IfOk result (λ v. AllZip T.is_clone items.now v.items) }
+    ensures nothing { OnErr result (1 ≤ length items.now) }
+{
+    if items.is_empty() {
+        return Ok(Vec::new(alloc));
+    }
+    Vec::from_clones(alloc, items)
+}
 
 /// A type whose clones equal their source. A list of strings equals its clone.
 pub trait EqClone: Clone + Eq {

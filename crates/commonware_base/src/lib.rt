@@ -11,7 +11,7 @@ mod try_from_iterator;
 mod unions;
 mod widen;
 
-pub use eq_clone::EqClone;
+pub use eq_clone::{EqClone, clones_of};
 pub use golden_ratio::{GOLDEN_RATIO, golden_ratio_law};
 pub use participant::Participant;
 pub use sizes::{MAX_ALLOCATION_BYTES, max, max_allocation_law};

@@ -1,6 +1,9 @@
 //! The index of a participant in a committee.
 ghost use Rattle.std.specs.Prelude.{◌≡◌, ◌<◌, ◌^◌, ◌==◌, ◌≤◌, Some, refl, true, length};
-ghost use Rattle.std.proofs.lemmas.Cmp.{nat_eq_equiv};
+ghost use Rattle.std.proofs.Common.{rules};
+ghost use Rattle.std.proofs.lemmas.Cmp.{nat_cmp_total, nat_eq_equiv};
+ghost use Rattle.std.specs.Cmp.Rules.{comparing};
+ghost use Rattle.std.specs.Ordering.{nat_cmp};
 ghost use Rattle.std.specs.Fmt.{decimal};
 ghost use Rattle.commonware_base.specs.laws.CloneLaws.{equal_from_same};
 ghost use Rattle.commonware_base.specs.laws.NumberLaws.{number_canonical, number_prefix_free, varint_laws};
@@ -11,12 +14,13 @@ ghost use Rattle.commonware_base.specs.Words.{IsWord};
 use crate::codec::{Canonical, EncodeSize, Error, MaxEncodeSize, Read, Source, UInt, Write};
 use crate::eq_clone::EqClone;
 use std::alloc::{AllocError, Allocator};
+use std::cmp::Ordering;
 use std::fmt;
 use std::marker::Model;
 
 /// The index of a participant in an ordered committee, from 0. It is encoded as a varint:
 /// `Participant::new(128)` as `[0x80, 0x01]`.
-#[derive(Clone, Copy, Debug, Default, PartialEq, Eq, PartialOrd, Ord, Hash)]
+#[derive(Clone, Copy, Debug, Default, PartialEq, Eq, Hash)]
 pub struct Participant(u32);
 
 impl Model for Participant {
@@ -50,6 +54,39 @@ impl Participant {
         ensures { result ≡ self }
     {
         self.0
+    }
+}
+
+impl PartialOrd for Participant {
+    ghost partial_cmp = { λ x y. Some (nat_cmp x y) };
+
+    ghost laws = { Prim.search (comparing, rules) };
+
+    #[inline(always)]
+    fn partial_cmp(&self, other: &Participant) -> Option<Ordering> {
+        Some(self.cmp(other))
+    }
+}
+
+impl Ord for Participant {
+    ghost cmp = { nat_cmp };
+
+    ghost total = { nat_cmp_total };
+
+    ghost matches_partial_cmp = { Prim.search (comparing, rules) };
+
+    ghost matches_eq = { Prim.search (comparing, rules) };
+
+    // A compiler folds these two tests into those of a walk; it doesn't fold the order of `u32`.
+    #[inline(always)]
+    fn cmp(&self, other: &Participant) -> Ordering {
+        if self.0 < other.0 {
+            Ordering::Less
+        } else if other.0 < self.0 {
+            Ordering::Greater
+        } else {
+            Ordering::Equal
+        }
     }
 }
 

@@ -1,13 +1,14 @@
 //! Two lists of bytes as one, and a message with its namespace.
-ghost use Rattle.std.specs.Prelude.{◌≡◌, ◌<◌, ◌^◌, ◌++◌, ℕ, List, IfOk, length};
+ghost use Rattle.std.specs.Prelude.{◌≡◌, ◌<◌, ◌^◌, ◌++◌, [], ℕ, List, IfOk, IsOk, length};
 ghost use Rattle.commonware_base.specs.Unions.{union_text};
 
 use crate::codec::{EncodeSize, UInt, Write};
 use std::alloc::{AllocError, Allocator};
 
-/// Returns the bytes of `a`, followed by those of `b`.
+/// Returns the bytes of `a`, followed by those of `b`. Of no bytes at all it allocates nothing.
 pub fn union<A: Allocator>(alloc: A, a: &[u8], b: &[u8]) -> Result<Vec<u8, A>, AllocError>
-    ensures { IfOk result (λ v. v.items ≡ a.now ++ b.now) }
+    ensures items { IfOk result (λ v. v.items ≡ a.now ++ b.now) }
+    ensures nothing { a.now ++ b.now ≡ [] → IsOk result }
 {
     let mut union = Vec::with_capacity(alloc, a.len() + b.len())?;
     union.extend_from_slice(a)?;

@@ -1,6 +1,6 @@
 -- What the builders of bimaps return: all pairs in the order of their keys, or why there are none. Keys come before
 -- values.
-use Rattle.std.specs.Prelude.{Bool, List, MatchResult, Result}
+use Rattle.std.specs.Prelude.{◌≤◌, Bool, List, MatchResult, Result, length}
 use Rattle.std.specs.Map.{values_of}
 use Rattle.std.specs.declared.cmp.Ordering.{Ordering}
 use Rattle.commonware_map.specs.Pairs.{on_keys}
@@ -22,10 +22,11 @@ IsBiMapOfAll key_eq key_cmp value_eq l m =
     IsSetOfAll (on_keys key_eq) (on_keys key_cmp) l m × (¬ HasEqualValues value_eq l)
 
 -- l is refused since two of its positions hold equal keys; or since none do, Whole holds, and two positions hold equal
--- values; or since an allocation failed
+-- values; or since an allocation failed, which is only where l has a pair
 abbrev pub IsRefusedBiMap : {K V : Type 0} → (K → K → Bool) → (V → V → Bool) → Type 0 → List (K × V) → Error → Type 0
 IsRefusedBiMap key_eq value_eq Whole l error =
     MatchError error (HasEqualKeys key_eq l) (HasEqualValues value_eq l × (¬ HasEqualKeys key_eq l) × Whole)
+    (1 ≤ length l)
 
 -- the bimap of all of l, or why there is none
 abbrev pub IsWholeBiMap : {K V : Type 0} → (K → K → Bool) → (K → K → Ordering) → (V → V → Bool) → List (K × V)

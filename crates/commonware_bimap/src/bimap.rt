@@ -1,5 +1,5 @@
 //! A map whose values are pairwise unequal.
-ghost use Rattle.std.specs.Prelude.{◌≡◌, ◌↔◌, ◌<◌, ◌^◌, ◌==◌, [], IfOk, IsOk, IsSomeAnd, MatchResult, Some, length, true, ℕ};
+ghost use Rattle.std.specs.Prelude.{◌≡◌, ◌↔◌, ◌<◌, ◌≤◌, ◌^◌, ◌==◌, [], IfOk, IsOk, IsSomeAnd, MatchResult, OnErr, Some, length, true, ℕ};
 ghost use Rattle.std.specs.Iterator.Adapters.{IterYieldsInOrder, IterYieldsInReverse};
 ghost use Rattle.std.specs.Map.{keys_of, lookup, values_of};
 ghost use Rattle.std.specs.Map.Iter.{ShowsInOrder, ShowsInReverse, deref_pair};
@@ -21,7 +21,7 @@ mod refs;
 
 pub use codec::bimap_fault_law;
 use commonware_map::{Map, Pairs, has_equal_values};
-use commonware_ordered::{Counter, Error, Set, Uncounted};
+use commonware_ordered::{CountedOrd, Counter, Error, Order, Set, Uncounted};
 use std::alloc::{AllocError, Allocator};
 use std::hash::Hash;
 use std::marker::Model;
@@ -32,11 +32,11 @@ use std::slice;
 /// The bimap of the pairs `(2, 10)` and `(1, 20)` has the key 2 for the value 10. Of bytes, it is
 /// encoded as `02 01 02 02 14 0a`.
 #[derive(Drop)]
-pub struct BiMap<K: Ord, V: Eq + Hash, A: Allocator> {
+pub struct BiMap<K: Order, V: Eq + Hash, A: Allocator> {
     map: Map<K, V, A>,
 }
 
-impl<K: Ord, V: Eq + Hash, A: Allocator> Model for BiMap<K, V, A> {
+impl<K: Order, V: Eq + Hash, A: Allocator> Model for BiMap<K, V, A> {
     ghost use Rattle.std.specs.Prelude.{List};
     ghost use Rattle.std.specs.Map.{values_of};
     ghost use Rattle.commonware_ordered.specs.Whole.{HasEqualItems};
@@ -76,7 +76,7 @@ impl<K: Ord + Drop, V: Eq + Hash + Drop, A: Allocator + Copy> BiMap<K, V, A> {
     pub fn try_from_map(map: Map<K, V, A>) -> Result<Self, Error>
         ensures whole { MatchResult result
             (λ b. (b ≡ map) × (¬ HasEqualValues V.eq map))
-            (λ error. MatchError error ⊥ (HasEqualValues V.eq map)) }
+            (λ error. MatchError error ⊥ (HasEqualValues V.eq map) (1 ≤ length map)) }
         ensures empty { map ≡ [] → IsOk result }
     {
         if has_equal_values(*map.allocator(), map.values())? {
@@ -86,21 +86,22 @@ impl<K: Ord + Drop, V: Eq + Hash + Drop, A: Allocator + Copy> BiMap<K, V, A> {
         }
     }
 
-    /// Returns all pairs in the order of their keys.
+    /// Returns all pairs in the order of their keys. Of no pairs it allocates nothing.
     /// ```
     /// let map = Map::try_from_array(alloc, [(2u8, 20u8), (1, 10)])?;
     /// let pairs = BiMap::try_from_map(map)?.into_pairs()?;
     /// assert!(rt; pairs.as_slice() == [(1u8, 10u8), (2, 20)].as_slice());
     /// ```
     pub fn into_pairs(self) -> Result<Vec<(K, V), A>, AllocError>
-        ensures { IfOk result (λ pairs. pairs.items ≡ self) }
+        ensures pairs { IfOk result (λ pairs. pairs.items ≡ self) }
+        ensures nothing { OnErr result (1 ≤ length self) }
     {
         let BiMap { map } = self;
         map.into_pairs()
     }
 }
 
-impl<K: Ord, V: Eq + Hash, A: Allocator> BiMap<K, V, A> {
+impl<K: Order, V: Eq + Hash, A: Allocator> BiMap<K, V, A> {
     /// Returns how many pairs there are.
     /// ```
     /// let bimap = BiMap::try_from_array(alloc, [(2u8, 20u8), (1, 10)])?;
@@ -108,7 +109,7 @@ impl<K: Ord, V: Eq + Hash, A: Allocator> BiMap<K, V, A> {
     /// ```
     pub fn len(&self) -> usize
         ensures len { result ≡ length self.now }
-        ensures strict { IsStrict K.cmp (keys_of self.now) }
+        ensures strict { IsStrict K.order (keys_of self.now) }
         ensures distinct { ¬ HasEqualValues V.eq self.now }
     {
         self.map.len()
@@ -191,6 +192,51 @@ impl<K: Ord, V: Eq + Hash, A: Allocator> BiMap<K, V, A> {
         self.map.iter_pairs()
     }
 
+    /// Returns the value at a position, or `None` past the last.
+    /// ```
+    /// let bimap = BiMap::try_from_array(alloc, [(2u8, 20u8), (1, 10)])?;
+    /// assert!(rt; bimap.value(1) == Some(&20) && bimap.value(2) == None);
+    /// ```
+    pub fn value(&self, index: usize) -> Option<&V>
+        ensures { IsItemAt (values_of self.now) index result }
+    {
+        self.map.value(index)
+    }
+
+    /// Returns what `position` does, and counts its comparisons of keys: of n pairs, where n has k
+    /// binary digits, at most 1 + 3k/2.
+    /// ```
+    /// let bimap = BiMap::try_from_array(alloc, [(2u8, 20u8), (1, 10)])?;
+    /// assert!(rt; bimap.position_counted(&2, &mut Uncounted) == Some(1));
+    /// ```
+    pub fn position_counted<C: Counter>(&self, key: &K, count: &mut C) -> Option<usize>
+    where
+        K: CountedOrd<C>,
+        ensures place { IsPlaceOf K.same (keys_of self.now) key.now result }
+        ensures only { (p : ℕ)
+            → (result ≡ Some p) ↔ HasEqualAt K.same (keys_of self.now) key.now p }
+        ensures cost { IsLookUpCost (length self.now) (C.counted count.old) (C.counted count.new) }
+    {
+        self.map.position_counted(key, count)
+    }
+
+    /// Returns what `get_value` does, and counts its comparisons of keys: of n pairs, where n has k
+    /// binary digits, at most 1 + 3k/2.
+    /// ```
+    /// let bimap = BiMap::try_from_array(alloc, [(2u8, 20u8), (1, 10)])?;
+    /// assert!(rt; bimap.get_value_counted(&2, &mut Uncounted) == Some(&20));
+    /// ```
+    pub fn get_value_counted<C: Counter>(&self, key: &K, count: &mut C) -> Option<&V>
+    where
+        K: CountedOrd<C>,
+        ensures value { option_copied result ≡ lookup (λ k. K.same k key.now) self.now }
+        ensures cost { IsLookUpCost (length self.now) (C.counted count.old) (C.counted count.new) }
+    {
+        self.map.get_value_counted(key, count)
+    }
+}
+
+impl<K: Ord, V: Eq + Hash, A: Allocator> BiMap<K, V, A> {
     /// Returns the position of the key that equals the given one, or `None` where none does. It
     /// makes as many comparisons as `position_counted`.
     /// ```
@@ -204,31 +250,6 @@ impl<K: Ord, V: Eq + Hash, A: Allocator> BiMap<K, V, A> {
         self.position_counted(key, &mut Uncounted)
     }
 
-    /// Returns what `position` does, and counts its comparisons of keys: of n pairs, where n has k
-    /// binary digits, at most 1 + 3k/2.
-    /// ```
-    /// let bimap = BiMap::try_from_array(alloc, [(2u8, 20u8), (1, 10)])?;
-    /// assert!(rt; bimap.position_counted(&2, &mut Uncounted) == Some(1));
-    /// ```
-    pub fn position_counted<C: Counter>(&self, key: &K, count: &mut C) -> Option<usize>
-        ensures place { IsPlaceOf K.eq (keys_of self.now) key.now result }
-        ensures only { (p : ℕ) → (result ≡ Some p) ↔ HasEqualAt K.eq (keys_of self.now) key.now p }
-        ensures cost { IsLookUpCost (length self.now) (C.counted count.old) (C.counted count.new) }
-    {
-        self.map.position_counted(key, count)
-    }
-
-    /// Returns the value at a position, or `None` past the last.
-    /// ```
-    /// let bimap = BiMap::try_from_array(alloc, [(2u8, 20u8), (1, 10)])?;
-    /// assert!(rt; bimap.value(1) == Some(&20) && bimap.value(2) == None);
-    /// ```
-    pub fn value(&self, index: usize) -> Option<&V>
-        ensures { IsItemAt (values_of self.now) index result }
-    {
-        self.map.value(index)
-    }
-
     /// Returns the value of the key that equals the given one, or `None` where none does. It makes
     /// as many comparisons as `get_value_counted`.
     /// ```
@@ -239,19 +260,6 @@ impl<K: Ord, V: Eq + Hash, A: Allocator> BiMap<K, V, A> {
         ensures { option_copied result ≡ lookup (λ k. K.eq k key.now) self.now }
     {
         self.get_value_counted(key, &mut Uncounted)
-    }
-
-    /// Returns what `get_value` does, and counts its comparisons of keys: of n pairs, where n has k
-    /// binary digits, at most 1 + 3k/2.
-    /// ```
-    /// let bimap = BiMap::try_from_array(alloc, [(2u8, 20u8), (1, 10)])?;
-    /// assert!(rt; bimap.get_value_counted(&2, &mut Uncounted) == Some(&20));
-    /// ```
-    pub fn get_value_counted<C: Counter>(&self, key: &K, count: &mut C) -> Option<&V>
-        ensures value { option_copied result ≡ lookup (λ k. K.eq k key.now) self.now }
-        ensures cost { IsLookUpCost (length self.now) (C.counted count.old) (C.counted count.new) }
-    {
-        self.map.get_value_counted(key, count)
     }
 
     /// Returns the key whose value equals the given one, or `None` where none does. It equals a key

@@ -5,7 +5,7 @@ use Rattle.commonware_views.specs.Lists.{AreItemsOf}
 use Rattle.commonware_views.specs.laws.ItemLaws.{AreLong, same_items}
 
 -- what is told of each by its index
-arrays_are_long : (size : ℕ) (arrays : List (List ℕ)) → ((i : ℕ) → i < length arrays → length (get_or arrays i []) ≡ size) → AreLong size arrays
+pub arrays_are_long : (size : ℕ) (arrays : List (List ℕ)) → ((i : ℕ) → i < length arrays → length (get_or arrays i []) ≡ size) → AreLong size arrays
 arrays_are_long size [] told = tt
 arrays_are_long size (x ∷ arrays) told = (told 0 (omega arith), arrays_are_long size arrays (λ i h. told (suc i) (omega (arith, h))))
 

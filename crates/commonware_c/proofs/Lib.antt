@@ -7,6 +7,7 @@ pub mod Offsets
 pub mod OneMap
 pub mod EncodingLemmas
 pub mod Spliced
+pub mod ReadBack
 pub mod Repeats
 pub mod Rows
 pub mod SignedBoth

@@ -3,7 +3,7 @@ use Rattle.std.proofs.Common.{◌≡◌, ◌∙◌, ℕ, ◌*◌, List, [], ◌�
 use Rattle.std.specs.Prelude.{nat_eq}
 use Rattle.std.specs.Cmp.Lexicographic.{bytes_decides, pointwise, pointwise_decides, texts_ties}
 use Rattle.std.specs.List.{AllByRecursion, flat_map}
-use Rattle.std.specs.Map.{values_of}
+use Rattle.std.specs.Map.{keys_of, values_of}
 use Rattle.std.proofs.lemmas.Bool.{and_parts}
 use Rattle.std.proofs.lemmas.Cmp.{nat_list_cmp_total}
 use Rattle.std.proofs.lemmas.Map.Entries.{length-values_of}
@@ -24,10 +24,10 @@ use Rattle.commonware_c.specs.Bimaps.{BeginsWithMap, IsSizedBiMapOf}
 use Rattle.commonware_views.specs.laws.ItemLaws.{AreLong, items_length}
 
 module _ (key_size value_size : ℕ) (range : Bounds ℕ) (s : List ℕ) where
-  -- the values are those of each map that the input begins with
-  pub one_map : (p q : List (List ℕ × List ℕ)) (r t : List ℕ) → IsSizedMapOf key_size value_size range s p r
-      → IsSizedMapOf key_size value_size range s q t → values_of p ≡ values_of q
-  one_map p q r t a b =
+  -- the keys and the values are those of each map that the input begins with
+  pub one_pairs : (p q : List (List ℕ × List ℕ)) (r t : List ℕ) → IsSizedMapOf key_size value_size range s p r
+      → IsSizedMapOf key_size value_size range s q t → (keys_of p ≡ keys_of q) × (values_of p ≡ values_of q)
+  one_pairs p q r t a b =
       let Keys = IsWritableSet (IsOfSize key_size) bytes_cmp in
       let Values = IsWritableList (IsOfSize value_size) in
       let key_free = fixed_prefix_free key_size in
@@ -42,7 +42,15 @@ module _ (key_size value_size : ℕ) (range : Bounds ℕ) (s : List ℕ) where
       (set_canonical own_bytes (IsOfSize key_size) bytes_cmp key_free (pointwise nat_eq) nat_list_cmp_total texts_ties (fixed_canonical key_size))
       (list_canonical own_bytes (IsOfSize value_size) value_free (pointwise nat_eq) (fixed_canonical value_size)) in
       let equal = (laws.equal_by_bytes (columns p) (columns q) a.writable b.writable).1 same in
-      (pointwise_decides bytes_decides (values_of p) (values_of q)).0 (and_parts _ _ equal).1
+      let parts = and_parts _ _ equal in (
+        (pointwise_decides bytes_decides (keys_of p) (keys_of q)).0 parts.0,
+        (pointwise_decides bytes_decides (values_of p) (values_of q)).0 parts.1,
+      )
+
+  -- so the values are
+  pub one_map : (p q : List (List ℕ × List ℕ)) (r t : List ℕ) → IsSizedMapOf key_size value_size range s p r
+      → IsSizedMapOf key_size value_size range s q t → values_of p ≡ values_of q
+  one_map p q r t a b = (one_pairs p q r t a b).1
 
   -- so it has as many pairs
   pub one_number : (p q : List (List ℕ × List ℕ)) (r t : List ℕ) → IsSizedMapOf key_size value_size range s p r

@@ -1,5 +1,5 @@
 -- Rows that have the key of an earlier one, and the pairs of rows of which none has.
-use Rattle.std.proofs.Common.{◌≡◌, ◌∙◌, ◌+◌, ◌<◌, ◌≤◌, ℕ, Bor, Bool, true, false, List, [], ◌∷◌, ◌++◌, ◌||◌, length, map, nat_eq, take, get_or, arith, ap, refl, sym, subst, inl, inr}
+use Rattle.std.proofs.Common.{◌≡◌, ◌∙◌, ◌+◌, ◌<◌, ◌≤◌, ℕ, zero, suc, Bor, Bool, true, false, List, [], ◌∷◌, ◌++◌, ◌||◌, length, map, nat_eq, take, get_or, arith, ap, refl, sym, subst, inl, inr}
 use Rattle.std.specs.Prelude.{None, Some, slice_get}
 use Rattle.std.specs.Cmp.Lexicographic.{pointwise, same_text, texts_ties}
 use Rattle.std.specs.List.{Contains, list_any}
@@ -172,3 +172,11 @@ module _ (ks : ℕ) (rows : List (List ℕ)) (pairs : List (List ℕ × List ℕ
     bytes_is = is.bytes_is;
     bytes_most = is.bytes_most;
   }
+
+-- pairs of rows are there only where rows are
+pub some_rows : (ks : ℕ) (rows : List (List ℕ)) (i : ℕ) (es : List Referred) → AreFirst ks rows i es → 1 ≤ length es → 1 ≤ length rows
+some_rows ks [] zero es first some =
+    absurd (omega (arith, some, length_permutation [] (referred es) first.all, length-map es value_of))
+some_rows ks [] (suc i) es first some =
+    absurd (omega (arith, some, length_permutation [] (referred es) first.all, length-map es value_of))
+some_rows ks (row ∷ rows) i es first some = omega arith

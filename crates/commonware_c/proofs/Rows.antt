@@ -18,7 +18,7 @@ use Rattle.commonware_c.proofs.Made.{dedup_all, each_contained, set_not_longer}
 use Rattle.commonware_c.proofs.Values.{dedup_values}
 
 -- a key and a value of these sizes
-abbrev HasSizes : ℕ → ℕ → List ℕ × List ℕ → Type 0
+abbrev pub HasSizes : ℕ → ℕ → List ℕ × List ℕ → Type 0
 HasSizes ks vs p = (length p.0 ≡ ks) × (length p.1 ≡ vs)
 
 -- of each row
@@ -30,17 +30,17 @@ rows_have_sizes ks vs (row ∷ rows) long = (
 )
 
 -- the keys of such pairs
-keys_have_size : (ks vs : ℕ) (pairs : List (List ℕ × List ℕ)) → AllByRecursion (HasSizes ks vs) pairs → AreLong ks (keys_of pairs)
+pub keys_have_size : (ks vs : ℕ) (pairs : List (List ℕ × List ℕ)) → AllByRecursion (HasSizes ks vs) pairs → AreLong ks (keys_of pairs)
 keys_have_size ks vs [] all = tt
 keys_have_size ks vs (p ∷ pairs) all = (all.0.0, keys_have_size ks vs pairs all.1)
 
 -- and their values
-values_have_size : (ks vs : ℕ) (pairs : List (List ℕ × List ℕ)) → AllByRecursion (HasSizes ks vs) pairs → AreLong vs (values_of pairs)
+pub values_have_size : (ks vs : ℕ) (pairs : List (List ℕ × List ℕ)) → AllByRecursion (HasSizes ks vs) pairs → AreLong vs (values_of pairs)
 values_have_size ks vs [] all = tt
 values_have_size ks vs (p ∷ pairs) all = (all.0.1, values_have_size ks vs pairs all.1)
 
 module _ (ks vs : ℕ) (rows : List (List ℕ)) (pairs : List (List ℕ × List ℕ)) (long : AreLong (ks + vs) rows) (firsts : IsFirstOfEach ks rows pairs) where
-  kept_sizes : AllByRecursion (HasSizes ks vs) pairs
+  pub kept_sizes : AllByRecursion (HasSizes ks vs) pairs
   kept_sizes =
       dedup_all (on_keys (pointwise nat_eq)) (on_keys bytes_cmp) (HasSizes ks vs) (map (pair_of ks) rows) pairs firsts
       (each_contained (HasSizes ks vs) (map (pair_of ks) rows) (rows_have_sizes ks vs rows long))

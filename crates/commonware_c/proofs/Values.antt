@@ -1,11 +1,12 @@
 -- What is kept of a list of references, by what they refer to.
-use Rattle.std.proofs.Common.{◌≡◌, ◌∙◌, ◌+◌, ◌<◌, ℕ, Bool, List, [], ◌∷◌, ◌++◌, Bor, length, map, get_or, arith, ap, inl, inr, refl, sym, subst, subst₂}
-use Rattle.std.specs.Prelude.{Err, IfOk, None, Ok, Option, Result, Some, false}
+use Rattle.std.proofs.Common.{◌≡◌, ◌∙◌, ◌+◌, ◌<◌, ◌≤◌, ℕ, Bool, List, [], ◌∷◌, ◌++◌, Bor, length, map, get_or, arith, ap, inl, inr, refl, sym, subst, subst₂}
+use Rattle.std.specs.Prelude.{Err, IfOk, None, Ok, OnErr, Option, Result, Some, false}
 use Rattle.std.specs.List.{Contains, flat_map}
 use Rattle.std.specs.Option.{option_map}
 use Rattle.std.specs.declared.cmp.Ordering.{Ordering}
 use Rattle.std.specs.declared.cmp.Ordering.TheVariants.{Less}
 use Rattle.std.specs.Iterator.{Drains, YieldsFirstRef}
+use Rattle.commonware_base.specs.Taken.{TakesSome}
 use Rattle.std.proofs.lemmas.Iterator.Consumers.{YieldsList-at, YieldsList-from_first}
 use Rattle.std.proofs.lemmas.Iterator.{YieldsList, items_from_drains}
 use Rattle.std.proofs.lemmas.List.{get_or-map, get_or_default, length-map}
@@ -67,6 +68,14 @@ module _ {R X : Type 0} (value : R → X) (eq : X → X → Bool) (cmp : X → X
 pub flat_values : (xs : List (Bor (List ℕ))) → flat_map (λ k. k.now) xs ≡ flat_map own_bytes (map (λ k. k.now) xs)
 flat_values [] = refl
 flat_values (x ∷ xs) = ap (λ t. x.now ++ t) (flat_values xs)
+
+-- an item is drawn only where there is one
+pub some_drawn : {R X S Made E : Type 0} (value : R → X) (steps : S → Option R → S → Type 0) (first : S) (all : List X) (r : Result Made E) → YieldsList steps value first all
+    → OnErr r (TakesSome (λ given s. s ≡ given) steps first (λ (drawn : List R) ended. 1 ≤ length drawn)) → OnErr r (1 ≤ length all)
+some_drawn value steps first all (Ok made) yields drawn = tt
+some_drawn value steps first all (Err e) yields (s, from, ([], ended, drawn, some)) = absurd (omega (arith, some))
+some_drawn value steps first [] (Err e) yields (s, from, (x ∷ xs, ended, (t, (j, step, rest), _), some)) = absurd ((YieldsList-at from yields).runs x j step)
+some_drawn value steps first (y ∷ all) (Err e) yields drawn = omega arith
 
 -- what is kept of all that an iterator gives, by what it refers to
 pub dedup_of_drawn : {R X S E : Type 0} (value : R → X) (eq : X → X → Bool) (cmp : X → X → Ordering) (steps : S → Option R → S → Type 0) (first : S)

@@ -1,6 +1,6 @@
 //! Accountability: the members that signed both of two certificates for different values, from the
 //! certificates' encodings. Nothing is allocated.
-ghost use Rattle.std.specs.Prelude.{◌≡◌, ◌≢◌, ◌<◌, ◌≤◌, ◌⊎◌, ℕ, List, IfErr, IfNone, IfOk, IfSome, OnOk, drop, length, take};
+ghost use Rattle.std.specs.Prelude.{◌≡◌, ◌≢◌, ◌+◌, ◌*◌, ◌<◌, ◌≤◌, ◌⊎◌, ℕ, List, IfErr, IfNone, IfOk, IfSome, OnOk, drop, length, take};
 ghost use Rattle.commonware_c.specs.Certificates.{AreAccused, AreNoQuorums, AreUnread, IsNoWhole, IsStopped};
 ghost use Rattle.commonware_c.specs.Certificates.{IsWhole, LacksRoom};
 ghost use Rattle.commonware_c.specs.Conflicting.{AreBothFound, AreConflicting, IsViewOfBoth};
@@ -10,8 +10,9 @@ ghost use Rattle.commonware_c.specs.Status.{IsOfInput};
 
 use crate::certificates::find_whole;
 use crate::statuses::{NO_MEMBERS, NO_MODEL, OK, OUTSIDE, ROOM, SAME_VALUE, TOO_FEW};
-use committee_certificates::{CertificateAt, SignersAt, write_both};
+use committee_certificates::{CertificateAt, SignersAt, write_both_counted};
 use commonware_faults::tolerated_faults;
+use commonware_ordered::{Counter, Uncounted};
 
 /// The result for two certificates, for a caller in C.
 ///
@@ -180,27 +181,59 @@ pub(crate) fn view_of_both(
     ensures { (one two : List ℕ) → AreSignersAt first.now one → AreSignersAt second.now two
         → IsViewOfBoth one two result out.old out.new }
 {
-    if let Some(count) = lacking(first, second, out.len()) {
+    view_of_both_counted(first, second, out, &mut Uncounted)
+}
+
+/// Returns what `view_of_both` does, and counts how often it compares a signer of one certificate
+/// with one of the other: at most as often as both have signers; or at most twice as often, where
+/// the room is shorter than either list of signers and long enough for those that signed both,
+/// since these are counted before they are written.
+fn view_of_both_counted<C: Counter>(
+    first: &SignersAt<'_>,
+    second: &SignersAt<'_>,
+    out: &mut [u32],
+    counter: &mut C,
+) -> ConflictView
+    ensures both { (one two : List ℕ) → AreSignersAt first.now one → AreSignersAt second.now two
+        → IsViewOfBoth one two result out.old out.new }
+    ensures cost { (one two : List ℕ) → AreSignersAt first.now one → AreSignersAt second.now two
+        → C.counted counter.new ≤ C.counted counter.old + 2 * (length one + length two) }
+    ensures once { (one two : List ℕ) → AreSignersAt first.now one → AreSignersAt second.now two
+        → (result.status ≢ 0) ⊎ (length one ≤ length out.old) ⊎ (length two ≤ length out.old)
+        → C.counted counter.new ≤ C.counted counter.old + (length one + length two) }
+{
+    if let Some(count) = lacking(first, second, out.len(), counter) {
         return view(ROOM, count);
     }
-    let count = write_both(first, second, out);
+    let count = write_both_counted(first, second, out, counter);
     view(OK, count)
 }
 
 /// Returns how many are among both signers, where a room of `places` places is too small for them.
-fn lacking(first: &SignersAt<'_>, second: &SignersAt<'_>, places: usize) -> Option<usize>
+/// It compares signers only where the room is shorter than either list of them.
+fn lacking<C: Counter>(
+    first: &SignersAt<'_>,
+    second: &SignersAt<'_>,
+    places: usize,
+    counter: &mut C,
+) -> Option<usize>
     ensures none { IfNone result ((one two both : List ℕ) → AreSignersAt first.now one
         → AreSignersAt second.now two → AreInBoth one two both → length both ≤ places) }
     ensures some { IfSome result (λ count. (one two : List ℕ) → AreSignersAt first.now one
         → AreSignersAt second.now two → (both : List ℕ) × AreInBoth one two both
         × (count ≡ length both) × (places < count)) }
+    ensures cost { (one two : List ℕ) → AreSignersAt first.now one → AreSignersAt second.now two
+        → C.counted counter.new ≤ C.counted counter.old + (length one + length two) }
+    ensures free { (one two : List ℕ) → AreSignersAt first.now one → AreSignersAt second.now two
+        → (length one ≤ places) ⊎ (length two ≤ places)
+        → C.counted counter.new ≡ C.counted counter.old }
 {
     // Those that signed both are no more than those that signed one, so most rooms are large enough
     // whoever signed.
     if first.count() <= places || second.count() <= places {
         return None;
     }
-    let count = write_both(first, second, &mut []);
+    let count = write_both_counted(first, second, &mut [], counter);
     if count <= places { None } else { Some(count) }
 }
 

@@ -1,5 +1,5 @@
 //! The encoding of a map of keys and values, each of one size, written to a caller's room.
-ghost use Rattle.std.specs.Prelude.{◌≡◌, ◌≢◌, ◌↔◌, ◌⊎◌, ◌+◌, ◌^◌, ◌%◌, ◌<◌, ◌≤◌, ℕ, IfErr, IfOk, List, drop, length, take};
+ghost use Rattle.std.specs.Prelude.{◌≡◌, ◌≢◌, ◌↔◌, ◌⊎◌, ◌+◌, ◌^◌, ◌%◌, ◌<◌, ◌≤◌, ℕ, IfErr, IfOk, List, OnErr, drop, length, take};
 ghost use Rattle.commonware_map.specs.Maps.{map_enc};
 ghost use Rattle.commonware_sequence.specs.FixedBytes.{own_bytes};
 ghost use Rattle.commonware_views.specs.Lists.{AreItemsOf};
@@ -51,6 +51,7 @@ pub extern "C" fn commonware_map_write(
     ensures nothing_else { result.status ≢ 0 → result.status ≢ 11
         → (result.count ≡ 0) × (result.size ≡ 0) }
     ensures untouched { result.status ≢ 0 → out.new ≡ out.old }
+    ensures nothing { length pairs.now ≡ 0 → result.status ≢ 5 }
 {
     if key_size == 0 {
         return refused(NO_SIZE, 0);
@@ -119,6 +120,7 @@ fn write_rows(
     ensures nothing_else { result.status ≢ 0 → result.status ≢ 11
         → (result.count ≡ 0) × (result.size ≡ 0) }
     ensures untouched { result.status ≢ 0 → out.new ≡ out.old }
+    ensures nothing { length rows.now ≡ 0 → result.status ≢ 5 }
 {
     let Ok(map) = map_of(alloc, key_size, rows) else {
         return refused(MEMORY, 0);
@@ -182,8 +184,8 @@ fn map_of<'a>(
     key_size: usize,
     rows: &ListView<'a>,
 ) -> Result<Map<&'a [u8], &'a [u8], Global>, AllocError>
-    ensures { IfOk result (λ pairs.
-        IsFirstOfEach key_size rows.now (referred pairs)) }
+    ensures firsts { IfOk result (λ pairs. IsFirstOfEach key_size rows.now (referred pairs)) }
+    ensures nothing { OnErr result (1 ≤ length rows.now) }
 {
     Map::from_iter_dedup(
         alloc,

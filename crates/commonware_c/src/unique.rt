@@ -1,6 +1,6 @@
 //! The encoding of a map of keys and values, each of one size, written to a caller's room, where no
 //! key repeats.
-ghost use Rattle.std.specs.Prelude.{◌≡◌, ◌≢◌, ◌↔◌, ◌⊎◌, ◌+◌, ◌^◌, ◌%◌, ◌<◌, ◌≤◌, ℕ, IfOk, List, MatchResult, length};
+ghost use Rattle.std.specs.Prelude.{◌≡◌, ◌≢◌, ◌↔◌, ◌⊎◌, ◌+◌, ◌^◌, ◌%◌, ◌<◌, ◌≤◌, ℕ, IfOk, List, MatchResult, OnErr, length};
 ghost use Rattle.commonware_map.specs.Maps.{map_enc};
 ghost use Rattle.commonware_map.specs.Pairs.{on_keys};
 ghost use Rattle.commonware_ordered.specs.Strict.{IsStrict};
@@ -60,6 +60,7 @@ pub extern "C" fn commonware_map_write_unique(
     ensures nothing_else { result.status ≢ 0 → result.status ≢ 11
         → (result.count ≡ 0) × (result.size ≡ 0) }
     ensures untouched { result.status ≢ 0 → out.new ≡ out.old }
+    ensures nothing { length pairs.now ≡ 0 → result.status ≢ 5 }
 {
     if key_size == 0 {
         return refused(NO_SIZE, 0);
@@ -97,6 +98,7 @@ fn write_all_rows(
     ensures nothing_else { result.status ≢ 0 → result.status ≢ 11
         → (result.count ≡ 0) × (result.size ≡ 0) }
     ensures untouched { result.status ≢ 0 → out.new ≡ out.old }
+    ensures nothing { length rows.now ≡ 0 → result.status ≢ 5 }
 {
     match map_of_all(alloc, key_size, rows) {
         Ok(Ok(map)) => write_map(key_size, value_size, rows, &map, out),
@@ -112,9 +114,10 @@ fn map_of_all<'a>(
     key_size: usize,
     rows: &ListView<'a>,
 ) -> Result<Result<Map<&'a [u8], &'a [u8], Global>, usize>, AllocError>
-    ensures { IfOk result (λ made. MatchResult made
+    ensures made { IfOk result (λ made. MatchResult made
         (λ pairs. AreAllPairs key_size rows.now (referred pairs))
         (IsFirstRepeatedKey key_size rows.now)) }
+    ensures nothing { OnErr result (1 ≤ length rows.now) }
 {
     let mut entries = SortedEntries::with_room(alloc, rows.len())?;
     let mut index = 0;
@@ -135,6 +138,7 @@ fn map_of_entries<'a>(
     ensures pairs { IfOk result (λ pairs. pairs ≡ entries.entry) }
     ensures strict { IfOk result (λ pairs.
         IsStrict (on_keys (λ x y. bytes_cmp x.now y.now)) pairs) }
+    ensures nothing { OnErr result (1 ≤ length entries.entry) }
 {
     let (keys, values) = entries.into_columns()?;
     match Map::from_parts(Set::from_strict(keys), values) {

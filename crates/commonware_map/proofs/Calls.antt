@@ -11,7 +11,7 @@ use Rattle.std.proofs.lemmas.Option.{same_Some}
 use Rattle.std.proofs.lemmas.Map.Entries.{length-keys_of}
 use Rattle.std.proofs.lemmas.Map.Made.{keys_of-zip}
 use Rattle.commonware_base.specs.Calls.{CallableAlong, CallsGiveAll}
-use Rattle.commonware_base.specs.laws.CallLaws.{CallsSoFar, length_answers, takes_next}
+use Rattle.commonware_base.specs.laws.CallLaws.{CallsSoFar, length_answers, so_far_all, so_far_none, takes_next}
 use Rattle.commonware_map.proofs.Columns.{values_of-zip}
 use Rattle.commonware_map.specs.ValueMaps.{IsFirstError, TakesRefs}
 
@@ -59,3 +59,7 @@ module _ {F K V R : Type 0} (step : F → K × V → R → F → Type 0) (f : F)
 -- clones of the keys of pairs are as many as the pairs
 pub length_clones : {K V : Type 0} (C : K → K → Type 0) (pairs : List (K × V)) (clones : List K) → AllZip C (keys_of pairs) clones → length clones ≡ length pairs
 length_clones C pairs clones h = sym (length_all_zip C (keys_of pairs) clones h) ∙ length-keys_of pairs
+
+-- of nothing no call is made
+pub called_none : {F X R : Type 0} (step : F → X → R → F → Type 0) (f : F) (xs : List X) (rs : List R) → xs ≡ [] → rs ≡ [] → CallsGiveAll step f xs rs
+called_none step f xs rs e none = so_far_all step f xs rs f xs (so_far_none step f xs rs xs none refl) e

@@ -19,10 +19,10 @@ module _ {K V : Type 0} where
   set_value_at (e ∷ es) (suc i) w = e ∷ set_value_at es i w
 
 module _ (K V A : RattleType) (cmp : K.Denot → K.Denot → Ordering) (eq : K.Denot → K.Denot → Bool)
-    (partial_cmp : K.Denot → K.Denot → Option Ordering) (heap : alloc.Ghosts A.Denot) where
+    (heap : alloc.Ghosts A.Denot) where
   -- the type of maps, as the logic holds it
   abbrev pub map_row : RattleType
-  map_row = the_row K V A (record { cmp = cmp }) (record { eq = eq }) (record { partial_cmp = partial_cmp }) heap
+  map_row = the_row K V A (record { order = cmp; same = eq }) heap
 
   module _ (m : MutBor (List (K.Denot × V.Denot))) where
     -- the value at the position is what was last written through r

@@ -1,5 +1,5 @@
 //! A set of keys, and a value for each.
-ghost use Rattle.std.specs.Prelude.{◌≡◌, ◌↔◌, ◌<◌, ◌^◌, ◌==◌, [], IfOk, IfSome, IsSome, Some, length, take, zip, ℕ};
+ghost use Rattle.std.specs.Prelude.{◌≡◌, ◌↔◌, ◌<◌, ◌≤◌, ◌^◌, ◌==◌, [], IfOk, IfSome, IsSome, OnErr, Some, length, take, zip, ℕ};
 ghost use Rattle.std.specs.Iterator.Adapters.{IterYieldsInOrder, IterYieldsInReverse};
 ghost use Rattle.std.specs.Map.{keys_of, lookup, values_of};
 ghost use Rattle.std.specs.Option.{option_copied};
@@ -20,7 +20,7 @@ mod refs;
 mod value_maps;
 
 pub use codec::{map_fault_law, read_map_counted};
-use commonware_ordered::{Counter, Set, Uncounted};
+use commonware_ordered::{CountedOrd, Counter, Order, Set, Uncounted};
 use std::alloc::{AllocError, Allocator};
 use std::marker::Model;
 use std::slice;
@@ -30,12 +30,12 @@ use std::slice;
 /// The map of the pairs `(2, 20)` and `(1, 10)` has the keys `[1, 2]` and the values `[10, 20]`. Of
 /// bytes, it is encoded as `02 01 02 02 0a 14`.
 #[derive(Drop)]
-pub struct Map<K: Ord, V, A: Allocator> {
+pub struct Map<K: Order, V, A: Allocator> {
     keys: Set<K, A>,
     values: Vec<V, A>,
 }
 
-impl<K: Ord, V, A: Allocator> Model for Map<K, V, A> {
+impl<K: Order, V, A: Allocator> Model for Map<K, V, A> {
     ghost use Rattle.std.specs.Prelude.{◌≡◌, List, length, zip};
 
     ghost Value = { List (K × V) };
@@ -61,7 +61,7 @@ impl<K: Ord, V, A: Allocator + Copy> Map<K, V, A> {
     }
 }
 
-impl<K: Ord, V, A: Allocator> Map<K, V, A> {
+impl<K: Order, V, A: Allocator> Map<K, V, A> {
     /// Returns the map of keys and of the values at their positions. It requires that there are as
     /// many values as keys.
     pub(crate) fn from_columns(keys: Set<K, A>, values: Vec<V, A>) -> Self
@@ -97,7 +97,7 @@ impl<K: Ord, V, A: Allocator> Map<K, V, A> {
     /// ```
     pub fn len(&self) -> usize
         ensures len { result ≡ length self.now }
-        ensures strict { IsStrict K.cmp (keys_of self.now) }
+        ensures strict { IsStrict K.order (keys_of self.now) }
     {
         self.keys.as_slice().len()
     }
@@ -160,6 +160,54 @@ impl<K: Ord, V, A: Allocator> Map<K, V, A> {
         self.keys().iter()
     }
 
+    /// Returns the value at a position, or `None` past the last.
+    /// ```
+    /// let map = Map::try_from_array(alloc, [(2u8, 20u8), (1, 10)])?;
+    /// assert!(rt; map.value(1) == Some(&20) && map.value(2) == None);
+    /// ```
+    pub fn value(&self, index: usize) -> Option<&V>
+        ensures { IsItemAt (values_of self.now) index result }
+    {
+        self.values().get(index)
+    }
+
+    /// Returns what `position` does, and counts its comparisons of keys: of n pairs, where n has k
+    /// binary digits, at most 1 + 3k/2.
+    /// ```
+    /// let map = Map::try_from_array(alloc, [(2u8, 20u8), (1, 10)])?;
+    /// assert!(rt; map.position_counted(&2, &mut Uncounted) == Some(1));
+    /// ```
+    #[inline]
+    pub fn position_counted<C: Counter>(&self, key: &K, count: &mut C) -> Option<usize>
+    where
+        K: CountedOrd<C>,
+        ensures place { IsPlaceOf K.same (keys_of self.now) key.now result }
+        ensures only { (p : ℕ)
+            → (result ≡ Some p) ↔ HasEqualAt K.same (keys_of self.now) key.now p }
+        ensures cost { IsLookUpCost (length self.now) (C.counted count.old) (C.counted count.new) }
+    {
+        self.keys().position_counted(key, count)
+    }
+
+    /// Returns what `get_value` does, and counts its comparisons of keys: of n pairs, where n has k
+    /// binary digits, at most 1 + 3k/2.
+    /// ```
+    /// let map = Map::try_from_array(alloc, [(2u8, 20u8), (1, 10)])?;
+    /// assert!(rt; map.get_value_counted(&2, &mut Uncounted) == Some(&20));
+    /// ```
+    #[inline]
+    pub fn get_value_counted<C: Counter>(&self, key: &K, count: &mut C) -> Option<&V>
+    where
+        K: CountedOrd<C>,
+        ensures value { option_copied result ≡ lookup (λ k. K.same k key.now) self.now }
+        ensures cost { IsLookUpCost (length self.now) (C.counted count.old) (C.counted count.new) }
+    {
+        let index = self.position_counted(key, count)?;
+        Some(&self.values()[index])
+    }
+}
+
+impl<K: Ord, V, A: Allocator> Map<K, V, A> {
     /// Returns the position of the key that equals the given one, or `None` where none does. It
     /// makes as many comparisons as `position_counted`.
     /// ```
@@ -174,32 +222,6 @@ impl<K: Ord, V, A: Allocator> Map<K, V, A> {
         self.position_counted(key, &mut Uncounted)
     }
 
-    /// Returns what `position` does, and counts its comparisons of keys: of n pairs, where n has k
-    /// binary digits, at most 1 + 3k/2.
-    /// ```
-    /// let map = Map::try_from_array(alloc, [(2u8, 20u8), (1, 10)])?;
-    /// assert!(rt; map.position_counted(&2, &mut Uncounted) == Some(1));
-    /// ```
-    #[inline]
-    pub fn position_counted<C: Counter>(&self, key: &K, count: &mut C) -> Option<usize>
-        ensures place { IsPlaceOf K.eq (keys_of self.now) key.now result }
-        ensures only { (p : ℕ) → (result ≡ Some p) ↔ HasEqualAt K.eq (keys_of self.now) key.now p }
-        ensures cost { IsLookUpCost (length self.now) (C.counted count.old) (C.counted count.new) }
-    {
-        self.keys().position_counted(key, count)
-    }
-
-    /// Returns the value at a position, or `None` past the last.
-    /// ```
-    /// let map = Map::try_from_array(alloc, [(2u8, 20u8), (1, 10)])?;
-    /// assert!(rt; map.value(1) == Some(&20) && map.value(2) == None);
-    /// ```
-    pub fn value(&self, index: usize) -> Option<&V>
-        ensures { IsItemAt (values_of self.now) index result }
-    {
-        self.values().get(index)
-    }
-
     /// Returns the value of the key that equals the given one, or `None` where none does. It makes
     /// as many comparisons as `get_value_counted`.
     /// ```
@@ -212,24 +234,9 @@ impl<K: Ord, V, A: Allocator> Map<K, V, A> {
     {
         self.get_value_counted(key, &mut Uncounted)
     }
-
-    /// Returns what `get_value` does, and counts its comparisons of keys: of n pairs, where n has k
-    /// binary digits, at most 1 + 3k/2.
-    /// ```
-    /// let map = Map::try_from_array(alloc, [(2u8, 20u8), (1, 10)])?;
-    /// assert!(rt; map.get_value_counted(&2, &mut Uncounted) == Some(&20));
-    /// ```
-    #[inline]
-    pub fn get_value_counted<C: Counter>(&self, key: &K, count: &mut C) -> Option<&V>
-        ensures value { option_copied result ≡ lookup (λ k. K.eq k key.now) self.now }
-        ensures cost { IsLookUpCost (length self.now) (C.counted count.old) (C.counted count.new) }
-    {
-        let index = self.position_counted(key, count)?;
-        Some(&self.values()[index])
-    }
 }
 
-impl<K: Ord + Drop, V: Drop, A: Allocator> Map<K, V, A> {
+impl<K: Order + Drop, V: Drop, A: Allocator> Map<K, V, A> {
     /// Returns the map of the keys, each with the value at its position, or `None` where there are
     /// not as many values as keys. It allocates nothing.
     /// ```
@@ -263,7 +270,7 @@ impl<K: Ord + Drop, V: Drop, A: Allocator> Map<K, V, A> {
     }
 }
 
-impl<K: Ord, V: Drop, A: Allocator> Map<K, V, A> {
+impl<K: Order, V: Drop, A: Allocator> Map<K, V, A> {
     /// Returns the keys. The values are dropped. It allocates nothing.
     /// ```
     /// let map = Map::try_from_array(alloc, [(2u8, 20u8), (1, 10)])?;
@@ -278,7 +285,7 @@ impl<K: Ord, V: Drop, A: Allocator> Map<K, V, A> {
 }
 
 impl<K: Ord + Drop, V: Drop, A: Allocator + Copy> Map<K, V, A> {
-    /// Returns all pairs in the order of their keys.
+    /// Returns all pairs in the order of their keys. Of no pairs it allocates nothing.
     /// ```
     /// let keys = Set::try_from_array(alloc, [1u8, 2])?;
     /// let values = vec![in alloc; 10u8, 20]?;
@@ -287,7 +294,8 @@ impl<K: Ord + Drop, V: Drop, A: Allocator + Copy> Map<K, V, A> {
     /// assert!(rt; pairs.as_slice() == [(1u8, 10u8), (2, 20)].as_slice());
     /// ```
     pub fn into_pairs(self) -> Result<Vec<(K, V), A>, AllocError>
-        ensures { IfOk result (λ pairs. pairs.items ≡ self) }
+        ensures pairs { IfOk result (λ pairs. pairs.items ≡ self) }
+        ensures nothing { OnErr result (1 ≤ length self) }
     {
         let alloc = *self.values.allocator();
         let mut pairs = Vec::with_capacity(alloc, self.len())?;

@@ -1,5 +1,5 @@
 //! Pairs that are inserted one at a time at their places in the order of their keys.
-ghost use Rattle.std.specs.Prelude.{◌≡◌, [], IfOk, IsOk, OnErr};
+ghost use Rattle.std.specs.Prelude.{◌≡◌, ◌≤◌, [], IfOk, IsOk, OnErr, length};
 ghost use Rattle.std.specs.Map.{keys_of, values_of};
 ghost use Rattle.commonware_ordered.specs.Put.{IsPrefix, IsPut};
 ghost use Rattle.commonware_ordered.specs.Strict.{IsStrict};
@@ -50,6 +50,16 @@ impl<K: Ord + Drop, V: Drop, A: Allocator + Copy> SortedEntries<K, V, A> {
         })
     }
 
+    /// Returns an empty builder. It allocates nothing.
+    pub(crate) fn empty(alloc: A) -> Self
+        ensures { result ≡ [] }
+    {
+        SortedEntries {
+            run: Run::new(alloc),
+            tree: BTreeMap::new(alloc),
+        }
+    }
+
     /// Inserts a pair at its place unless an equal key is there, and returns whether it did. After
     /// an allocation failure a prefix of the pairs is left, and the pair itself and the others are
     /// dropped.
@@ -59,9 +69,25 @@ impl<K: Ord + Drop, V: Drop, A: Allocator + Copy> SortedEntries<K, V, A> {
             IsPut (λ p q. K.cmp p.0 q.0) self.old (key, value) new self.new) }
         ensures prefix { OnErr result (IsPrefix self.new self.old) }
     {
+        self.insert_among(key, value, 0)
+    }
+
+    /// Inserts a pair as `insert` does, and the first pair with room for some of the `coming` ones.
+    #[inline(always)]
+    pub(crate) fn insert_among(
+        &mut self,
+        key: K,
+        value: V,
+        coming: usize,
+    ) -> Result<bool, AllocError>
+        ensures put { IfOk result (λ new.
+            IsPut (λ p q. K.cmp p.0 q.0) self.old (key, value) new self.new) }
+        ensures prefix { OnErr result (IsPrefix self.new self.old) }
+    {
         if self.tree.is_empty() {
             match self.run.last_to(&key) {
                 Ordering::Less => {
+                    self.run.reserve_first(coming.min(MOST_ROOM))?;
                     self.run.push(key, value)?;
                     return Ok(true);
                 }
@@ -77,6 +103,7 @@ impl<K: Ord + Drop, V: Drop, A: Allocator + Copy> SortedEntries<K, V, A> {
         ensures keys { IfOk result (λ columns. columns.0.items ≡ keys_of self) }
         ensures values { IfOk result (λ columns. columns.1.items ≡ values_of self) }
         ensures strict { IfOk result (λ columns. IsStrict K.cmp columns.0.items) }
+        ensures nothing { OnErr result (1 ≤ length self) }
     {
         let SortedEntries { mut run, tree } = self;
         run.reserve(tree.len())?;

@@ -1,5 +1,5 @@
 //! The values of a map, which are as many as its keys.
-ghost use Rattle.std.specs.Prelude.{◌≡◌, IfErr, IfOk, OnErr, length, zip};
+ghost use Rattle.std.specs.Prelude.{◌≡◌, ◌≤◌, IfErr, IfOk, OnErr, length, zip};
 ghost use Rattle.commonware_base.specs.Calls.{CallableAlong, CallsGiveAll};
 ghost use Rattle.commonware_base.specs.Lists.{IsAllowedList, IsListMemoryFree, IsWritableList};
 ghost use Rattle.commonware_base.specs.Lists.{ListFault, list_enc};
@@ -46,8 +46,9 @@ pub(crate) fn called_values<K, V: Drop, U: Drop, A: Allocator + Copy, F: FnMut(&
     requires even { length values.items ≡ length keys.now }
     requires callable { CallableAlong (CalledAtPair F.FnMut) (TakesPair F.FnMut) f
         (zip keys.now values.items) }
-    ensures { IfOk result (λ called. CallsGiveAll (CalledAtPair F.FnMut) f
+    ensures called { IfOk result (λ called. CallsGiveAll (CalledAtPair F.FnMut) f
         (zip keys.now values.items) called.items) }
+    ensures nothing { OnErr result (1 ≤ length values.items) }
 {
     let mut called = Vec::with_capacity(*values.allocator(), values.len())?;
     for (key, value) in keys.iter().zip(values) {

@@ -1,5 +1,5 @@
 -- Lists in which two positions hold equal items, and what the builders return that refuse these.
-use Rattle.std.specs.Prelude.{◌≡◌, ◌<◌, ℕ, Bool, IsTrue, List, MatchResult, Result, Some}
+use Rattle.std.specs.Prelude.{◌≡◌, ◌<◌, ◌≤◌, ℕ, Bool, IsTrue, List, MatchResult, Result, Some, length}
 use Rattle.std.specs.List.{AllZip, slice_get}
 use Rattle.std.specs.List.Sorted.{IsPermutation}
 use Rattle.std.specs.declared.cmp.Ordering.{Ordering}
@@ -13,19 +13,20 @@ HasEqualItems {T} eq l =
     (i : ℕ) × (j : ℕ) × (x : T) × (y : T) × (i < j) × (slice_get l i ≡ Some x) × (slice_get l j ≡ Some y)
     × IsTrue (eq x y)
 
--- Keys at `DuplicateKey`, Values at `DuplicateValue`; of an allocation failure nothing is said
-abbrev pub MatchError : Error → Type 0 → Type 0 → Type 0
-MatchError DuplicateKey Keys Values = Keys
-MatchError DuplicateValue Keys Values = Values
-MatchError Memory Keys Values = Unit {0}
+-- Keys at `DuplicateKey`, Values at `DuplicateValue`, and Something at `Memory`
+abbrev pub MatchError : Error → Type 0 → Type 0 → Type 0 → Type 0
+MatchError DuplicateKey Keys Values Something = Keys
+MatchError DuplicateValue Keys Values Something = Values
+MatchError Memory Keys Values Something = Something
 
 -- set has all of l in order, and no two positions of l hold equal items
 abbrev pub IsSetOfAll : {T : Type 0} → (T → T → Bool) → (T → T → Ordering) → List T → List T → Type 0
 IsSetOfAll eq cmp l set = IsStrict cmp set × IsPermutation l set × (¬ HasEqualItems eq l)
 
--- l is refused since two of its positions hold equal items, or since an allocation failed
+-- l is refused since two of its positions hold equal items, or since an allocation failed, which is only where l has an
+-- item
 abbrev pub IsRefusedFor : {T : Type 0} → (T → T → Bool) → List T → Error → Type 0
-IsRefusedFor eq l error = MatchError error (HasEqualItems eq l) ⊥
+IsRefusedFor eq l error = MatchError error (HasEqualItems eq l) ⊥ (1 ≤ length l)
 
 -- the set of all of l, or why there is none
 abbrev pub IsWholeSet : {T : Type 0} → (T → T → Bool) → (T → T → Ordering) → List T → Result (List T) Error → Type 0

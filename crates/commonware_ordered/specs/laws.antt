@@ -1,3 +1,4 @@
+pub mod CostLaws
 pub mod EqualItemLaws
 pub mod PlaceLaws
 pub mod PositionLaws

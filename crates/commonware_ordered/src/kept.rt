@@ -1,5 +1,5 @@
 //! Items that are inserted one at a time at their places in their order.
-ghost use Rattle.std.specs.Prelude.{◌≡◌, ◌⊎◌, ◌<◌, ◌++◌, ◌∷◌, [], IfOk, OnOk, true, vec_capacity, vec_len};
+ghost use Rattle.std.specs.Prelude.{◌≡◌, ◌⊎◌, ◌<◌, ◌≤◌, ◌++◌, ◌∷◌, [], IfOk, OnErr, OnOk, length, true, vec_capacity, vec_len};
 ghost use Rattle.std.specs.List.{AllByRecursion, list_any};
 ghost use Rattle.std.specs.List.Sorted.{IsStrictlySortedBy};
 ghost use Rattle.std.specs.Ordering.{MatchOrdering, eq_by_cmp};
@@ -15,18 +15,12 @@ use std::collections::BTreeSet;
 /// whatever an iterator promises.
 pub const MOST_ROOM: usize = 4096;
 
-/// Returns an empty list with room for some of the items that are to come, for no more than a few
-/// pages of them. Where none are to come it allocates nothing.
-#[inline(always)]
-pub(crate) fn room<T, A: Allocator>(alloc: A, coming: usize) -> Result<Vec<T, A>, AllocError>
-    ensures { IfOk result (λ run. run.items ≡ []) }
-{
-    Vec::with_capacity(alloc, coming.min(MOST_ROOM))
-}
-
 /// Inserts an item at its place among those of a run and of a tree, unless an equal one is there,
 /// and returns whether it did. Items are in the run while each is greater than the last, which
 /// takes constant time an item; the first lesser one moves them all into the tree.
+///
+/// The first item of a run gets room for some of the `coming` items, for no more than a few pages
+/// of them: nothing is allocated before there is an item.
 ///
 /// The run goes in and comes back by value, so that a loop keeps its length in a register.
 #[inline(always)]
@@ -34,6 +28,7 @@ pub(crate) fn keep<T: Ord + Drop, A: Allocator + Copy>(
     run: Vec<T, A>,
     tree: &mut BTreeSet<T, A>,
     item: T,
+    coming: usize,
 ) -> Result<(Vec<T, A>, bool), AllocError>
     requires strict { IsStrictlySortedBy T.cmp run.items }
     requires apart { (run.items ≡ []) ⊎ (tree.old.keys ≡ []) }
@@ -47,7 +42,7 @@ pub(crate) fn keep<T: Ord + Drop, A: Allocator + Copy>(
         return Ok((run, new));
     }
     match last_to(&run, &item) {
-        Ordering::Less => Ok((pushed(run, item)?, true)),
+        Ordering::Less => Ok((pushed(run, item, coming)?, true)),
         Ordering::Equal => Ok((run, false)),
         Ordering::Greater => {
             let none = Vec::new(*run.allocator());
@@ -67,6 +62,7 @@ pub(crate) fn all_kept<T: Ord + Drop, A: Allocator + Copy>(
     requires apart { (run.items ≡ []) ⊎ (tree.keys ≡ []) }
     ensures items { IfOk result (λ items. items.items ≡ run.items ++ tree.keys) }
     ensures strict { IfOk result (λ items. IsStrict T.cmp items.items) }
+    ensures nothing { OnErr result (1 ≤ length tree.keys) }
 {
     if tree.is_empty() {
         return Ok(run);
@@ -96,25 +92,36 @@ fn last_to<T: Ord>(run: &[T], item: &T) -> Ordering
 
 /// Returns the run with another item last.
 #[inline(always)]
-fn pushed<T: Drop, A: Allocator>(run: Vec<T, A>, item: T) -> Result<Vec<T, A>, AllocError>
+fn pushed<T: Drop, A: Allocator + Copy>(
+    run: Vec<T, A>,
+    item: T,
+    coming: usize,
+) -> Result<Vec<T, A>, AllocError>
     ensures { IfOk result (λ v. v.items ≡ run.items ++ item ∷ []) }
 {
     let mut run = if run.len() < run.capacity() {
         run
     } else {
-        with_more(run)?
+        with_more(run, coming)?
     };
     run.push_reserved(item);
     Ok(run)
 }
 
-/// Returns the list with room for another item.
+/// Returns the list with room for another item, and an empty one with room for some of those that
+/// are to come.
 #[cold]
 #[inline(never)]
-fn with_more<T: Drop, A: Allocator>(full: Vec<T, A>) -> Result<Vec<T, A>, AllocError>
+fn with_more<T: Drop, A: Allocator + Copy>(
+    full: Vec<T, A>,
+    coming: usize,
+) -> Result<Vec<T, A>, AllocError>
     ensures items { IfOk result (λ v. v.items ≡ full.items) }
     ensures room { IfOk result (λ v. vec_len v < vec_capacity v) }
 {
+    if full.is_empty() {
+        return Vec::with_capacity(*full.allocator(), coming.min(MOST_ROOM).max(1));
+    }
     let mut full = full;
     full.reserve(1)?;
     Ok(full)

@@ -5,6 +5,7 @@ ghost use Rattle.commonware_faults.specs.Counts.{IsCommitteeSize};
 ghost use Rattle.commonware_ordered.specs.Costs.{IsLookUpCost};
 ghost use Rattle.commonware_ordered.specs.Strict.{HasEqualAt, IsPlaceOf};
 
+use crate::counted::{CountedOrd, Order};
 use crate::counter::{Counter, Uncounted};
 use crate::set::Set;
 use commonware_base::Participant;
@@ -44,16 +45,6 @@ pub trait Quorum {
         ensures place { IsPlaceOf Self.Item.eq (members self.now) key.now result }
         ensures only { (p : ℕ)
             → (result ≡ Some p) ↔ HasEqualAt Self.Item.eq (members self.now) key.now p };
-
-    /// Returns what `index` does, and counts its comparisons: of n members, where n has k binary
-    /// digits, at most 1 + 3k/2. It requires the same.
-    fn index_counted<C: Counter>(&self, key: &Self::Item, count: &mut C) -> Option<Participant>
-        requires { length (members self.now) ≤ 2 ^ 32 }
-        ensures place { IsPlaceOf Self.Item.eq (members self.now) key.now result }
-        ensures only { (p : ℕ)
-            → (result ≡ Some p) ↔ HasEqualAt Self.Item.eq (members self.now) key.now p }
-        ensures cost { IsLookUpCost (length (members self.now))
-            (C.counted count.old) (C.counted count.new) };
 }
 
 impl<T: Ord, A: Allocator> Quorum for Set<T, A> {
@@ -76,8 +67,24 @@ impl<T: Ord, A: Allocator> Quorum for Set<T, A> {
     fn index(&self, key: &T) -> Option<Participant> {
         self.index_counted(key, &mut Uncounted)
     }
+}
 
-    fn index_counted<C: Counter>(&self, key: &T, count: &mut C) -> Option<Participant> {
+impl<T: Order, A: Allocator> Set<T, A> {
+    /// Returns what `index` of `Quorum` does, and counts its comparisons: of n members, where n has
+    /// k binary digits, at most 1 + 3k/2. It requires that all indices fit a `u32`.
+    /// ```
+    /// let set = Set::try_from_array(alloc, [5u8, 1, 3])?;
+    /// assert!(rt; set.index_counted(&3, &mut Uncounted) == Some(Participant::new(1)));
+    /// ```
+    #[inline(always)]
+    pub fn index_counted<C: Counter>(&self, key: &T, count: &mut C) -> Option<Participant>
+    where
+        T: CountedOrd<C>,
+        requires { length self.now ≤ 2 ^ 32 }
+        ensures place { IsPlaceOf T.same self.now key.now result }
+        ensures only { (p : ℕ) → (result ≡ Some p) ↔ HasEqualAt T.same self.now key.now p }
+        ensures cost { IsLookUpCost (length self.now) (C.counted count.old) (C.counted count.new) }
+    {
         let place = self.position_counted(key, count)?;
         Some(Participant::from_usize(place))
     }

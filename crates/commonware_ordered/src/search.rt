@@ -1,32 +1,32 @@
 //! The position of an item in a strictly increasing list, searched branchless: no branch depends
-//! on a comparison. The list is hidden, so that each comparison is counted.
+//! on a comparison. The items are of a type that only a counted call compares.
 ghost use Rattle.std.specs.Prelude.{◌≡◌, ◌≤◌, ◌<◌, ◌+◌, ◌*◌, ◌^◌, ℕ, true, length};
 ghost use Rattle.std.specs.List.{HoldsAt};
 ghost use Rattle.commonware_ordered.specs.Costs.{IsLookUpCost};
-ghost use Rattle.commonware_ordered.specs.Hidden.{items_of};
 ghost use Rattle.commonware_ordered.specs.Strict.{IsPlaceOf, IsStrict, IsWithin};
 
+use crate::at::{cmp_at, cmp_from, eq_at};
+use crate::counted::CountedOrd;
 use crate::counter::Counter;
-use crate::hidden::Hidden;
 use std::mem::size_of;
 
 /// Returns 1 where the item at a place is at most the one sought, else 0. It compares once.
 #[inline(always)]
-fn reached<T: Ord, C: Counter>(
-    items: &Hidden<'_, T>,
+fn reached<T: CountedOrd<C>, C: Counter>(
+    items: &[T],
     place: usize,
     item: &T,
     count: &mut C,
 ) -> usize
-    requires strict { IsStrict T.cmp (items_of items.now) }
-    requires inside { place < length (items_of items.now) }
+    requires strict { IsStrict T.order items.now }
+    requires inside { place < length items.now }
     ensures bound { result ≤ 1 }
-    ensures value { (k : ℕ) → k < length (items_of items.now)
-        → HoldsAt (λ y. T.eq y item.now ≡ true) (items_of items.now) k
+    ensures value { (k : ℕ) → k < length items.now
+        → HoldsAt (λ y. T.same y item.now ≡ true) items.now k
         → (place ≤ k → result ≡ 1) × (k < place → result ≡ 0) }
     ensures cost { C.counted count.new ≤ C.counted count.old + 1 }
 {
-    if items.cmp_at(item, place, count).is_ge() {
+    if cmp_at(items, item, place, count).is_ge() {
         1
     } else {
         0
@@ -37,21 +37,21 @@ fn reached<T: Ord, C: Counter>(
 /// those that are left begin, and how many they are, at most `window`. It compares with the first
 /// of the last `window`, and not at all where no more than these are left.
 #[inline(always)]
-fn half<T: Ord, C: Counter>(
-    items: &Hidden<'_, T>,
+fn half<T: CountedOrd<C>, C: Counter>(
+    items: &[T],
     base: usize,
     size: usize,
     window: usize,
     item: &T,
     count: &mut C,
 ) -> (usize, usize)
-    requires strict { IsStrict T.cmp (items_of items.now) }
-    requires inside { base + size ≤ length (items_of items.now) }
+    requires strict { IsStrict T.order items.now }
+    requires inside { base + size ≤ length items.now }
     requires twice { size ≤ 2 * window }
-    requires within { IsWithin T.eq (items_of items.now) item.now base size }
-    ensures inside { result.0 + result.1 ≤ length (items_of items.now) }
+    requires within { IsWithin T.same items.now item.now base size }
+    ensures inside { result.0 + result.1 ≤ length items.now }
     ensures window { result.1 ≤ window }
-    ensures within { IsWithin T.eq (items_of items.now) item.now result.0 result.1 }
+    ensures within { IsWithin T.same items.now item.now result.0 result.1 }
     ensures cost { C.counted count.new ≤ C.counted count.old + 1 }
     ensures free { size ≤ window
         → (C.counted count.new ≡ C.counted count.old) × (result.1 ≡ size) }
@@ -72,19 +72,19 @@ fn half<T: Ord, C: Counter>(
 /// Four halvings one after the other and no loop, so that a compiler makes no branch of a
 /// comparison.
 #[inline(always)]
-fn last_steps<T: Ord, C: Counter>(
-    items: &Hidden<'_, T>,
+fn last_steps<T: CountedOrd<C>, C: Counter>(
+    items: &[T],
     base: usize,
     size: usize,
     item: &T,
     count: &mut C,
 ) -> usize
-    requires strict { IsStrict T.cmp (items_of items.now) }
-    requires inside { base + size ≤ length (items_of items.now) }
+    requires strict { IsStrict T.order items.now }
+    requires inside { base + size ≤ length items.now }
     requires few { size ≤ 16 }
-    requires within { IsWithin T.eq (items_of items.now) item.now base size }
-    ensures place { (k : ℕ) → k < length (items_of items.now)
-        → HoldsAt (λ y. T.eq y item.now ≡ true) (items_of items.now) k → result ≡ k }
+    requires within { IsWithin T.same items.now item.now base size }
+    ensures place { (k : ℕ) → k < length items.now
+        → HoldsAt (λ y. T.same y item.now ≡ true) items.now k → result ≡ k }
     ensures cost { (j : ℕ) → size ≤ 2 ^ j → C.counted count.new ≤ C.counted count.old + j }
 {
     let (base, size) = half(items, base, size, 8, item, count);
@@ -103,19 +103,19 @@ const FEW: usize = 16;
 /// It compares with the items at three places, which divide the others in four, and adds up the
 /// results: what follows depends on no branch that a processor could mispredict.
 #[inline(always)]
-fn quartering_step<T: Ord, C: Counter>(
-    items: &Hidden<'_, T>,
+fn quartering_step<T: CountedOrd<C>, C: Counter>(
+    items: &[T],
     base: usize,
     size: usize,
     item: &T,
     count: &mut C,
 ) -> (usize, usize)
-    requires strict { IsStrict T.cmp (items_of items.now) }
-    requires inside { base + size ≤ length (items_of items.now) }
+    requires strict { IsStrict T.order items.now }
+    requires inside { base + size ≤ length items.now }
     requires many { 16 < size }
-    requires within { IsWithin T.eq (items_of items.now) item.now base size }
-    ensures inside { result.0 + result.1 ≤ length (items_of items.now) }
-    ensures within { IsWithin T.eq (items_of items.now) item.now result.0 result.1 }
+    requires within { IsWithin T.same items.now item.now base size }
+    ensures inside { result.0 + result.1 ≤ length items.now }
+    ensures within { IsWithin T.same items.now item.now result.0 result.1 }
     ensures cost { (C.counted count.new ≤ C.counted count.old + 3)
         × (4 * result.1 ≤ size + 9) }
 {
@@ -131,10 +131,10 @@ fn quartering_step<T: Ord, C: Counter>(
 /// A step that quarters takes one and a half comparisons where halving takes one, so the last few
 /// are halved.
 #[inline(always)]
-fn narrowed<T: Ord, C: Counter>(items: &Hidden<'_, T>, item: &T, count: &mut C) -> Option<usize>
-    requires { IsStrict T.cmp (items_of items.now) }
-    ensures place { IsPlaceOf T.eq (items_of items.now) item.now result }
-    ensures cost { IsLookUpCost (length (items_of items.now))
+fn narrowed<T: CountedOrd<C>, C: Counter>(items: &[T], item: &T, count: &mut C) -> Option<usize>
+    requires { IsStrict T.order items.now }
+    ensures place { IsPlaceOf T.same items.now item.now result }
+    ensures cost { IsLookUpCost (length items.now)
         (C.counted count.old) (C.counted count.new) }
 {
     let mut base = 0;
@@ -148,7 +148,7 @@ fn narrowed<T: Ord, C: Counter>(items: &Hidden<'_, T>, item: &T, count: &mut C) 
     if place >= items.len() {
         return None;
     }
-    if items.eq_at(place, item, count) {
+    if eq_at(items, place, item, count) {
         Some(place)
     } else {
         None
@@ -158,26 +158,26 @@ fn narrowed<T: Ord, C: Counter>(items: &Hidden<'_, T>, item: &T, count: &mut C) 
 /// Halves the `size` places from `base` on, which are two or more. It returns where those that are
 /// left begin, and how many they are: after one comparison at most half, rounded up.
 #[inline(always)]
-fn halving_step<T: Ord, C: Counter>(
-    items: &Hidden<'_, T>,
+fn halving_step<T: CountedOrd<C>, C: Counter>(
+    items: &[T],
     base: usize,
     size: usize,
     item: &T,
     count: &mut C,
 ) -> (usize, usize)
-    requires strict { IsStrict T.cmp (items_of items.now) }
-    requires inside { base + size ≤ length (items_of items.now) }
+    requires strict { IsStrict T.order items.now }
+    requires inside { base + size ≤ length items.now }
     requires many { 1 < size }
-    requires within { IsWithin T.eq (items_of items.now) item.now base size }
-    ensures inside { result.0 + result.1 ≤ length (items_of items.now) }
+    requires within { IsWithin T.same items.now item.now base size }
+    ensures inside { result.0 + result.1 ≤ length items.now }
     ensures some { 1 ≤ result.1 }
-    ensures within { IsWithin T.eq (items_of items.now) item.now result.0 result.1 }
+    ensures within { IsWithin T.same items.now item.now result.0 result.1 }
     ensures cost { (C.counted count.new ≤ C.counted count.old + 1)
         × (2 * result.1 ≤ size + 1) }
 {
     let step = size / 2;
     let middle = base + step;
-    if items.cmp_from(middle, item, count).is_gt() {
+    if cmp_from(items, middle, item, count).is_gt() {
         (base, size - step)
     } else {
         (middle, size - step)
@@ -186,10 +186,10 @@ fn halving_step<T: Ord, C: Counter>(
 
 /// Returns the same position, by halving the list.
 #[inline]
-fn halved<T: Ord, C: Counter>(items: &Hidden<'_, T>, item: &T, count: &mut C) -> Option<usize>
-    requires { IsStrict T.cmp (items_of items.now) }
-    ensures place { IsPlaceOf T.eq (items_of items.now) item.now result }
-    ensures cost { (k : ℕ) → length (items_of items.now) ≤ 2 ^ k
+fn halved<T: CountedOrd<C>, C: Counter>(items: &[T], item: &T, count: &mut C) -> Option<usize>
+    requires { IsStrict T.order items.now }
+    ensures place { IsPlaceOf T.same items.now item.now result }
+    ensures cost { (k : ℕ) → length items.now ≤ 2 ^ k
         → C.counted count.new ≤ C.counted count.old + k + 1 }
 {
     let mut size = items.len();
@@ -202,7 +202,7 @@ fn halved<T: Ord, C: Counter>(items: &Hidden<'_, T>, item: &T, count: &mut C) ->
         base = next;
         size = left;
     }
-    if items.cmp_from(base, item, count).is_eq() {
+    if cmp_from(items, base, item, count).is_eq() {
         Some(base)
     } else {
         None
@@ -224,9 +224,13 @@ const NEAR: usize = 2048;
 ///
 /// Of n items, where n has k binary digits, it makes at most 1 + 3k/2 comparisons.
 #[inline(always)]
-pub(crate) fn place_of<T: Ord, C: Counter>(items: &[T], item: &T, count: &mut C) -> Option<usize>
-    requires { IsStrict T.cmp items.now }
-    ensures place { IsPlaceOf T.eq items.now item.now result }
+pub(crate) fn place_of<T: CountedOrd<C>, C: Counter>(
+    items: &[T],
+    item: &T,
+    count: &mut C,
+) -> Option<usize>
+    requires { IsStrict T.order items.now }
+    ensures place { IsPlaceOf T.same items.now item.now result }
     ensures cost { IsLookUpCost (length items.now)
         (C.counted count.old) (C.counted count.new) }
 {
@@ -234,10 +238,9 @@ pub(crate) fn place_of<T: Ord, C: Counter>(items: &[T], item: &T, count: &mut C)
     // but for an empty list, of which either search returns `None`.
     let size = items.len().min(1) * size_of::<T>();
     let are_near_keys = size == KEY && items.len() <= NEAR;
-    let hidden = Hidden::new(items);
     if size <= NARROW || are_near_keys {
-        narrowed(&hidden, item, count)
+        narrowed(items, item, count)
     } else {
-        halved(&hidden, item, count)
+        halved(items, item, count)
     }
 }

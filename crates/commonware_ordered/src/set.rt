@@ -1,12 +1,11 @@
 //! A list of strictly increasing items.
-ghost use Rattle.std.specs.Prelude.{◌≡◌, ◌↔◌, ◌+◌, ◌-◌, ◌*◌, ◌<◌, ◌≤◌, ◌^◌, ◌==◌, [], IsTrue, Some, length, slice_index_or, slice_range, take, is_some, ℕ};
+ghost use Rattle.std.specs.Prelude.{◌≡◌, ◌↔◌, ◌+◌, ◌-◌, ◌*◌, ◌<◌, ◌≤◌, ◌^◌, ◌==◌, [], IfSome, IsSome, Some, length, slice_index_or, slice_range, take, is_some, ℕ};
 ghost use Rattle.std.specs.List.{IsAnyAnswer, list_any};
 ghost use Rattle.std.specs.Iterator.Adapters.{IterYieldsInOrder, IterYieldsInReverse};
 ghost use Rattle.std.specs.Slice.{IsItemAt};
 ghost use Rattle.std.specs.Slice.Iter.{iter_rest};
-ghost use Rattle.commonware_ordered.specs.Costs.{IsLookUpCost, IsOrderCost};
-ghost use Rattle.commonware_ordered.specs.Hidden.{items_of};
-ghost use Rattle.commonware_ordered.specs.Strict.{HasEqualAt, IsLessThanNext, IsPlaceOf, IsStrict};
+ghost use Rattle.commonware_ordered.specs.Costs.{IsLookUpCost, IsOrderCost, StopsAtFault};
+ghost use Rattle.commonware_ordered.specs.Strict.{HasEqualAt, IsPlaceOf, IsStrict};
 
 mod builders;
 mod codec;
@@ -14,8 +13,9 @@ mod compare;
 mod display;
 mod iterators;
 
+use crate::counted::{CountedOrd, Order};
 use crate::counter::{Counter, Uncounted};
-use crate::hidden::Hidden;
+use crate::order::are_strict;
 use crate::search::place_of;
 pub use codec::{read_set_counted, set_fault_law};
 use std::alloc::Allocator;
@@ -31,11 +31,11 @@ use std::slice;
 /// builder takes O(n log n), or O(n) where each item is greater than the last, and every other call
 /// at most linear time. No contract says so.
 #[derive(Drop)]
-pub struct Set<T: Ord, A: Allocator> {
+pub struct Set<T: Order, A: Allocator> {
     items: Vec<T, A>,
 }
 
-impl<T: Ord, A: Allocator> Model for Set<T, A> {
+impl<T: Order, A: Allocator> Model for Set<T, A> {
     ghost use Rattle.std.specs.Prelude.{List};
     ghost use Rattle.commonware_ordered.specs.Strict.{IsStrict};
 
@@ -43,10 +43,10 @@ impl<T: Ord, A: Allocator> Model for Set<T, A> {
 
     ghost view = { λ s. s.items.items };
 
-    ghost invariant = { λ s. IsStrict T.cmp s.items.items };
+    ghost invariant = { λ s. IsStrict T.order s.items.items };
 }
 
-impl<T: Ord, A: Allocator> Set<T, A> {
+impl<T: Order, A: Allocator> Set<T, A> {
     /// Returns the set without items.
     /// ```
     /// let none: Set<u8, Global> = Set::empty(alloc);
@@ -110,7 +110,7 @@ impl<T: Ord, A: Allocator> Set<T, A> {
     /// ```
     pub fn as_slice(&self) -> &[T]
         ensures items { result.now ≡ self.now }
-        ensures strict { IsStrict T.cmp self.now }
+        ensures strict { IsStrict T.order self.now }
     {
         self.items.as_slice()
     }
@@ -142,6 +142,75 @@ impl<T: Ord, A: Allocator> Set<T, A> {
         self.as_slice().iter()
     }
 
+    /// Returns what `position` does, by the same search, and counts its comparisons: of n items,
+    /// where n has k binary digits, at most 1 + 3k/2. So whatever the items are and whichever item
+    /// is sought, a set of 100 takes at most 11, one of 1,000,000 at most 31, none more than 97.
+    /// ```
+    /// let set = Set::try_from_array(alloc, [5u8, 1, 3])?;
+    /// assert!(rt; set.position_counted(&3, &mut Uncounted) == Some(1));
+    /// ```
+    #[inline(always)]
+    pub fn position_counted<C: Counter>(&self, item: &T, count: &mut C) -> Option<usize>
+    where
+        T: CountedOrd<C>,
+        ensures place { IsPlaceOf T.same self.now item.now result }
+        ensures only { (p : ℕ) → (result ≡ Some p) ↔ HasEqualAt T.same self.now item.now p }
+        ensures found { IsAnyAnswer (λ y b. T.same y item.now ≡ b) self.now (is_some result) }
+        ensures cost { IsLookUpCost (length self.now) (C.counted count.old) (C.counted count.new) }
+    {
+        place_of(self.as_slice(), item, count)
+    }
+
+    /// Returns what `contains` does, and counts its comparisons, as `position_counted` does.
+    /// ```
+    /// let set = Set::try_from_array(alloc, [5u8, 1, 3])?;
+    /// assert!(rt; set.contains_counted(&3, &mut Uncounted));
+    /// ```
+    #[inline(always)]
+    pub fn contains_counted<C: Counter>(&self, item: &T, count: &mut C) -> bool
+    where
+        T: CountedOrd<C>,
+        ensures value { result ≡ list_any (λ y. T.same y item.now) self.now }
+        ensures cases { IsAnyAnswer (λ y b. T.same y item.now ≡ b) self.now result }
+        ensures cost { IsLookUpCost (length self.now) (C.counted count.old) (C.counted count.new) }
+    {
+        self.position_counted(item, count).is_some()
+    }
+
+    /// Returns the set of the items, or `None` where they are not strictly increasing. Each is
+    /// compared with the next, in order, up to the first that isn't less, and counted.
+    pub(crate) fn checked<C: Counter>(items: Vec<T, A>, count: &mut C) -> Option<Self>
+    where
+        T: CountedOrd<C> + Drop,
+        ensures some { IsSome result ↔ IsStrict T.order items.items }
+        ensures same { IfSome result (λ set. set ≡ items.items) }
+        ensures cost { IsOrderCost (length items.items)
+            (C.counted count.old) (C.counted count.new) }
+        ensures stops { StopsAtFault T.order items.items
+            (C.counted count.old) (C.counted count.new) }
+    {
+        if are_strict(items.as_slice(), count) {
+            Some(Set { items })
+        } else {
+            None
+        }
+    }
+
+    /// Returns the set of the items. It requires that they are strictly increasing: each is less
+    /// than the next. It allocates nothing.
+    /// ```
+    /// let set = Set::from_strict(vec![in alloc; 1u8, 3, 5]?);
+    /// assert!(rt; set.as_slice() == [1u8, 3, 5].as_slice());
+    /// ```
+    pub fn from_strict(items: Vec<T, A>) -> Self
+        requires { IsStrict T.order items.items }
+        ensures { result ≡ items.items }
+    {
+        Set { items }
+    }
+}
+
+impl<T: Ord, A: Allocator> Set<T, A> {
     /// Returns the position of the item that equals the given one, or `None` where none does. It
     /// makes as many comparisons as `position_counted`.
     /// ```
@@ -157,23 +226,6 @@ impl<T: Ord, A: Allocator> Set<T, A> {
         self.position_counted(item, &mut Uncounted)
     }
 
-    /// Returns what `position` does, by the same search, and counts its comparisons: of n items,
-    /// where n has k binary digits, at most 1 + 3k/2. So whatever the items are and whichever item
-    /// is sought, a set of 100 takes at most 11, one of 1,000,000 at most 31, none more than 97.
-    /// ```
-    /// let set = Set::try_from_array(alloc, [5u8, 1, 3])?;
-    /// assert!(rt; set.position_counted(&3, &mut Uncounted) == Some(1));
-    /// ```
-    #[inline(always)]
-    pub fn position_counted<C: Counter>(&self, item: &T, count: &mut C) -> Option<usize>
-        ensures place { IsPlaceOf T.eq self.now item.now result }
-        ensures only { (p : ℕ) → (result ≡ Some p) ↔ HasEqualAt T.eq self.now item.now p }
-        ensures found { IsAnyAnswer (λ y b. T.eq y item.now ≡ b) self.now (is_some result) }
-        ensures cost { IsLookUpCost (length self.now) (C.counted count.old) (C.counted count.new) }
-    {
-        place_of(self.as_slice(), item, count)
-    }
-
     /// Whether an item equals the given one. It makes as many comparisons as `position_counted`.
     /// ```
     /// let set = Set::try_from_array(alloc, [5u8, 1, 3])?;
@@ -186,36 +238,9 @@ impl<T: Ord, A: Allocator> Set<T, A> {
     {
         self.contains_counted(item, &mut Uncounted)
     }
-
-    /// Returns what `contains` does, and counts its comparisons, as `position_counted` does.
-    /// ```
-    /// let set = Set::try_from_array(alloc, [5u8, 1, 3])?;
-    /// assert!(rt; set.contains_counted(&3, &mut Uncounted));
-    /// ```
-    #[inline(always)]
-    pub fn contains_counted<C: Counter>(&self, item: &T, count: &mut C) -> bool
-        ensures value { result ≡ list_any (λ y. T.eq y item.now) self.now }
-        ensures cases { IsAnyAnswer (λ y b. T.eq y item.now ≡ b) self.now result }
-        ensures cost { IsLookUpCost (length self.now) (C.counted count.old) (C.counted count.new) }
-    {
-        self.position_counted(item, count).is_some()
-    }
-
-    /// Returns the set of the items. It requires that they are strictly increasing: each is less
-    /// than the next. It allocates nothing.
-    /// ```
-    /// let set = Set::from_strict(vec![in alloc; 1u8, 3, 5]?);
-    /// assert!(rt; set.as_slice() == [1u8, 3, 5].as_slice());
-    /// ```
-    pub fn from_strict(items: Vec<T, A>) -> Self
-        requires { IsStrict T.cmp items.items }
-        ensures { result ≡ items.items }
-    {
-        Set { items }
-    }
 }
 
-impl<T: Ord + Drop, A: Allocator> Set<T, A> {
+impl<T: Order + Drop, A: Allocator> Set<T, A> {
     /// Keeps the first `len` items, or all of them where there are no more.
     /// ```
     /// let mut set = Set::try_from_array(alloc, [5u8, 1, 3])?;
@@ -229,27 +254,7 @@ impl<T: Ord + Drop, A: Allocator> Set<T, A> {
     }
 }
 
-/// Whether the items are strictly increasing: each is less than the next. Each is compared with the
-/// next, in order, up to the first that isn't less.
-pub(crate) fn are_strict<T: Ord, C: Counter>(items: &Hidden<'_, T>, count: &mut C) -> bool
-    ensures strict { IsTrue result ↔ IsStrict T.cmp (items_of items.now) }
-    ensures cost { IsOrderCost (length (items_of items.now))
-        (C.counted count.old) (C.counted count.new) }
-    ensures stops { (k : ℕ) → k + 1 < length (items_of items.now)
-        → ¬ IsLessThanNext T.cmp (items_of items.now) k
-        → C.counted count.new ≤ C.counted count.old + k + 1 }
-{
-    let mut i = 1;
-    while i < items.len() {
-        if !items.cmp_next(i - 1, count).is_lt() {
-            return false;
-        }
-        i += 1;
-    }
-    true
-}
-
-impl<T: Ord, A: Allocator> Index<usize> for Set<T, A> {
+impl<T: Order, A: Allocator> Index<usize> for Set<T, A> {
     type Output = T;
 
     ghost can_index = { λ s i. i < length s };

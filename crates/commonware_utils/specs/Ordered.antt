@@ -7,7 +7,8 @@ pub use Rattle.commonware_bimap.specs.Swapped.{swapped}
 pub use Rattle.commonware_bimap.specs.WholeBiMaps.{HasEqualKeys, HasEqualValues, IsBiMapOfAll}
 pub use Rattle.commonware_bimap.specs.WholeBiMaps.{IsBiMapOfClones, IsRefusedBiMap, IsWholeBiMap}
 pub use Rattle.commonware_bimap.specs.WholeBiMaps.{IsWholeBiMapOfClones}
-pub use Rattle.commonware_ordered.specs.Costs.{IsLookUpCost, IsOrderCost}
+pub use Rattle.commonware_ordered.specs.Costs.{ComparesList, IsLookUpCost, IsOrderCost, IsReadCost}
+pub use Rattle.commonware_ordered.specs.Costs.{StatesLength, StopsAtFault}
 pub use Rattle.commonware_ordered.specs.Dedup.{EqualsSameItems, HaveSameItems, IsDedup, IsKept}
 pub use Rattle.commonware_map.specs.Borrows.{BorrowsValueAt, BorrowsValueOf, BorrowsValues, BorrowsValuesTo}
 pub use Rattle.commonware_map.specs.Borrows.{map_row, set_value_at, set_values}

@@ -5,6 +5,6 @@ pub use commonware_map::{
     Map, MapError, MapIntoIter, Pairs, PairsMut, map_fault_law, read_map_counted,
 };
 pub use commonware_ordered::{
-    Comparisons, Counter, Error, Quorum, Set, Uncounted, count_members, look_up_law,
-    read_set_counted, set_fault_law,
+    Comparisons, CountedOrd, Counter, Error, Order, Quorum, Set, Uncounted, count_members,
+    look_up_law, read_set_counted, set_fault_law,
 };

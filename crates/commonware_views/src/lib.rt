@@ -1,11 +1,12 @@
-//! and the items stay where the input has them.
+//! Lists, sets and maps of byte sequences of one size, read in place: nothing is allocated, and the
+//! items stay where the input has them.
 //!
 //! Sizes are known when the program runs, so one program reads the keys of every chain. What a view
 //! accepts, and the first fault (the decoding error) of every other input, is that of the
 //! collection with `FixedBytes` of these sizes.
 #![tactic(auto)]
 
-mod hidden;
+mod counted;
 mod items;
 mod list;
 mod map;

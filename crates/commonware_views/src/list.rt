@@ -7,11 +7,12 @@ ghost use Rattle.std.specs.Option.{option_copied};
 ghost use Rattle.commonware_base.specs.Lists.{list_enc};
 ghost use Rattle.commonware_base.specs.Refusal.{Refuses};
 ghost use Rattle.commonware_base.specs.Source.{rest_of, Consumes};
-ghost use Rattle.commonware_ordered.specs.Strict.{IsStrict};
+ghost use Rattle.commonware_ordered.specs.Strict.{IsLessThanNext, IsStrict};
 ghost use Rattle.commonware_sequence.specs.FixedBytes.{bytes_cmp, own_bytes};
 ghost use Rattle.commonware_views.specs.Costs.{IsHalvingCost};
 ghost use Rattle.commonware_views.specs.Lists.{AreItemsOf, IsGapFor, IsListOf, IsNotWhole, list_fault};
 
+use crate::counted::{Keys, PrefixedKey};
 use crate::items::Items;
 use crate::order::are_strict;
 use crate::search::place_of;
@@ -161,8 +162,11 @@ impl<'a> ListView<'a> {
     pub(crate) fn is_strict<C: Counter>(&self, counter: &mut C) -> bool
         ensures strict { IsTrue result ↔ IsStrict bytes_cmp self.now }
         ensures cost { C.counted counter.new ≤ C.counted counter.old + length self.now }
+        ensures stops { (k : ℕ) → k + 1 < length self.now
+            → ¬ IsLessThanNext bytes_cmp self.now k
+            → C.counted counter.new ≤ C.counted counter.old + k + 2 }
     {
-        are_strict(self.size, self.count, self.bytes, counter)
+        are_strict(self, counter)
     }
 
     /// Looks an item up by halving the list: `Ok` has the position of one that is the key, and
@@ -196,7 +200,23 @@ impl<'a> ListView<'a> {
         ensures cost { IsHalvingCost (length self.now)
             (C.counted counter.old) (C.counted counter.new) }
     {
-        place_of(self.size, self.count, self.bytes, key, counter)
+        place_of(self, &PrefixedKey::new(key), counter)
+    }
+}
+
+impl<'a, C: Counter> Keys<C> for ListView<'a> {
+    type Key = PrefixedKey<'a>;
+
+    ghost keys = { λ items. items };
+
+    #[inline(always)]
+    fn count(&self) -> usize {
+        self.len()
+    }
+
+    #[inline(always)]
+    fn key_at(&self, place: usize) -> PrefixedKey<'a> {
+        PrefixedKey::new(item_at(self.bytes, self.size, place))
     }
 }
 

@@ -3,13 +3,17 @@ ghost use Rattle.std.specs.Prelude.{◌≡◌, ◌↔◌, ◌+◌, ◌≤◌, �
 ghost use Rattle.std.specs.List.{slice_get};
 ghost use Rattle.std.specs.Map.{keys_of, values_of};
 ghost use Rattle.std.specs.Option.{option_copied};
+ghost use Rattle.commonware_base.specs.Fault.{Fault};
 ghost use Rattle.commonware_base.specs.Range.{Within};
 ghost use Rattle.commonware_base.specs.Refusal.{Refuses};
 ghost use Rattle.commonware_base.specs.Source.{rest_of, Consumes};
 ghost use Rattle.commonware_map.specs.Maps.{map_enc};
 ghost use Rattle.commonware_sequence.specs.FixedBytes.{own_bytes};
 ghost use Rattle.commonware_views.specs.Costs.{IsHalvingCost};
+ghost use Rattle.commonware_ordered.specs.Costs.{StatesLength};
+ghost use Rattle.commonware_views.specs.Lists.{list_fault};
 ghost use Rattle.commonware_views.specs.Maps.{IsSizedMapOf, sized_map_fault};
+ghost use Rattle.commonware_views.specs.Sets.{IsOutOfOrderAt};
 
 use crate::list::ListView;
 use crate::set::SetView;
@@ -63,7 +67,9 @@ impl<'a> MapView<'a> {
     }
 
     /// Finds what `read` does, and counts how many keys it compares with the next: whatever the
-    /// input, at most as many as the most pairs that the range allows.
+    /// input, at most as many as the most pairs that the range allows, and as the length that the
+    /// input states first; none where no whole list of keys is read. It stops at the first key that
+    /// isn't less than the next: where this is at place k, it compares at most k + 2 times.
     pub fn read_counted<C: Counter>(
         src: &mut Source<'a>,
         key_size: usize,
@@ -82,6 +88,12 @@ impl<'a> MapView<'a> {
         ensures stays { OnErr result (src.new ≡ src.old) }
         ensures cost { (most : ℕ) → ((n : ℕ) → Within range n → n ≤ most)
             → C.counted counter.new ≤ C.counted counter.old + most }
+        ensures cost_stated { (n : ℕ) → StatesLength (rest_of src.old) n
+            → C.counted counter.new ≤ C.counted counter.old + n }
+        ensures cost_unread { (fault : Fault) → list_fault key_size range (rest_of src.old) fault
+            → C.counted counter.new ≡ C.counted counter.old }
+        ensures stops { (k : ℕ) → IsOutOfOrderAt key_size range (rest_of src.old) k
+            → C.counted counter.new ≤ C.counted counter.old + k + 2 }
     {
         next_pairs(src, key_size, value_size, range, counter)
     }
@@ -186,6 +198,12 @@ fn next_pairs<'a, C: Counter>(
     ensures stays { OnErr result (src.new ≡ src.old) }
     ensures cost { (most : ℕ) → ((n : ℕ) → Within range n → n ≤ most)
         → C.counted counter.new ≤ C.counted counter.old + most }
+    ensures cost_stated { (n : ℕ) → StatesLength (rest_of src.old) n
+        → C.counted counter.new ≤ C.counted counter.old + n }
+    ensures cost_unread { (fault : Fault) → list_fault key_size range (rest_of src.old) fault
+        → C.counted counter.new ≡ C.counted counter.old }
+    ensures stops { (k : ℕ) → IsOutOfOrderAt key_size range (rest_of src.old) k
+        → C.counted counter.new ≤ C.counted counter.old + k + 2 }
 {
     let mut here = *src;
     let keys = SetView::read_counted(&mut here, key_size, range, counter)?;

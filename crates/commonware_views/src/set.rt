@@ -2,6 +2,7 @@
 ghost use Rattle.std.specs.Prelude.{◌≡◌, ◌↔◌, ◌+◌, ◌≤◌, ◌==◌, ℕ, Some, IfErr, IfOk, IsOk, IsTrue, List, OnErr, length};
 ghost use Rattle.std.specs.List.{Contains, flat_map, slice_get};
 ghost use Rattle.std.specs.Option.{option_copied};
+ghost use Rattle.commonware_base.specs.Fault.{Fault};
 ghost use Rattle.commonware_base.specs.Lists.{list_enc};
 ghost use Rattle.commonware_base.specs.Range.{Within};
 ghost use Rattle.commonware_base.specs.Refusal.{Refuses};
@@ -9,7 +10,9 @@ ghost use Rattle.commonware_base.specs.Source.{rest_of, Consumes};
 ghost use Rattle.commonware_ordered.specs.Strict.{IsStrict};
 ghost use Rattle.commonware_sequence.specs.FixedBytes.{bytes_cmp, own_bytes};
 ghost use Rattle.commonware_views.specs.Costs.{IsHalvingCost};
-ghost use Rattle.commonware_views.specs.Sets.{IsKeySetOf, key_set_fault};
+ghost use Rattle.commonware_ordered.specs.Costs.{StatesLength};
+ghost use Rattle.commonware_views.specs.Lists.{list_fault};
+ghost use Rattle.commonware_views.specs.Sets.{IsKeySetOf, IsOutOfOrderAt, key_set_fault};
 
 use crate::items::Items;
 use crate::list::ListView;
@@ -60,7 +63,9 @@ impl<'a> SetView<'a> {
     }
 
     /// Finds what `read` does, and counts how many keys it compares with the next: whatever the
-    /// input, at most as many as the most keys that the range allows.
+    /// input, at most as many as the most keys that the range allows, and as the length that the
+    /// input states; none where no whole list is read. It stops at the first key that isn't less
+    /// than the next: where this is at place k, it compares at most k + 2 times.
     #[inline(always)]
     pub fn read_counted<C: Counter>(
         src: &mut Source<'a>,
@@ -79,6 +84,12 @@ impl<'a> SetView<'a> {
         ensures stays { OnErr result (src.new ≡ src.old) }
         ensures cost { (most : ℕ) → ((n : ℕ) → Within range n → n ≤ most)
             → C.counted counter.new ≤ C.counted counter.old + most }
+        ensures cost_stated { (n : ℕ) → StatesLength (rest_of src.old) n
+            → C.counted counter.new ≤ C.counted counter.old + n }
+        ensures cost_unread { (fault : Fault) → list_fault size range (rest_of src.old) fault
+            → C.counted counter.new ≡ C.counted counter.old }
+        ensures stops { (k : ℕ) → IsOutOfOrderAt size range (rest_of src.old) k
+            → C.counted counter.new ≤ C.counted counter.old + k + 2 }
     {
         next_keys(src, size, range, counter)
     }
@@ -176,6 +187,12 @@ fn next_keys<'a, C: Counter>(
     ensures stays { OnErr result (src.new ≡ src.old) }
     ensures cost { (most : ℕ) → ((n : ℕ) → Within range n → n ≤ most)
         → C.counted counter.new ≤ C.counted counter.old + most }
+    ensures cost_stated { (n : ℕ) → StatesLength (rest_of src.old) n
+        → C.counted counter.new ≤ C.counted counter.old + n }
+    ensures cost_unread { (fault : Fault) → list_fault size range (rest_of src.old) fault
+        → C.counted counter.new ≡ C.counted counter.old }
+    ensures stops { (k : ℕ) → IsOutOfOrderAt size range (rest_of src.old) k
+        → C.counted counter.new ≤ C.counted counter.old + k + 2 }
 {
     let mut here = *src;
     let keys = ListView::read(&mut here, size, range)?;

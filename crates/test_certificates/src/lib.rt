@@ -9,6 +9,8 @@ mod certificates;
 #[cfg(test)]
 mod certificates_in_place;
 #[cfg(test)]
+mod certified;
+#[cfg(test)]
 mod conflicts;
 #[cfg(test)]
 mod large_calls;

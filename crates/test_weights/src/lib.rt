@@ -4,6 +4,8 @@
 #![tactic(auto)]
 
 #[cfg(test)]
+mod certified;
+#[cfg(test)]
 mod clones;
 #[cfg(test)]
 mod conflicts;

@@ -1,5 +1,5 @@
 //! Module `ordered`: the powers of the members, and whose each key is.
-ghost use Rattle.std.specs.Prelude.{◌≡◌, ◌==◌, ◌↔◌, ℕ, [], IsOk, IsSomeAnd, MatchResult, true};
+ghost use Rattle.std.specs.Prelude.{◌≡◌, ◌==◌, ◌↔◌, ◌≤◌, ℕ, [], IsOk, IsSomeAnd, MatchResult, length, true};
 ghost use Rattle.std.specs.Map.{lookup, values_of};
 ghost use Rattle.commonware_utils.specs.Ordered.{HasEqualItems, MatchError};
 ghost use Rattle.commonware_utils.specs.Ordered.{IsWholeBiMap, IsWholeSetOfClones, on_both, on_keys};
@@ -26,7 +26,7 @@ pub fn registry(members: Vec<(u32, u64)>) -> Result<BiMap<u32, u64, Global>, Err
 pub fn registry_of(keys: Map<u32, u64, Global>) -> Result<BiMap<u32, u64, Global>, Error>
     ensures whole { MatchResult result
         (λ b. (b ≡ keys) × (¬ HasEqualItems ◌==◌ (values_of keys)))
-        (λ error. MatchError error ⊥ (HasEqualItems ◌==◌ (values_of keys))) }
+        (λ error. MatchError error ⊥ (HasEqualItems ◌==◌ (values_of keys)) (1 ≤ length keys)) }
     ensures empty { keys ≡ [] → IsOk result }
 {
     BiMap::try_from_map(keys)

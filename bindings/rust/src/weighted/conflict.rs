@@ -114,8 +114,8 @@ impl Error for WeightedConflictError {
 /// weigh at least (k - 2)f + 1; where its k is 3 or more, at least one of them is outside every
 /// subset that weighs at most f.
 ///
-/// To sign two values is a fault only where both are for one slot (a height and a view, say):
-/// honest members sign many values, one a slot.
+/// To sign two values is a fault only where both are for one slot (chain, committee, height, round
+/// and kind of vote, say): honest members sign many values, at most one a slot.
 ///
 /// The library goes over both encodings again, in place, and over both twice where it names more
 /// than 128; the memory is that of the indices.

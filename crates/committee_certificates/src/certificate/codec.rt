@@ -11,6 +11,7 @@ ghost use Rattle.commonware_ordered.specs.Costs.{IsOrderCost};
 ghost use Rattle.committee_certificates.specs.Certificates.{are_equal_parts, certificate_enc, parts};
 ghost use Rattle.committee_certificates.specs.Certificates.{CertificateFault, IsAllowedCertificate};
 ghost use Rattle.committee_certificates.specs.Certificates.{IsCertificateMemoryFree, IsWritableCertificate};
+ghost use Rattle.committee_certificates.specs.ReadCosts.{IsCertificateReadCost, StatesSigners};
 ghost use Rattle.committee_certificates.specs.laws.CertificateLaws.{certificate_bytes, certificate_laws};
 ghost use Rattle.committee_certificates.specs.laws.CertificateLaws.{certificate_canonical, certificate_of};
 ghost use Rattle.committee_certificates.specs.laws.CertificateLaws.{certificate_prefix_free};
@@ -78,7 +79,8 @@ impl<A: Allocator + Copy> Read<A> for Certificate<A> {
 
 /// Decodes a certificate under a range for the length of its value and one for the number of its
 /// signers, as `Certificate::read_cfg` does, and counts the comparisons of two signers: whatever
-/// the input, none, or fewer than the most signers that the range allows.
+/// the input, none, or fewer than the signers that it states and than the most that the range
+/// allows; and none after the first that isn't less than the next.
 pub fn read_certificate_counted<A: Allocator + Copy, C: Counter>(
     alloc: A,
     src: &mut Source<'_>,
@@ -98,6 +100,10 @@ pub fn read_certificate_counted<A: Allocator + Copy, C: Counter>(
         → IsOrderCost most (C.counted count.old) (C.counted count.new) }
     ensures cost_ok { IfOk result (λ c.
         IsOrderCost (length c.signers) (C.counted count.old) (C.counted count.new)) }
+    ensures stops { IsCertificateReadCost (rest_of src.old)
+        (C.counted count.old) (C.counted count.new) }
+    ensures stated { (n : ℕ) → StatesSigners (rest_of src.old) n
+        → IsOrderCost n (C.counted count.old) (C.counted count.new) }
 {
     let mut here = *src;
     let value = read_list::<u8, A>(alloc, &mut here, value_range, &())?;

@@ -14,6 +14,15 @@ pub each_allowed : {T : Type 0} (xs : List T) → AllByRecursion (λ (_ : T). Un
 each_allowed [] = tt
 each_allowed (x ∷ xs) = (tt, each_allowed xs)
 
+-- items of one size have as many bytes as that size times their number
+pub items_bytes : {T : Type 0} (enc : T → List ℕ) (Writable : T → Type 0) (size : ℕ)
+    (sized : (v : T) → Writable v → length (enc v) ≡ size) (xs : List T) → AllByRecursion Writable xs
+    → length (flat_map enc xs) ≡ length xs * size
+items_bytes enc Writable size sized [] h = omega arith
+items_bytes enc Writable size sized (x ∷ xs) h =
+    let more = items_bytes enc Writable size sized xs h.1 in
+    omega (arith, length-append (enc x) (flat_map enc xs), sized x h.0, more, suc-mul (length xs) size)
+
 -- Each item has `size` bytes, and its one fault is that fewer are left.
 module _ {T : Type 0} (enc : T → List ℕ) (Writable : T → Type 0) (item_fault : List ℕ → Fault → Type 0) (size : ℕ)
     (sized : (v : T) → Writable v → length (enc v) ≡ size)

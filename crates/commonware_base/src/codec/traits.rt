@@ -1,5 +1,5 @@
 //! Types that have an encoding: how values are encoded and decoded, and the laws.
-ghost use Rattle.std.specs.Prelude.{◌≡◌, ℕ, ◌<◌, ◌≤◌, ◌^◌, ◌↔◌, ◌++◌, List, length, IsTrue, OnOk, OnErr, IfOk, IfErr, IfSome, IfNone};
+ghost use Rattle.std.specs.Prelude.{◌≡◌, ℕ, ◌<◌, ◌≤◌, ◌^◌, ◌↔◌, ◌++◌, [], List, length, IsTrue, IsOk, OnOk, OnErr, IfOk, IfErr, IfSome, IfNone};
 ghost use Rattle.std.specs.List.{AllByRecursion, flat_map};
 ghost use Rattle.commonware_base.specs.Fault.{Fault};
 ghost use Rattle.commonware_base.specs.Lists.{ItemsFault, IsItemsMemoryFree};
@@ -51,7 +51,7 @@ pub trait Write<A: Allocator>: EncodeSize {
     /// Appends the encodings of the items, one after another, and returns `Some`; each has to be
     /// writable. After an allocation failure the sink is as it was. A type without a body of its
     /// own does nothing and returns `None`: then a caller writes the items one by one by `write`,
-    /// as the writer of lists does.
+    /// as the writer of lists does. Where there are no bytes to append, no allocation fails.
     ///
     /// The bodies that there are, as of `u8` and `u32`, reserve room once and write all items.
     #[inline(always)]
@@ -64,6 +64,8 @@ pub trait Write<A: Allocator>: EncodeSize {
         ensures err { IfSome result (λ written. OnErr written
             (sink.new.items ≡ sink.old.items)) }
         ensures none { IfNone result (sink.new.items ≡ sink.old.items) }
+        ensures nothing { flat_map Self.enc items.now ≡ []
+            → IfSome result (λ written. IsOk written) }
     {
         // They are named so that no parameter is unused: only the contract speaks of them.
         let _ = (items.len(), sink.len());

@@ -20,7 +20,7 @@ impl<K: Ord, V, A: Allocator> Map<K, V, A> {
     /// ```
     pub fn get_value_mut(&mut self, key: &K) -> Option<&mut V>
         ensures* writes_back { sem 𝓛 (BorrowsValueOf K.row V.row A.row
-            K.cmp K.eq K.partial_cmp A.Allocator self.entry (λ k. K.eq k key.now) result) }
+            K.cmp K.eq A.Allocator self.entry (λ k. K.eq k key.now) result) }
         ensures value { option_copied_mut result ≡ lookup (λ k. K.eq k key.now) self.old }
     {
         match self.position(key) {
@@ -37,7 +37,7 @@ impl<K: Ord, V, A: Allocator> Map<K, V, A> {
     /// ```
     pub fn values_mut(&mut self) -> &mut [V]
         ensures* writes_back { sem 𝓛 (BorrowsValues K.row V.row A.row
-            K.cmp K.eq K.partial_cmp A.Allocator self.entry result) }
+            K.cmp K.eq A.Allocator self.entry result) }
         ensures value { result.now ≡ values_of self.old }
     {
         self.values.as_mut_slice()
@@ -48,7 +48,7 @@ impl<K: Ord, V, A: Allocator> Map<K, V, A> {
     fn value_mut(&mut self, index: usize) -> &mut V
         requires { index < length self.old }
         ensures* writes_back { sem 𝓛 (BorrowsValueAt K.row V.row A.row
-            K.cmp K.eq K.partial_cmp A.Allocator self.entry index result) }
+            K.cmp K.eq A.Allocator self.entry index result) }
         ensures value { result.now ≡ slice_index_or (values_of self.old) index result.now }
     {
         &mut self.values[index]

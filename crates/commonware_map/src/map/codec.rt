@@ -12,7 +12,7 @@ ghost use Rattle.commonware_base.specs.Source.{rest_of, Consumes};
 ghost use Rattle.commonware_base.specs.Text.{Accepts};
 ghost use Rattle.commonware_map.specs.laws.MapLaws.{map_bytes, map_canonical, map_laws, map_prefix_free};
 ghost use Rattle.commonware_map.specs.Maps.{map_enc, map_size_bound, IsAllowedMap, IsWritableMap, MapFault};
-ghost use Rattle.commonware_ordered.specs.Costs.{IsOrderCost};
+ghost use Rattle.commonware_ordered.specs.Costs.{IsOrderCost, IsReadCost, StatesLength};
 ghost use Rattle.commonware_ordered.specs.Sets.{IsWritableSet};
 
 use super::Map;
@@ -20,7 +20,7 @@ use crate::values::read_values;
 use commonware_base::codec::{
     Canonical, EncodeSize, Error, MaxEncodeSize, RangeCfg, Read, Source, UInt, Write,
 };
-use commonware_ordered::{Counter, Set, Uncounted, read_set_counted};
+use commonware_ordered::{CountedOrd, Counter, Set, Uncounted, read_set_counted};
 use std::alloc::{AllocError, Allocator};
 
 impl<K: Ord + EncodeSize, V: EncodeSize, A: Allocator> EncodeSize for Map<K, V, A> {
@@ -81,9 +81,10 @@ impl<K: Ord + Canonical + Read<A> + Drop, V: Read<A> + Drop, A: Allocator + Copy
 
 /// Decodes a map under a range for its length and a configuration each for its keys and values, as
 /// `Map::read_cfg` does, and counts its comparisons of keys: whatever the input, none, or fewer
-/// than the most pairs that the range allows.
+/// than the length that the input states and than the most pairs that the range allows; and none
+/// after the first key that isn't less than the next.
 pub fn read_map_counted<
-    K: Ord + Canonical + Read<A> + Drop,
+    K: CountedOrd<C> + Read<A> + Drop,
     V: Read<A> + Drop,
     A: Allocator + Copy,
     C: Counter,
@@ -96,12 +97,12 @@ pub fn read_map_counted<
     count: &mut C,
 ) -> Result<Map<K, V, A>, Error>
     ensures accepted { IfOk result (λ m. Accepts (map_enc K.enc V.enc)
-        (IsWritableMap K.writable K.cmp V.writable)
+        (IsWritableMap K.writable K.order V.writable)
         (IsAllowedMap range (K.allowed key.now) (V.allowed value.now))
         (rest_of src.old) m (rest_of src.new)) }
     ensures consumed { IfOk result (λ m. Consumes src.old src.new (map_enc K.enc V.enc m)) }
     ensures refused { let text = rest_of src.old in IfErr result (Refuses
-        (MapFault K.enc K.writable K.cmp (K.allowed key.now) (K.fault key.now)
+        (MapFault K.enc K.writable K.order (K.allowed key.now) (K.fault key.now)
         V.enc V.writable (V.allowed value.now) (V.fault value.now) range text)
         (IsListMemoryFree (K.fault key.now) (K.memory_free key.now) range text)) }
     ensures stays { OnErr result (src.new ≡ src.old) }
@@ -109,6 +110,10 @@ pub fn read_map_counted<
         → IsOrderCost most (C.counted count.old) (C.counted count.new) }
     ensures cost_ok { IfOk result (λ m.
         IsOrderCost (length m) (C.counted count.old) (C.counted count.new)) }
+    ensures stops { IsReadCost K.enc K.order (rest_of src.old)
+        (C.counted count.old) (C.counted count.new) }
+    ensures stated { (n : ℕ) → StatesLength (rest_of src.old) n
+        → IsOrderCost n (C.counted count.old) (C.counted count.new) }
 {
     let mut here = *src;
     let keys = read_set_counted::<K, A, C>(alloc, &mut here, range, key, count)?;

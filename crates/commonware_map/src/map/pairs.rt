@@ -5,9 +5,10 @@ ghost use Rattle.commonware_map.specs.Pairs.{ShowsPairsOf};
 
 use super::Map;
 use crate::iterators::Pairs;
+use commonware_ordered::Order;
 use std::alloc::Allocator;
 
-impl<K: Ord, V, A: Allocator> Map<K, V, A> {
+impl<K: Order, V, A: Allocator> Map<K, V, A> {
     /// Returns the pairs in the order of their keys, from both ends, with the exact number left.
     /// ```
     /// let map = Map::try_from_array(alloc, [(2u8, 20u8), (1, 10)])?;

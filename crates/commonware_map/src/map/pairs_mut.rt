@@ -20,7 +20,7 @@ impl<K: Ord, V, A: Allocator> Map<K, V, A> {
     /// ```
     pub fn iter_pairs_mut(&mut self) -> PairsMut<'_, K, V>
         ensures* writes_back { sem 𝓛 (BorrowsValuesTo K.row V.row A.row
-            K.cmp K.eq K.partial_cmp A.Allocator self.entry (pairs_mut_name result)) }
+            K.cmp K.eq A.Allocator self.entry (pairs_mut_name result)) }
         ensures ready { CanStep result }
         ensures pairs { pairs_mut_left result ≡ self.old }
         ensures bound { length self.old < 2 ^ 64 }

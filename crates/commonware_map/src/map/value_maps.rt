@@ -1,5 +1,5 @@
 //! Maps with the same keys, whose values a closure makes.
-ghost use Rattle.std.specs.Prelude.{◌≡◌, IfErr, IfOk};
+ghost use Rattle.std.specs.Prelude.{◌≡◌, ◌≤◌, IfErr, IfOk, OnErr, length};
 ghost use Rattle.std.specs.List.{AllZip};
 ghost use Rattle.std.specs.Map.{keys_of, values_of};
 ghost use Rattle.commonware_base.specs.Calls.{CallableAlong, CallsGiveAll};
@@ -28,7 +28,11 @@ impl<K: Ord + EqClone, V, A: Allocator + Copy> Map<K, V, A> {
         ensures keys { IfOk result (λ m. AllZip K.is_clone (keys_of self.now) (keys_of m)) }
         ensures values { IfOk result (λ m.
             CallsGiveAll (CalledAtRefs F.FnMut) f self.now (values_of m)) }
+        ensures nothing { OnErr result (1 ≤ length self.now) }
     {
+        if self.is_empty() {
+            return Ok(Map::empty(*self.values.allocator()));
+        }
         let mut answers = Vec::with_capacity(*self.values.allocator(), self.len())?;
         for (key, value) in self.iter_pairs() {
             answers.push_reserved(f(key, value));
@@ -56,7 +60,11 @@ impl<K: Ord + EqClone, V, A: Allocator + Copy> Map<K, V, A> {
             CallsGiveAll (Succeeds (CalledAtRefs F.FnMut)) f self.now (values_of m)) }
         ensures error { IfErr result (λ e.
             IfClosure e (IsFirstError (CalledAtRefs F.FnMut) f self.now)) }
+        ensures nothing { OnErr result (1 ≤ length self.now) }
     {
+        if self.is_empty() {
+            return Ok(Map::empty(*self.values.allocator()));
+        }
         let mut tried = Vec::with_capacity(*self.values.allocator(), self.len())?;
         for (key, value) in self.iter_pairs() {
             match f(key, value) {
@@ -85,6 +93,7 @@ impl<K: Ord + Drop, V: Drop, A: Allocator + Copy> Map<K, V, A> {
         ensures keys { IfOk result (λ m. keys_of m ≡ keys_of self) }
         ensures values { IfOk result (λ m.
             CallsGiveAll (CalledAtPair F.FnMut) f self (values_of m)) }
+        ensures nothing { OnErr result (1 ≤ length self) }
     {
         let (keys, values) = self.into_columns();
         let mapped = called_values(keys.as_slice(), values, f)?;
@@ -109,6 +118,7 @@ impl<K: Ord + Drop, V: Drop, A: Allocator + Copy> Map<K, V, A> {
             CallsGiveAll (Succeeds (CalledAtPair F.FnMut)) f self (values_of m)) }
         ensures error { IfErr result (λ e.
             IfClosure e (IsFirstError (CalledAtPair F.FnMut) f self)) }
+        ensures nothing { OnErr result (1 ≤ length self) }
     {
         let mut collected = Vec::with_capacity(*self.values.allocator(), self.len())?;
         let (keys, values) = self.into_columns();

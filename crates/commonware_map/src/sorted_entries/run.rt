@@ -1,5 +1,5 @@
 //! Pairs whose keys are strictly increasing as they come.
-ghost use Rattle.std.specs.Prelude.{◌≡◌, ◌++◌, ◌∷◌, [], IfOk, IsOk, OnErr, OnOk, true};
+ghost use Rattle.std.specs.Prelude.{◌≡◌, ◌≤◌, ◌++◌, ◌∷◌, [], IfOk, IsOk, OnErr, OnOk, true};
 ghost use Rattle.std.specs.List.{AllByRecursion, list_any};
 ghost use Rattle.std.specs.List.Sorted.{IsStrictlySortedBy};
 ghost use Rattle.std.specs.Map.{keys_of, values_of};
@@ -71,10 +71,23 @@ impl<K: Ord + Drop, V: Drop, A: Allocator + Copy> Run<K, V, A> {
 
     /// Reserves room for `more` pairs.
     pub(super) fn reserve(&mut self, more: usize) -> Result<(), AllocError>
-        ensures { self.new ≡ self.old }
+        ensures same { self.new ≡ self.old }
+        ensures nothing { OnErr result (1 ≤ more) }
     {
         self.keys.reserve(more)?;
         self.values.reserve(more)
+    }
+
+    /// Reserves room for exactly `coming` pairs, where there is none yet.
+    #[inline(always)]
+    pub(super) fn reserve_first(&mut self, coming: usize) -> Result<(), AllocError>
+        ensures { self.new ≡ self.old }
+    {
+        if self.keys.is_empty() {
+            self.keys.reserve_exact(coming)?;
+            self.values.reserve_exact(coming)?;
+        }
+        Ok(())
     }
 
     /// Appends a pair, whose key is greater than all.

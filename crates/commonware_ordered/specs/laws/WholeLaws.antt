@@ -1,6 +1,6 @@
 -- What was drawn of an iterator in order is in the list that it had left. So at such an iterator the builders return
 -- what they return for that list, however far they read.
-use Rattle.std.specs.Prelude.{◌≡◌, ◌<◌, ℕ, Bool, Err, IfErr, IfOk, IfSome, List, Ok, Option, Result, Some, length}
+use Rattle.std.specs.Prelude.{◌≡◌, ◌<◌, ◌≤◌, ℕ, Bool, Err, IfErr, IfOk, IfSome, List, Ok, Option, Result, Some, length}
 use Rattle.std.specs.Prelude.{slice_get, slice_index_or, true}
 use Rattle.std.specs.Iterator.{Drains, DrainsIf}
 use Rattle.std.specs.Iterator.Runs.{Run, Trigger, YieldsInOrder, YieldsRun}
@@ -35,6 +35,12 @@ module _ {S A : Type 0} {steps : S → Option A → S → Type 0} (rest : S → 
   unfolding Trigger run_of
   whole_list s xs d = (in_order (run_of s xs true (d.1.0, d.1.1, λ _. (d.0, d.1.2))) tt).4 refl
 
+  -- no more items were drawn than are in that list
+  pub drawn_within : (s : S) (xs : List A) (ended : Bool) → DrainsIf steps (ended ≡ true) s xs
+      → length xs ≤ length (rest s)
+  unfolding Trigger run_of
+  drawn_within s xs ended d = (in_order (run_of s xs ended d) tt).0
+
   -- each item that was drawn is at its place in that list
   pub drawn_stays : (s : S) (xs : List A) (ended : Bool) → DrainsIf steps (ended ≡ true) s xs → (k : ℕ) (x : A)
       → slice_get xs k ≡ Some x → slice_get (rest s) k ≡ Some x
@@ -63,4 +69,6 @@ whole_set_of_list rest becomes given l eq cmp (Ok set) (s, xs, made, drained, wh
 whole_set_of_list rest becomes given l eq cmp (Err DuplicateKey) ok (s, made, (xs, ended, drawn, twice)) known =
     let k = known s made in subst (HasEqualItems eq) k.0 (equal_items_stay rest k.1 eq s xs ended drawn twice)
 whole_set_of_list rest becomes given l eq cmp (Err DuplicateValue) ok (s, made, (xs, ended, drawn, never)) known = never
-whole_set_of_list rest becomes given l eq cmp (Err Memory) ok refused known = tt
+whole_set_of_list rest becomes given l eq cmp (Err Memory) ok (s, made, (xs, ended, drawn, some)) known =
+    let k = known s made in
+    subst (λ ys. 1 ≤ length ys) k.0 (omega (arith, some, drawn_within rest k.1 s xs ended drawn))

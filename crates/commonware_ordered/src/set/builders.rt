@@ -1,24 +1,24 @@
 //! Builders of sets: of equal items the first stays, or equal items are refused.
-ghost use Rattle.std.specs.Prelude.{IfOk, IsOk};
+ghost use Rattle.std.specs.Prelude.{◌≤◌, IfOk, IsOk, OnErr, length};
 ghost use Rattle.std.specs.Iterator.{IsFiniteIterable};
-ghost use Rattle.commonware_base.specs.Taken.{IsMadeOf};
+ghost use Rattle.commonware_base.specs.Taken.{IsMadeOf, TakesSome};
 ghost use Rattle.commonware_ordered.specs.Dedup.{EqualsSameItems, IsDedup};
 ghost use Rattle.commonware_ordered.specs.Strict.{IsStrict};
 ghost use Rattle.commonware_ordered.specs.Whole.{IsRefusedFor, IsSetOfAll, IsWholeSet, IsWholeSetOfClones};
 
-use super::{Set, are_strict};
+use super::Set;
 use crate::Error;
 use crate::counter::Uncounted;
-use crate::hidden::Hidden;
-use crate::kept::{all_kept, keep, room};
-use commonware_base::{EqClone, TryFromIterator};
+use crate::kept::{all_kept, keep};
+use crate::order::are_strict;
+use commonware_base::{EqClone, TryFromIterator, clones_of};
 use std::alloc::{AllocError, Allocator};
 use std::collections::BTreeSet;
 
 impl<T: Ord + Drop, A: Allocator + Copy> Set<T, A> {
     /// Returns the set of the items that an iterator gives, where of equal items the first stays.
-    /// The only error is an allocation failure; it allocates for the distinct items. It takes O(n
-    /// log n) comparisons.
+    /// The only error is an allocation failure, which comes only after an item; it allocates for
+    /// the distinct items. It takes O(n log n) comparisons.
     /// ```
     /// let set = Set::from_iter_dedup(alloc, [5u8, 1, 3, 1])?;
     /// assert!(rt; set.as_slice() == [1u8, 3, 5].as_slice());
@@ -26,14 +26,17 @@ impl<T: Ord + Drop, A: Allocator + Copy> Set<T, A> {
     pub fn from_iter_dedup<I: IntoIterator<Item = T>>(alloc: A, iter: I) -> Result<Self, AllocError>
         requires { IsFiniteIterable I.into_iter_gives I.IntoIter.can_next
             I.IntoIter.remaining iter }
-        ensures { IfOk result (IsMadeOf I.into_iter_gives I.IntoIter.next_gives iter
+        ensures dedup { IfOk result (IsMadeOf I.into_iter_gives I.IntoIter.next_gives iter
             (λ xs s. IsDedup T.eq T.cmp xs s × EqualsSameItems T.eq T.cmp xs s)) }
+        ensures nothing { OnErr result (TakesSome I.into_iter_gives I.IntoIter.next_gives iter
+            (λ drawn _. 1 ≤ length drawn)) }
     {
         let rest = iter.into_iter();
-        let mut run = room(alloc, rest.size_hint().0)?;
+        let coming = rest.size_hint().0;
+        let mut run = Vec::new(alloc);
         let mut tree = BTreeSet::new(alloc);
         for item in rest {
-            let (more, _) = keep(run, &mut tree, item)?;
+            let (more, _) = keep(run, &mut tree, item, coming)?;
             run = more;
         }
         let items = all_kept(run, tree)?;
@@ -51,7 +54,7 @@ impl<T: Ord + Drop, A: Allocator + Copy> Set<T, A> {
         ensures whole { IsWholeSet T.eq T.cmp vec.items result }
         ensures strict { IsStrict T.cmp vec.items → IsOk result }
     {
-        if are_strict(&Hidden::new(vec.as_slice()), &mut Uncounted) {
+        if are_strict(vec.as_slice(), &mut Uncounted) {
             return Ok(Set { items: vec });
         }
         let alloc = *vec.allocator();
@@ -70,10 +73,11 @@ impl<T: Ord + Drop, A: Allocator + Copy> TryFromIterator<T, A> for Set<T, A> {
     /// equal: none is drawn after the first repeat. It takes O(n log n) comparisons.
     fn try_from_iter<I: IntoIterator<Item = T>>(alloc: A, iter: I) -> Result<Self, Error> {
         let rest = iter.into_iter();
-        let mut run = room(alloc, rest.size_hint().0)?;
+        let coming = rest.size_hint().0;
+        let mut run = Vec::new(alloc);
         let mut tree = BTreeSet::new(alloc);
         for item in rest {
-            let (more, new) = keep(run, &mut tree, item)?;
+            let (more, new) = keep(run, &mut tree, item, coming)?;
             if !new {
                 return Err(Error::DuplicateKey);
             }
@@ -94,7 +98,7 @@ impl<T: Ord + EqClone, A: Allocator + Copy> Set<T, A> {
     pub fn try_from_slice(alloc: A, items: &[T]) -> Result<Self, Error>
         ensures { IsWholeSetOfClones T.eq T.cmp T.is_clone items.now result }
     {
-        Set::try_from_vec(Vec::from_clones(alloc, items)?)
+        Set::try_from_vec(clones_of(alloc, items)?)
     }
 
     /// Returns the set of clones of all the items, or `DuplicateKey` where two of them are equal.

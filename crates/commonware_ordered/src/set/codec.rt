@@ -7,13 +7,13 @@ ghost use Rattle.commonware_base.specs.Range.{Within};
 ghost use Rattle.commonware_base.specs.Refusal.{Refuses};
 ghost use Rattle.commonware_base.specs.Source.{rest_of, Consumes};
 ghost use Rattle.commonware_base.specs.Varint.{varint_size};
-ghost use Rattle.commonware_ordered.specs.Costs.{IsOrderCost};
+ghost use Rattle.commonware_ordered.specs.Costs.{IsOrderCost, IsReadCost, StatesLength};
 ghost use Rattle.commonware_ordered.specs.Sets.{IsWritableSet, SetFault, set_case};
 ghost use Rattle.commonware_ordered.specs.laws.SetLaws.{set_prefix_free, set_laws, set_canonical};
 
-use super::{Set, are_strict};
+use super::Set;
+use crate::counted::CountedOrd;
 use crate::counter::{Counter, Uncounted};
-use crate::hidden::Hidden;
 use commonware_base::codec::{
     Canonical, EncodeSize, Error, MaxEncodeSize, RangeCfg, Read, Source, UInt, Write, read_list,
 };
@@ -103,9 +103,10 @@ pub fn set_fault_law<T: Ord + Canonical + Read<A>, A: Allocator>(
 /// Decodes a set under a range for its length and a configuration for its items. The order is
 /// checked once the whole list is read, so a fault of a later item comes before that of the order.
 ///
-/// It counts its comparisons of items: whatever the input, none, or fewer than the most items that
-/// the range allows; and none where the input doesn't begin with such a list.
-pub fn read_set_counted<T: Ord + Canonical + Read<A> + Drop, A: Allocator + Copy, C: Counter>(
+/// It counts its comparisons of items: whatever the input, none, or fewer than the length that the
+/// input states and than the most items that the range allows; none where the input doesn't begin
+/// with such a list; and none after the first item that isn't less than the next.
+pub fn read_set_counted<T: CountedOrd<C> + Read<A> + Drop, A: Allocator + Copy, C: Counter>(
     alloc: A,
     src: &mut Source<'_>,
     range: RangeCfg<usize>,
@@ -113,22 +114,26 @@ pub fn read_set_counted<T: Ord + Canonical + Read<A> + Drop, A: Allocator + Copy
     count: &mut C,
 ) -> Result<Set<T, A>, Error>
     ensures consumed { IfOk result (λ v. Consumes src.old src.new (list_enc T.enc v)) }
-    ensures writable { IfOk result (IsWritableSet T.writable T.cmp) }
+    ensures writable { IfOk result (IsWritableSet T.writable T.order) }
     ensures allowed { IfOk result (IsAllowedList range (T.allowed item.now)) }
     ensures refused { let text = rest_of src.old in IfErr result (Refuses
-        (SetFault T.enc T.writable T.cmp (T.allowed item.now) (T.fault item.now) range text)
+        (SetFault T.enc T.writable T.order (T.allowed item.now) (T.fault item.now) range text)
         (IsListMemoryFree (T.fault item.now) (T.memory_free item.now) range text)) }
     ensures stays { OnErr result (src.new ≡ src.old) }
     ensures cost { (most : ℕ) → ((n : ℕ) → Within range n → n ≤ most)
         → IsOrderCost most (C.counted count.old) (C.counted count.new) }
     ensures cost_ok { IfOk result (λ v.
         IsOrderCost (length v) (C.counted count.old) (C.counted count.new)) }
+    ensures stops { IsReadCost T.enc T.order (rest_of src.old)
+        (C.counted count.old) (C.counted count.new) }
+    ensures stated { (n : ℕ) → StatesLength (rest_of src.old) n
+        → IsOrderCost n (C.counted count.old) (C.counted count.new) }
 {
     let mut here = *src;
     let items = read_list::<T, A>(alloc, &mut here, range, item)?;
-    if !are_strict(&Hidden::new(items.as_slice()), count) {
+    let Some(set) = Set::checked(items, count) else {
         return Err(Error::Invalid("Set", "items must be sorted and unique"));
-    }
+    };
     *src = here;
-    Ok(Set { items })
+    Ok(set)
 }

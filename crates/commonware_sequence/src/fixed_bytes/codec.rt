@@ -1,5 +1,5 @@
 //! The encoding of bytes of one length, which is these bytes.
-ghost use Rattle.std.specs.Prelude.{◌≤◌, length};
+ghost use Rattle.std.specs.Prelude.{◌≡◌, ◌≤◌, ◌++◌, IsOk, OnErr, OnOk, length};
 ghost use Rattle.commonware_base.specs.Source.{rest_of, Consumes};
 ghost use Rattle.commonware_sequence.specs.laws.FixedBytesLaws.{fixed_canonical, fixed_laws, fixed_length, fixed_prefix_free};
 ghost use Rattle.commonware_sequence.specs.FixedBytes.{IsOfSize, own_bytes, size_fault};
@@ -30,7 +30,13 @@ impl<const N: usize> EncodeSize for FixedBytes<N> {
 }
 
 impl<A: Allocator, const N: usize> Write<A> for FixedBytes<N> {
-    fn write(&self, sink: &mut Vec<u8, A>) -> Result<(), AllocError> {
+    /// Appends the bytes. After an allocation failure the sink is as it was; no bytes at all are
+    /// appended without one.
+    fn write(&self, sink: &mut Vec<u8, A>) -> Result<(), AllocError>
+        ensures ok { OnOk result (sink.new.items ≡ sink.old.items ++ own_bytes self.now) }
+        ensures err { OnErr result (sink.new.items ≡ sink.old.items) }
+        ensures nothing { N ≡ 0 → IsOk result }
+    {
         sink.extend_from_slice(&self.0)
     }
 

@@ -5,7 +5,7 @@ use Rattle.commonware_c.proofs.conflicts.lacking.Goals.{then-count-places-via-th
 use Rattle.commonware_c.proofs.conflicts.lacking.Goals.{then-count-places-via-else-count-places+then-count-places-2}
 
 pub returns-then-count-places-clause-none : goal.returns-then-count-places-clause-none
-returns-then-count-places-clause-none c = λ one two both first second in_both. elim c.then-count-places.branch [
+returns-then-count-places-clause-none g c = λ one two both first second in_both. elim c.then-count-places.branch [
   | then-count-places-via-then-count-places w ↦
       omega (arith, w.if-count-places.true, c.count.ensures.count one first, fewer_than_first one two both in_both)
   | then-count-places-via-else-count-places+then-count-places-2 w ↦
@@ -18,11 +18,11 @@ returns-then-count-places-clause-none c = λ one two both first second in_both. 
 ]
 
 pub returns-then-count-places-3-clause-none : goal.returns-then-count-places-3-clause-none
-returns-then-count-places-3-clause-none c = λ one two both first second in_both.
-    let w = c.write_both-count.ensures one two first second in
+returns-then-count-places-3-clause-none g c = λ one two both first second in_both.
+    let w = c.write_both_counted-count.ensures.both one two first second in
     omega (arith, not_more_than one two both in_both w.both w.in_both, w.count_is, c.if-count-places-3.true)
 
 pub returns-else-count-places-3-clause-some : goal.returns-else-count-places-3-clause-some
-returns-else-count-places-3-clause-some c = λ one two first second.
-    let w = c.write_both-count.ensures one two first second in
+returns-else-count-places-3-clause-some g c = λ one two first second.
+    let w = c.write_both_counted-count.ensures.both one two first second in
     (w.both, w.in_both, w.count_is, omega (arith, c.if-count-places-3.false))

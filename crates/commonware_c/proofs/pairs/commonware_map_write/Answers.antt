@@ -1,5 +1,6 @@
 use Rattle.std.proofs.Common.{◌+◌, arith}
 use Rattle.commonware_views.specs.laws.ItemLaws.{none_left_over}
+use Rattle.commonware_c.proofs.Made.{no_items}
 use Rattle.commonware_c.proofs.pairs.commonware_map_write.Goals as goal
 
 pub returns-in-Ok-clause-not_whole : goal.returns-in-Ok-clause-not_whole
@@ -8,3 +9,7 @@ returns-in-Ok-clause-not_whole c =
       (λ e. absurd (omega (arith, e, (c.write_rows.ensures.else_memory (λ ok. omega (arith, e, ok)) (λ ok. omega (arith, e, ok)) (λ ok. omega (arith, e, ok))).0))),
       (λ w. absurd (w.1 whole)),
     )
+
+pub returns-in-Ok-clause-nothing : goal.returns-in-Ok-clause-nothing
+returns-in-Ok-clause-nothing c = λ none.
+    c.write_rows.ensures.nothing (no_items (c.args.key_size + c.args.value_size) (λ zero. c.if-key_size-eq0.false (omega (arith, zero))) c.args.pairs.now c.in-Ok.rows c.in-Ok.ensures.rows none)

@@ -1,6 +1,7 @@
 use Rattle.std.proofs.Common.{◌+◌, ◌↔◌, ◌≡◌, ℕ, arith, subst}
 use Rattle.commonware_views.specs.laws.ItemLaws.{none_left_over, one_reading}
 use Rattle.commonware_c.specs.Pairs.{RepeatsKey}
+use Rattle.commonware_c.proofs.Made.{no_items}
 use Rattle.commonware_c.proofs.unique.commonware_map_write_unique.Goals as goal
 
 pub returns-in-Ok-clause-exactly : goal.returns-in-Ok-clause-exactly
@@ -24,3 +25,7 @@ pub returns-in-Err-clause-exactly : goal.returns-in-Err-clause-exactly
 returns-in-Err-clause-exactly c = λ some enough rows are.
     let whole = none_left_over (c.args.key_size + c.args.value_size) c.args.pairs.now rows are in
     absurd (omega (arith, whole, c.in-Err.ensures.left_over))
+
+pub returns-in-Ok-clause-nothing : goal.returns-in-Ok-clause-nothing
+returns-in-Ok-clause-nothing c = λ none.
+    c.write_all_rows.ensures.nothing (no_items (c.args.key_size + c.args.value_size) (λ zero. c.if-key_size-eq0.false (omega (arith, zero))) c.args.pairs.now c.in-Ok.rows c.in-Ok.ensures.rows none)

@@ -10,24 +10,24 @@ abbrev IsMade : ℕ → List (List ℕ) → Result (List (Bor (List ℕ) × Bor 
 IsMade ks rows made = MatchResult made (λ pairs. AreAllPairs ks rows (referred pairs)) (IsFirstRepeatedKey ks rows)
 
 pub write_map-requires-clause-firsts : goal.write_map-requires-clause-firsts
-write_map-requires-clause-firsts c = each_first c.args.key_size c.args.rows.now (referred c.in-Ok-Ok.map) (subst (IsMade c.args.key_size c.args.rows.now) c.in-Ok-Ok.field-0-is c.in-Ok-Ok.ensures)
+write_map-requires-clause-firsts c = each_first c.args.key_size c.args.rows.now (referred c.in-Ok-Ok.map) (subst (IsMade c.args.key_size c.args.rows.now) c.in-Ok-Ok.field-0-is c.in-Ok-Ok.ensures.made)
 
 pub returns-in-Ok-Ok-clause-written : goal.returns-in-Ok-Ok-clause-written
 returns-in-Ok-Ok-clause-written c = λ ok.
     let said = c.write_map.ensures.written ok in
-    (referred c.in-Ok-Ok.map, map_of_all c.args.key_size c.args.rows.now (referred c.in-Ok-Ok.map) (subst (IsMade c.args.key_size c.args.rows.now) c.in-Ok-Ok.field-0-is c.in-Ok-Ok.ensures) c.args.value_size _ _ said.0, said.1)
+    (referred c.in-Ok-Ok.map, map_of_all c.args.key_size c.args.rows.now (referred c.in-Ok-Ok.map) (subst (IsMade c.args.key_size c.args.rows.now) c.in-Ok-Ok.field-0-is c.in-Ok-Ok.ensures.made) c.args.value_size _ _ said.0, said.1)
 
 pub returns-in-Ok-Ok-clause-room : goal.returns-in-Ok-Ok-clause-room
 returns-in-Ok-Ok-clause-room c = λ short.
     let said = c.write_map.ensures.room short in
-    (referred c.in-Ok-Ok.map, map_of_all c.args.key_size c.args.rows.now (referred c.in-Ok-Ok.map) (subst (IsMade c.args.key_size c.args.rows.now) c.in-Ok-Ok.field-0-is c.in-Ok-Ok.ensures) c.args.value_size _ _ said.0, said.1)
+    (referred c.in-Ok-Ok.map, map_of_all c.args.key_size c.args.rows.now (referred c.in-Ok-Ok.map) (subst (IsMade c.args.key_size c.args.rows.now) c.in-Ok-Ok.field-0-is c.in-Ok-Ok.ensures.made) c.args.value_size _ _ said.0, said.1)
 
 pub returns-in-Ok-Ok-clause-long : goal.returns-in-Ok-Ok-clause-long
 returns-in-Ok-Ok-clause-long c = λ long.
     let said = c.write_map.ensures.long long in
     let many : length c.in-Ok-Ok.map ≡ length c.args.rows.now =
-    sym (length-map c.in-Ok-Ok.map _) ∙ as_many c.args.key_size c.args.rows.now (referred c.in-Ok-Ok.map) (subst (IsMade c.args.key_size c.args.rows.now) c.in-Ok-Ok.field-0-is c.in-Ok-Ok.ensures) in
-    (referred c.in-Ok-Ok.map, subst (IsMade c.args.key_size c.args.rows.now) c.in-Ok-Ok.field-0-is c.in-Ok-Ok.ensures, said.0 ∙ many, subst (λ n. 2 ^ 32 ≤ n) many said.1)
+    sym (length-map c.in-Ok-Ok.map _) ∙ as_many c.args.key_size c.args.rows.now (referred c.in-Ok-Ok.map) (subst (IsMade c.args.key_size c.args.rows.now) c.in-Ok-Ok.field-0-is c.in-Ok-Ok.ensures.made) in
+    (referred c.in-Ok-Ok.map, subst (IsMade c.args.key_size c.args.rows.now) c.in-Ok-Ok.field-0-is c.in-Ok-Ok.ensures.made, said.0 ∙ many, subst (λ n. 2 ^ 32 ≤ n) many said.1)
 
 pub returns-in-Ok-Ok-clause-exactly : goal.returns-in-Ok-Ok-clause-exactly
 returns-in-Ok-Ok-clause-exactly c = λ _. (
@@ -36,8 +36,8 @@ returns-in-Ok-Ok-clause-exactly c = λ _. (
     | inr (inl e) ↦ omega (arith, same, e)
     | inr (inr e) ↦ omega (arith, same, e)
   ]),
-  λ again. absurd ((subst (IsMade c.args.key_size c.args.rows.now) c.in-Ok-Ok.field-0-is c.in-Ok-Ok.ensures).distinct again.0 again.1),
+  λ again. absurd ((subst (IsMade c.args.key_size c.args.rows.now) c.in-Ok-Ok.field-0-is c.in-Ok-Ok.ensures.made).distinct again.0 again.1),
 )
 
 pub returns-in-Ok-Err-clause-repeated : goal.returns-in-Ok-Err-clause-repeated
-returns-in-Ok-Err-clause-repeated c = λ _. subst (IsFirstRepeatedKey c.args.key_size c.args.rows.now) (sym (ap (λ v. v.number) c.refused.ensures)) (subst (IsMade c.args.key_size c.args.rows.now) c.in-Ok-Err.field-0-is c.in-Ok-Err.ensures)
+returns-in-Ok-Err-clause-repeated c = λ _. subst (IsFirstRepeatedKey c.args.key_size c.args.rows.now) (sym (ap (λ v. v.number) c.refused.ensures)) (subst (IsMade c.args.key_size c.args.rows.now) c.in-Ok-Err.field-0-is c.in-Ok-Err.ensures.made)

@@ -1,4 +1,5 @@
-use Rattle.std.proofs.Common.{◌≡◌, ℕ, nat_eq, subst, arith}
+use Rattle.std.proofs.Common.{◌≡◌, ◌∙◌, ℕ, ap, length, nat_eq, subst, sym, arith}
+use Rattle.commonware_ordered.specs.Strict.{IsStrict}
 use Rattle.std.specs.Cmp.Lexicographic.{pointwise}
 use Rattle.commonware_ordered.specs.Dedup.{IsDedup}
 use Rattle.commonware_sequence.specs.FixedBytes.{bytes_cmp}
@@ -30,3 +31,15 @@ returns-clause-long c = λ e.
     let same = items_are_arrays 32 some members c.in-Ok.items c.as_flattened.result.now c.told-members c.as_flattened.ensures.value c.in-Ok.ensures.items in
     let said = c.write_items.ensures.long e in
     (said.0, subst (λ xs. IsDedup (pointwise nat_eq) bytes_cmp xs said.0) same said.1, said.2, said.3)
+
+pub returns-clause-nothing : goal.returns-clause-nothing
+returns-clause-nothing c = λ none.
+    let members = c.args.members.now in
+    let same = items_are_arrays 32 some members c.in-Ok.items c.as_flattened.result.now c.told-members c.as_flattened.ensures.value c.in-Ok.ensures.items in
+    c.write_items.ensures.nothing (ap length same ∙ none)
+
+pub returns-clause-in_order : goal.returns-clause-in_order
+returns-clause-in_order c = λ strict.
+    let members = c.args.members.now in
+    let same = items_are_arrays 32 some members c.in-Ok.items c.as_flattened.result.now c.told-members c.as_flattened.ensures.value c.in-Ok.ensures.items in
+    c.write_items.ensures.in_order (subst (IsStrict bytes_cmp) (sym same) strict)

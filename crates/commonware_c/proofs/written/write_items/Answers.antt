@@ -1,4 +1,4 @@
-use Rattle.std.proofs.Common.{◌≡◌, ◌∙◌, ◌+◌, ◌*◌, ◌<◌, ◌≤◌, ◌^◌, ◌++◌, ℕ, Bor, List, length, map, arith, ap, nat_eq, sym}
+use Rattle.std.proofs.Common.{◌≡◌, ◌∙◌, ◌+◌, ◌*◌, ◌<◌, ◌≤◌, ◌^◌, ◌++◌, ℕ, Bor, List, length, map, arith, ap, nat_eq, refl, sym}
 use Rattle.std.specs.List.{flat_map}
 use Rattle.std.specs.Cmp.Lexicographic.{pointwise}
 use Rattle.std.proofs.Math.Nat.{mul_comm}
@@ -12,7 +12,7 @@ use Rattle.commonware_views.specs.Lists.{AreItemsOf}
 use Rattle.commonware_views.specs.laws.ItemLaws.{AreLong, items_length}
 use Rattle.commonware_c.specs.Committees.{IsSetOf}
 use Rattle.commonware_c.specs.Splices.{spliced}
-use Rattle.commonware_c.proofs.Made.{dedup_lengths, set_not_longer}
+use Rattle.commonware_c.proofs.Made.{dedup_lengths, own_dedup, set_not_longer}
 use Rattle.commonware_c.proofs.Spliced.{length_on, spliced_on}
 use Rattle.commonware_c.proofs.Values.{flat_values}
 use Rattle.commonware_c.proofs.written.write_items.Goals as goal
@@ -63,13 +63,13 @@ encode_size-requires-clause-fits c = omega (arith, varint-length c.len-count.res
 
 pub overflow_mul-view : goal.overflow_mul-view
 overflow_mul-view c =
-    omega (arith, bytes_fit c.args.size c.as_bytes.result.now c.args.items.now c.in-Ok.set (are_items c.args.size c.args.items.now c.as_bytes.result.now c.requires c.as_bytes.ensures) c.in-Ok.ensures, ap (λ n. c.args.size * n) c.len-count.ensures, c.as_bytes.type_inv.0)
+    omega (arith, bytes_fit c.args.size c.as_bytes.result.now c.args.items.now c.in-Ok.set (are_items c.args.size c.args.items.now c.as_bytes.result.now c.requires c.as_bytes.ensures) c.in-Ok.ensures.set, ap (λ n. c.args.size * n) c.len-count.ensures, c.as_bytes.type_inv.0)
 
 pub overflow_add-view : goal.overflow_add-view
 overflow_add-view c =
     omega (
       arith,
-      bytes_fit c.args.size c.as_bytes.result.now c.args.items.now c.in-Ok.set (are_items c.args.size c.args.items.now c.as_bytes.result.now c.requires c.as_bytes.ensures) c.in-Ok.ensures,
+      bytes_fit c.args.size c.as_bytes.result.now c.args.items.now c.in-Ok.set (are_items c.args.size c.args.items.now c.as_bytes.result.now c.requires c.as_bytes.ensures) c.in-Ok.ensures.set,
       ap (λ n. c.args.size * n) c.len-count.ensures,
       c.as_bytes.type_inv.1,
       c.encode_size.ensures,
@@ -79,7 +79,7 @@ overflow_add-view c =
 pub returns-then-out-view-clause-room : goal.returns-then-out-view-clause-room
 returns-then-out-view-clause-room c = λ _. (
   values c.in-Ok.set,
-  is_set c.args.size c.as_bytes.result.now c.args.items.now c.in-Ok.set c.len-count.result c.encode_size.result (are_items c.args.size c.args.items.now c.as_bytes.result.now c.requires c.as_bytes.ensures) c.in-Ok.ensures
+  is_set c.args.size c.as_bytes.result.now c.args.items.now c.in-Ok.set c.len-count.result c.encode_size.result (are_items c.args.size c.args.items.now c.as_bytes.result.now c.requires c.as_bytes.ensures) c.in-Ok.ensures.set
       (omega (arith, c.if-count.false)) c.len-count.ensures c.encode_size.ensures,
   c.if-out-view.true,
 )
@@ -89,7 +89,7 @@ put_items-requires c =
     let set = c.in-Ok.set in
     let count = c.len-count.result in
     let fits : 0 + length (varint count) ≤ length c.args.out.now = omega (arith, c.if-out-view.false, c.encode_size.ensures) in
-    let bytes = set_bytes c.args.size c.as_bytes.result.now c.args.items.now set (are_items c.args.size c.args.items.now c.as_bytes.result.now c.requires c.as_bytes.ensures) c.in-Ok.ensures in
+    let bytes = set_bytes c.args.size c.as_bytes.result.now c.args.items.now set (are_items c.args.size c.args.items.now c.as_bytes.result.now c.requires c.as_bytes.ensures) c.in-Ok.ensures.set in
     omega (
       arith,
       c.put_varint-start.ensures.place,
@@ -110,10 +110,20 @@ returns-clause-written c = λ _.
     let number : count ≡ length (values set) = c.len-count.ensures ∙ sym (length-map set (λ k. k.now)) in
     let fits : 0 + length (varint count) ≤ length room = omega (arith, c.if-out-view.false, c.encode_size.ensures) in (
       values set,
-      is_set c.args.size c.as_bytes.result.now c.args.items.now set count c.encode_size.result (are_items c.args.size c.args.items.now c.as_bytes.result.now c.requires c.as_bytes.ensures) c.in-Ok.ensures
+      is_set c.args.size c.as_bytes.result.now c.args.items.now set count c.encode_size.result (are_items c.args.size c.args.items.now c.as_bytes.result.now c.requires c.as_bytes.ensures) c.in-Ok.ensures.set
           (omega (arith, c.if-count.false)) c.len-count.ensures c.encode_size.ensures,
       c.put_items.ensures ∙ ap (λ xs. spliced c.put_varint-start.result (flat_map (λ k. k.now) xs) c.put_varint-start.new.out) c.as_slice.ensures.items
           ∙ ap (λ t. spliced c.put_varint-start.result t c.put_varint-start.new.out) (flat_values set)
           ∙ spliced_on 0 c.put_varint-start.result (varint count) (flat_map own_bytes (values set)) c.put_varint-start.new.out room fits c.put_varint-start.ensures.place c.put_varint-start.ensures.bytes
           ∙ ap (λ n. spliced 0 (varint n ++ flat_map own_bytes (values set)) room) number,
     )
+
+pub returns-then-are_in_order-clause-written : goal.returns-then-are_in_order-clause-written
+returns-then-are_in_order-clause-written c = λ e. let said = c.write_in_order.ensures.written e in (c.args.items.now, said.0, said.1)
+
+pub returns-then-are_in_order-clause-room : goal.returns-then-are_in_order-clause-room
+returns-then-are_in_order-clause-room c = λ e. let said = c.write_in_order.ensures.room e in (c.args.items.now, said.0, said.1)
+
+pub returns-then-are_in_order-clause-long : goal.returns-then-are_in_order-clause-long
+returns-then-are_in_order-clause-long c = λ e.
+    let said = c.write_in_order.ensures.long e in (c.args.items.now, own_dedup c.args.items.now (c.if-are_in_order.ensures.0 refl), said.0, said.1)

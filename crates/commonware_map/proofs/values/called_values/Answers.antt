@@ -36,6 +36,6 @@ f-requires g c =
     takes_next (CalledAtPair g.F.FnMut) (TakesPair g.F.FnMut) _ _ _ _ _ _ _ c.requires.callable c.loop-key.invariant.calls
     (walked_one c.loop-key.key-iterator c.next.new.self (c.in-Some.key, c.in-Some.value) c.in-Some.ensures.steps) c.in-Some.key refl
 
-pub returns : goal.returns
-returns g c =
+pub returns-clause-called : goal.returns-clause-called
+returns-clause-called g c =
     all_called (CalledAtPair g.F.FnMut) _ _ _ _ c.loop-key.key-iterator c.next.new.self c.loop-key.invariant.calls c.in-None.ensures.steps c.loop-key.invariant.counted

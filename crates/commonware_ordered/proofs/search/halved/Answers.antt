@@ -1,6 +1,5 @@
 use Rattle.std.proofs.Common.{get_or, sym, ap, ◌∙◌, arith}
 use Rattle.std.specs.Ordering.{is_eq}
-use Rattle.commonware_ordered.specs.Hidden.{items_of}
 use Rattle.commonware_ordered.proofs.SearchCosts.{left_by_half}
 use Rattle.commonware_ordered.proofs.Narrowing.{none_from_only}
 use Rattle.commonware_ordered.proofs.search.halved.Goals as goal
@@ -15,12 +14,12 @@ loop-size-preserved g c = (
 
 pub returns-else-is_eq-clause-place : goal.returns-else-is_eq-clause-place
 returns-else-is_eq-clause-place g c =
-    none_from_only g.T.PartialEq.eq (items_of c.args.items.now) c.args.item.now c.loop-size.base
+    none_from_only g.T.Order.same c.args.items.now c.args.item.now c.loop-size.base
     (λ k there h.
     let p = c.loop-size.invariant.2 k there h in
     let low = p.0 in
     let high = p.1 in
     let one = c.loop-size-test.false in
     omega arith)
-    (λ within d. g.met.T.Ord.matches_eq (get_or (items_of c.args.items.now) c.loop-size.base d) c.args.item.now
+    (λ within d. g.met.T.CountedOrd.ties (get_or c.args.items.now c.loop-size.base d) c.args.item.now
     ∙ (ap is_eq (sym (c.cmp_from.ensures.value d)) ∙ (sym c.is_eq.ensures ∙ c.if-is_eq.false)))

@@ -1,14 +1,13 @@
 use Rattle.std.proofs.Common.{ℕ, ◌≤◌, ◌^◌, length, ◌+◌}
-use Rattle.commonware_ordered.specs.Hidden.{items_of}
 use Rattle.commonware_ordered.specs.Strict.{IsWithin}
 use Rattle.commonware_ordered.proofs.SearchCosts.{IsHalfLeft}
 use Rattle.commonware_ordered.proofs.search.halved.Given as goal
 
 abbrev pub invariant-loop-size : goal.invariant-loop-size
 invariant-loop-size g l =
-    (l.base + l.size ≤ length (items_of l.items)) × (1 ≤ l.size)
-    × IsWithin g.T.PartialEq.eq (items_of l.items) l.item l.base l.size
-    × ((k : ℕ) → length (items_of l.items) ≤ 2 ^ k → IsHalfLeft (g.C.Counter.counted l.fn.count) (g.C.Counter.counted l.count) l.size k)
+    (l.base + l.size ≤ length l.items) × (1 ≤ l.size)
+    × IsWithin g.T.Order.same l.items l.item l.base l.size
+    × ((k : ℕ) → length l.items ≤ 2 ^ k → IsHalfLeft (g.C.Counter.counted l.fn.count) (g.C.Counter.counted l.count) l.size k)
 
 abbrev pub decreases-loop-size : goal.decreases-loop-size
 decreases-loop-size g l = l.size

@@ -1,4 +1,5 @@
 //! Examples of sets. A function has few: the paths through it, and its proof, grow with each.
+use commonware_utils::Participant;
 use commonware_utils::ordered::{Error, Set, Uncounted};
 use std::alloc::Global;
 use std::process::Abort;
@@ -30,6 +31,7 @@ fn counted(rt: &impl Abort, alloc: Global) -> Result<(), Error> {
     let set = Set::try_from_array(alloc, [5u8, 1, 3])?;
     assert!(rt; set.position_counted(&3, &mut Uncounted) == Some(1));
     assert!(rt; set.contains_counted(&3, &mut Uncounted));
+    assert!(rt; set.index_counted(&3, &mut Uncounted) == Some(Participant::new(1)));
     Ok(())
 }
 

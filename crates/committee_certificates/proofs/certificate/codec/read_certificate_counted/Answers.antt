@@ -8,8 +8,11 @@ use Rattle.commonware_base.specs.Text.{Accepts, IsByte}
 use Rattle.commonware_base.specs.Varint.{varint_fault}
 use Rattle.committee_certificates.specs.Certificates.{CertificateFault, IsAllowedValue, IsCertificateMemoryFree}
 use Rattle.committee_certificates.specs.Certificates.{SignersFault, ValueFault}
+use Rattle.commonware_ordered.specs.Costs.{StatesLength}
+use Rattle.committee_certificates.specs.ReadCosts.{HasAfterValue}
+use Rattle.committee_certificates.specs.laws.ReadCostLaws.{one_after_value}
 use Rattle.committee_certificates.specs.laws.CertificateLaws.{signers_need_memory, value_needs_memory}
-use Rattle.std.proofs.Common.{arith}
+use Rattle.std.proofs.Common.{arith, subst}
 use Rattle.std.proofs.lemmas.Grind.{common_steps}
 use Rattle.committee_certificates.proofs.certificate.codec.read_certificate_counted.Goals as goal
 
@@ -42,3 +45,17 @@ returns-clause-accepted g c = grind (arith, common_steps)
 
 pub returns-clause-consumed : goal.returns-clause-consumed
 returns-clause-consumed g c = grind (arith, common_steps)
+
+pub returns-in_err-signers-clause-stated : goal.returns-in_err-signers-clause-stated
+returns-in_err-signers-clause-stated g c = λ n states.
+    let a = c.in_ok-value.ensures in
+    let begins : HasAfterValue (rest_of c.args.src.now) (rest_of c.read_list.new.src) =
+    record { value = c.in_ok-value.value.items; writable = a.writable; begins = a.consumed.rest } in
+    c.in_err-signers.ensures.stated n (subst (λ u. StatesLength u n) (one_after_value (rest_of c.args.src.now) states.0 (rest_of c.read_list.new.src) states.1 begins) states.2)
+
+pub returns-clause-stated : goal.returns-clause-stated
+returns-clause-stated g c = λ n states.
+    let a = c.in_ok-value.ensures in
+    let begins : HasAfterValue (rest_of c.args.src.now) (rest_of c.read_list.new.src) =
+    record { value = c.in_ok-value.value.items; writable = a.writable; begins = a.consumed.rest } in
+    c.in_ok-signers.ensures.stated n (subst (λ u. StatesLength u n) (one_after_value (rest_of c.args.src.now) states.0 (rest_of c.read_list.new.src) states.1 begins) states.2)

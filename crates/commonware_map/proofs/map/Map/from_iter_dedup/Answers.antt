@@ -4,8 +4,8 @@ use Rattle.commonware_base.specs.Taken.{TakesAll}
 use Rattle.commonware_ordered.specs.Dedup.{IsDedup}
 use Rattle.commonware_map.proofs.map.Map.from_iter_dedup.Goals as goal
 
-pub returns : goal.returns
-returns g c =
+pub returns-clause-dedup : goal.returns-clause-dedup
+returns-clause-dedup g c =
     let pairs = c.from_columns.ensures ∙ (λ j. zip (c.from_strict.ensures j) c.in_ok-keys.values.items) in
     subst (λ m. TakesAll g.I.IntoIterator.into_iter_gives g.I.IntoIter.Iterator.next_gives c.args.iter (IsDedupOf m)) (sym pairs) c.in_ok-keys.ensures.dedup
   where

@@ -17,5 +17,5 @@ loop-pair-init g c =
 pub loop-pair-preserved : goal.loop-pair-preserved
 loop-pair-preserved g c = left_more _ _ _ _ _ _ c.loop-pair.invariant c.in-Some.ensures.steps c.in_ok-push.ensures.items
 
-pub returns : goal.returns
-returns g c = left_none _ _ _ c.next.new.self c.loop-pair.invariant c.in-None.ensures.steps
+pub returns-clause-pairs : goal.returns-clause-pairs
+returns-clause-pairs g c = left_none _ _ _ c.next.new.self c.loop-pair.invariant c.in-None.ensures.steps

@@ -6,4 +6,4 @@ use Rattle.commonware_map.proofs.map.Map.len.Goals as goal
 pub returns : goal.returns
 returns g c =
     let o = opened _ _ _ c.self.view_is c.self.invariant in
-    record { len = ap length c.as_slice.ensures.items ∙ o.keys_length; strict = subst (IsStrict g.K.Ord.cmp) o.keys c.as_slice.ensures.strict }
+    record { len = ap length c.as_slice.ensures.items ∙ o.keys_length; strict = subst (IsStrict g.K.Order.order) o.keys c.as_slice.ensures.strict }

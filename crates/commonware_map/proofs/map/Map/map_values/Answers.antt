@@ -1,9 +1,11 @@
 use Rattle.std.proofs.Common.{length, ap, refl, sym, subst, ◌∙◌, ◌≡◌, ◌∷◌, arith}
 use Rattle.std.specs.List.{AllZip}
-use Rattle.std.specs.Map.{keys_of}
+use Rattle.std.specs.Map.{keys_of, values_of}
+use Rattle.std.proofs.lemmas.Bool.{eqb-true}
+use Rattle.std.proofs.lemmas.List.{nil_from_length}
 use Rattle.commonware_base.specs.laws.CallLaws.{so_far_all, so_far_more, so_far_none}
 use Rattle.commonware_map.specs.ValueMaps.{CalledAtRefs}
-use Rattle.commonware_map.proofs.Calls.{as_many, keys_are, length_clones, ready, values_are}
+use Rattle.commonware_map.proofs.Calls.{as_many, called_none, keys_are, length_clones, ready, values_are}
 use Rattle.commonware_map.proofs.map.Map.map_values.Goals as goal
 
 pub loop-key-init : goal.loop-key-init
@@ -44,3 +46,8 @@ returns-clause-values g c =
     let C = g.K.Clone.is_clone in
     let clones : AllZip C (keys_of c.args.self.now) c.in_ok-keys.keys = subst (λ ks. AllZip C ks c.in_ok-keys.keys) c.keys.ensures c.in_ok-keys.ensures.cases in
     values_are (CalledAtRefs g.F.FnMut) _ _ _ _ (so_far_all (CalledAtRefs g.F.FnMut) _ _ _ _ _ c.loop-key.invariant.calls c.in-None.ensures.steps.0) (length_clones C _ _ clones) _ c.from_columns.ensures
+
+pub returns-then-is_empty-clause-values : goal.returns-then-is_empty-clause-values
+returns-then-is_empty-clause-values g c =
+    let empty = nil_from_length c.args.self.now (eqb-true _ _ (sym c.is_empty.ensures ∙ c.if-is_empty.true)) in
+    called_none (CalledAtRefs g.F.FnMut) c.args.f c.args.self.now _ empty (ap values_of c.empty.ensures)

@@ -1,10 +1,12 @@
 use Rattle.std.proofs.Common.{length, ap, refl, sym, subst, ◌∙◌, ◌≡◌, ◌∷◌, arith}
 use Rattle.std.specs.Fn.{Called}
 use Rattle.std.specs.List.{AllZip}
-use Rattle.std.specs.Map.{keys_of}
+use Rattle.std.specs.Map.{keys_of, values_of}
+use Rattle.std.proofs.lemmas.Bool.{eqb-true}
+use Rattle.std.proofs.lemmas.List.{nil_from_length}
 use Rattle.commonware_base.specs.laws.CallLaws.{so_far_all, so_far_more, so_far_none}
 use Rattle.commonware_map.specs.ValueMaps.{CalledAtRefs, Succeeds}
-use Rattle.commonware_map.proofs.Calls.{as_many, first_error, keys_are, length_clones, ready, values_are}
+use Rattle.commonware_map.proofs.Calls.{as_many, called_none, first_error, keys_are, length_clones, ready, values_are}
 use Rattle.commonware_map.proofs.map.Map.try_map_values.Goals as goal
 
 pub loop-key-init : goal.loop-key-init
@@ -50,3 +52,8 @@ pub returns-in-Err-clause-error : goal.returns-in-Err-clause-error
 returns-in-Err-clause-error g c =
     first_error (CalledAtRefs g.F.FnMut) _ _ _ _ _ _ _ _ _ c.loop-key.invariant.calls c.in-Some.ensures.steps
     (record { key = c.in-Some.key; value = c.in-Some.value; key_is = refl; value_is = refl; called = subst (λ r. Called g.F.FnMut c.loop-key.f (c.in-Some.key, (c.in-Some.value, tt)) r c.f.new.self) c.in-Err.is c.f.ensures })
+
+pub returns-then-is_empty-clause-values : goal.returns-then-is_empty-clause-values
+returns-then-is_empty-clause-values g c =
+    let empty = nil_from_length c.args.self.now (eqb-true _ _ (sym c.is_empty.ensures ∙ c.if-is_empty.true)) in
+    called_none (Succeeds (CalledAtRefs g.F.FnMut)) c.args.f c.args.self.now _ empty (ap values_of c.empty.ensures)

@@ -1,4 +1,4 @@
-use Rattle.std.proofs.Common.{◌≡◌, ℕ, ap, length, subst, arith, ◌∙◌}
+use Rattle.std.proofs.Common.{◌≡◌, ℕ, ap, length, subst, arith}
 use Rattle.std.proofs.lemmas.Slice.Zip.{length-zip}
 use Rattle.commonware_base.proofs.Errors.{err_along}
 use Rattle.commonware_base.specs.Lists.{IsAllowedList, IsListMemoryFree, ListFault, list_enc}
@@ -17,8 +17,8 @@ use Rattle.commonware_map.proofs.map.codec.read_map_counted.Goals as goal
 pub returns-in_err-keys-clause-refused : goal.returns-in_err-keys-clause-refused
 returns-in_err-keys-clause-refused g c =
     let text = rest_of c.args.src.now in
-    let key_fault = SetFault g.K.EncodeSize.enc g.K.EncodeSize.writable g.K.Ord.cmp (g.K.Read.allowed c.args.key.now) (g.K.Read.fault c.args.key.now) c.args.range in
-    let map_fault = MapFault g.K.EncodeSize.enc g.K.EncodeSize.writable g.K.Ord.cmp (g.K.Read.allowed c.args.key.now) (g.K.Read.fault c.args.key.now) g.V.EncodeSize.enc g.V.EncodeSize.writable (g.V.Read.allowed c.args.value.now) (g.V.Read.fault c.args.value.now) c.args.range in
+    let key_fault = SetFault g.K.EncodeSize.enc g.K.EncodeSize.writable g.K.Order.order (g.K.Read.allowed c.args.key.now) (g.K.Read.fault c.args.key.now) c.args.range in
+    let map_fault = MapFault g.K.EncodeSize.enc g.K.EncodeSize.writable g.K.Order.order (g.K.Read.allowed c.args.key.now) (g.K.Read.fault c.args.key.now) g.V.EncodeSize.enc g.V.EncodeSize.writable (g.V.Read.allowed c.args.value.now) (g.V.Read.fault c.args.value.now) c.args.range in
     let free = IsListMemoryFree (g.K.Read.fault c.args.key.now) (g.K.Read.memory_free c.args.key.now) c.args.range text in
     err_along c.from_residual.result c.in_err-keys.field-0.0 _ c.from_residual.ensures.1
     (refuses_from (key_fault text) (map_fault text) free free (λ f w. bad_first w) (λ wants. wants) c.in_err-keys.field-0.0 c.in_err-keys.ensures.refused)
@@ -28,7 +28,7 @@ returns-clause-accepted g c =
     let a = c.in_ok-keys.ensures in
     let b = c.in_ok-values.ensures in
     let range : exactly c.len.result ≡ exactly (length c.in_ok-keys.keys) = ap exactly c.len.ensures in
-    accepts_map g.K.EncodeSize.enc g.V.EncodeSize.enc g.K.EncodeSize.writable (g.K.Read.allowed c.args.key.now) g.K.Ord.cmp g.V.EncodeSize.writable (g.V.Read.allowed c.args.value.now) c.args.range _ _ _ _ _ a.writable a.allowed b.writable
+    accepts_map g.K.EncodeSize.enc g.V.EncodeSize.enc g.K.EncodeSize.writable (g.K.Read.allowed c.args.key.now) g.K.Order.order g.V.EncodeSize.writable (g.V.Read.allowed c.args.value.now) c.args.range _ _ _ _ _ a.writable a.allowed b.writable
     (subst (λ r. IsAllowedList r (g.V.Read.allowed c.args.value.now) c.in_ok-values.values.items) range b.allowed) a.consumed.rest b.consumed.rest
 
 pub returns-clause-consumed : goal.returns-clause-consumed
@@ -46,7 +46,7 @@ returns-in_err-values-clause-refused g c =
     let bytes = bytes_right (list_enc g.K.EncodeSize.enc c.in_ok-keys.keys) after (subst AreBytes a.consumed.rest (rest_bytes c.args.src.now c.args.src.now.are_bytes)) in
     let range : exactly c.len.result ≡ exactly (length c.in_ok-keys.keys) = ap exactly c.len.ensures in
     let value_fault = λ (r : Bounds ℕ). ListFault g.V.EncodeSize.enc g.V.EncodeSize.writable (g.V.Read.allowed c.args.value.now) (g.V.Read.fault c.args.value.now) r after in
-    let map_fault = MapFault g.K.EncodeSize.enc g.K.EncodeSize.writable g.K.Ord.cmp (g.K.Read.allowed c.args.key.now) (g.K.Read.fault c.args.key.now) g.V.EncodeSize.enc g.V.EncodeSize.writable (g.V.Read.allowed c.args.value.now) (g.V.Read.fault c.args.value.now) c.args.range text in
+    let map_fault = MapFault g.K.EncodeSize.enc g.K.EncodeSize.writable g.K.Order.order (g.K.Read.allowed c.args.key.now) (g.K.Read.fault c.args.key.now) g.V.EncodeSize.enc g.V.EncodeSize.writable (g.V.Read.allowed c.args.value.now) (g.V.Read.fault c.args.value.now) c.args.range text in
     let free = λ (r : Bounds ℕ). IsListMemoryFree (g.V.Read.fault c.args.value.now) (g.V.Read.memory_free c.args.value.now) r after in
     err_along c.from_residual-in_err-values.result c.in_err-values.field-0.0 _ c.from_residual-in_err-values.ensures.1
     (refuses_from (value_fault (exactly (length c.in_ok-keys.keys))) map_fault (free (exactly (length c.in_ok-keys.keys))) (IsListMemoryFree (g.K.Read.fault c.args.key.now) (g.K.Read.memory_free c.args.key.now) c.args.range text)

@@ -4,4 +4,4 @@ use Rattle.commonware_ordered.proofs.set.Set.contains_counted.Goals as goal
 
 pub returns-clause-value : goal.returns-clause-value
 returns-clause-value g c =
-    c.is_some.ensures ∙ found-place g.T.PartialEq.eq _ c.args.item.now _ c.position_counted.ensures.place
+    c.is_some.ensures ∙ found-place g.T.Order.same _ c.args.item.now _ c.position_counted.ensures.place

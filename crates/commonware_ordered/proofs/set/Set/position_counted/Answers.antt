@@ -6,10 +6,10 @@ use Rattle.commonware_ordered.proofs.set.Set.position_counted.Goals as goal
 
 pub returns-clause-only : goal.returns-clause-only
 returns-clause-only g c =
-    let found = subst (λ xs. IsPlaceOf g.T.PartialEq.eq xs c.args.item.now c.place_of.result) c.as_slice.ensures.items c.place_of.ensures.place in
-    place_only g.met.T.Ord.total g.met.T.Ord.matches_eq _ _ _ c.as_slice.ensures.strict found
+    let found = subst (λ xs. IsPlaceOf g.T.Order.same xs c.args.item.now c.place_of.result) c.as_slice.ensures.items c.place_of.ensures.place in
+    place_only g.met.T.CountedOrd.total g.met.T.CountedOrd.ties _ _ _ c.as_slice.ensures.strict found
 
 pub returns-clause-found : goal.returns-clause-found
 returns-clause-found g c =
-    let found = subst (λ xs. IsPlaceOf g.T.PartialEq.eq xs c.args.item.now c.place_of.result) c.as_slice.ensures.items c.place_of.ensures.place in
-    answer-place g.T.PartialEq.eq _ c.args.item.now _ found
+    let found = subst (λ xs. IsPlaceOf g.T.Order.same xs c.args.item.now c.place_of.result) c.as_slice.ensures.items c.place_of.ensures.place in
+    answer-place g.T.Order.same _ c.args.item.now _ found

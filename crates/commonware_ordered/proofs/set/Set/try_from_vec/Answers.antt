@@ -1,4 +1,4 @@
-use Rattle.std.proofs.Common.{subst, ◌∙◌}
+use Rattle.std.proofs.Common.{subst}
 use Rattle.std.proofs.lemmas.List.Sorted.{IsPermutation-refl}
 use Rattle.commonware_ordered.specs.Strict.{IsStrict}
 use Rattle.commonware_ordered.proofs.Taken.{whole_set_of_vec}
@@ -7,7 +7,7 @@ use Rattle.commonware_ordered.proofs.set.Set.try_from_vec.Goals as goal
 
 pub returns-then-are_strict-clause-whole : goal.returns-then-are_strict-clause-whole
 returns-then-are_strict-clause-whole g c =
-    let strict = subst (IsStrict g.T.Ord.cmp) (c.new.ensures ∙ c.as_slice.ensures.value) (c.are_strict.ensures.strict.0 c.if-are_strict.true) in
+    let strict = subst (IsStrict g.T.Ord.cmp) c.as_slice.ensures.value (c.are_strict.ensures.strict.0 c.if-are_strict.true) in
     whole_from_strict g.met.T.Ord.total g.met.T.Ord.matches_eq g.met.T.Eq.laws.symm c.args.vec.items c.args.vec.items (IsPermutation-refl c.args.vec.items) strict
 
 pub returns-clause-whole : goal.returns-clause-whole

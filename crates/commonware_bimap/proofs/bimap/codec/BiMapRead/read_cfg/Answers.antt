@@ -1,4 +1,4 @@
-use Rattle.std.proofs.Common.{refl, subst}
+use Rattle.std.proofs.Common.{◌≤◌, length, refl, subst}
 use Rattle.std.specs.Map.{values_of}
 use Rattle.commonware_base.proofs.Errors.{err_along}
 use Rattle.commonware_base.specs.Lists.{IsListMemoryFree}
@@ -33,7 +33,7 @@ returns-in-Err-clause-refused g c =
 pub returns-in-Err-DuplicateValue-clause-refused : goal.returns-in-Err-DuplicateValue-clause-refused
 returns-in-Err-DuplicateValue-clause-refused g c =
     let a = c.in_ok-map.ensures.accepted in
-    let twice = subst (λ e. MatchError e ⊥ (HasEqualItems g.V.PartialEq.eq (values_of c.in_ok-map.map))) c.in-Err-DuplicateValue.field-0-is c.in-Err-DuplicateValue.ensures.whole in
+    let twice = subst (λ e. MatchError e ⊥ (HasEqualItems g.V.PartialEq.eq (values_of c.in_ok-map.map)) (1 ≤ length c.in_ok-map.map)) c.in-Err-DuplicateValue.field-0-is c.in-Err-DuplicateValue.ensures.whole in
     bad_values (refl {a = repeated_fault}) (record { pairs = c.in_ok-map.map; rest = _; begins = a.begins; writable = a.writable; allowed = a.allowed; repeated = twice })
 
 pub returns-in-Ok-clause-accepted : goal.returns-in-Ok-clause-accepted

@@ -1,21 +1,24 @@
-use Rattle.std.proofs.Common.{[], refl, subst, sym}
+use Rattle.std.proofs.Common.{◌≤◌, ◌++◌, arith, length, length-append, subst, sym}
 use Rattle.std.specs.List.Sorted.{IsPermutation}
+use Rattle.std.proofs.lemmas.List.Sorted.{length_permutation}
 use Rattle.commonware_ordered.specs.Whole.{IsRefusedFor}
 use Rattle.commonware_ordered.proofs.Put.{all_put, equal_items_put}
-use Rattle.commonware_ordered.proofs.Taken.{memory_refuses, refused_at_repeat, refused_for_drawn}
+use Rattle.commonware_ordered.proofs.Taken.{memory_after, memory_refuses, refused_at_repeat, refused_for_drawn}
 use Rattle.commonware_ordered.proofs.Whole.{whole_from_strict}
 use Rattle.commonware_ordered.proofs.set.builders.SetTryFromIterator.try_from_iter.Goals as goal
 
-pub returns-in_err-run-clause-err : goal.returns-in_err-run-clause-err
-returns-in_err-run-clause-err g c =
-    refused_for_drawn g.I.IntoIterator.into_iter_gives g.I.IntoIter.Iterator.next_gives (IsRefusedFor g.T.PartialEq.eq) c.args.iter _ _ [] c.from_residual.result
-    c.into_iter-rest.ensures.into_iter_gives refl (memory_refuses g.T.PartialEq.eq [] c.from_residual.result c.from_residual.ensures.1)
-
 pub returns-in_err-more-clause-err : goal.returns-in_err-more-clause-err
 returns-in_err-more-clause-err g c =
-    refused_for_drawn g.I.IntoIterator.into_iter_gives g.I.IntoIter.Iterator.next_gives (IsRefusedFor g.T.PartialEq.eq) c.args.iter _ _ c.loop-item.yielded c.from_residual-in_err-more.result
+    memory_after g.I.IntoIterator.into_iter_gives g.I.IntoIter.Iterator.next_gives g.T.PartialEq.eq c.args.iter _ _ _ c.loop-item.yielded c.in-Some.item c.from_residual.result
     (subst (g.I.IntoIterator.into_iter_gives c.args.iter) (sym c.into_iter-item-iterator.ensures.into_iter_gives) c.into_iter-rest.ensures.into_iter_gives)
-    c.loop-item.yielded_by (memory_refuses g.T.PartialEq.eq c.loop-item.yielded c.from_residual-in_err-more.result c.from_residual-in_err-more.ensures.1)
+    c.loop-item.yielded_by c.in-Some.ensures.steps c.from_residual.ensures.1
+
+pub returns-in_err-items-clause-err : goal.returns-in_err-items-clause-err
+returns-in_err-items-clause-err g c =
+    let some : 1 ≤ length c.loop-item.yielded = omega (arith, length_permutation c.loop-item.yielded (c.loop-item.run.items ++ c.loop-item.tree.keys) c.loop-item.invariant.all, length-append c.loop-item.run.items c.loop-item.tree.keys, c.in_err-items.ensures.nothing) in
+    refused_for_drawn g.I.IntoIterator.into_iter_gives g.I.IntoIter.Iterator.next_gives (IsRefusedFor g.T.PartialEq.eq) c.args.iter _ _ c.loop-item.yielded c.from_residual-in_err-items.result
+    (subst (g.I.IntoIterator.into_iter_gives c.args.iter) (sym c.into_iter-item-iterator.ensures.into_iter_gives) c.into_iter-rest.ensures.into_iter_gives)
+    c.loop-item.yielded_by (memory_refuses g.T.PartialEq.eq c.loop-item.yielded c.from_residual-in_err-items.result some c.from_residual-in_err-items.ensures.1)
 
 pub returns-then-not-new-clause-err : goal.returns-then-not-new-clause-err
 returns-then-not-new-clause-err g c =

@@ -1,0 +1,35 @@
+-- What is written is one set of members, and what is read is that one.
+use Rattle.std.proofs.Common.{◌≡◌, ◌∙◌, ap, drop, length, rules, subst}
+use Rattle.commonware_base.specs.Lists.{list_enc}
+use Rattle.commonware_base.specs.Text.{AreBytes}
+use Rattle.commonware_sequence.specs.FixedBytes.{own_bytes}
+use Rattle.commonware_views.specs.Lists.{StandBy}
+use Rattle.commonware_c.specs.Committees.{between}
+use Rattle.commonware_c.proofs.Arrays.{arrays_are_long}
+use Rattle.commonware_c.proofs.ReadBack.{begins_with, one_set, written_set}
+use Rattle.commonware_c.proofs.round_trips.committee_there_and_back.Goals as goal
+
+pub returns : goal.returns
+returns c =
+    let members = c.args.members.now in
+    let room = c.commonware_committee_write-written.new.out in
+    let view = c.commonware_committee_write-written.result in
+    let read = c.commonware_committee_read-view.ensures in
+    let ok : view.status ≡ 0 = search rules in
+    let w = c.commonware_committee_write-written.ensures.written ok in
+    let rest = drop (length (list_enc own_bytes w.0)) c.args.room.now in
+    let bytes = subst AreBytes c.new.ensures.bytes c.position.ensures.are_bytes in
+    let range = between 0 view.count in
+    let is_set = written_set 32 members w.0 view.count view.size room rest (arrays_are_long 32 members c.told-members) w.1 bytes
+    (begins_with (list_enc own_bytes w.0) c.args.room.now room w.2) in
+    let status = read.exactly.1 (w.0, rest, is_set) in
+    let a = read.accepted status in
+    let same = one_set 32 range range room a.0 w.0 a.1 rest a.2 is_set in (
+      status,
+      (
+        w.0,
+        w.1.dedup,
+        a.3 ∙ ap length same,
+        subst (StandBy 32 room c.commonware_committee_read-view.result.start) same a.5,
+      ),
+    )
