@@ -13,6 +13,11 @@ IsLookUpCost n old new = (k : ℕ) → n < 2 ^ k → 2 * new ≤ 2 * old + 3 * k
 abbrev pub IsOrderCost : ℕ → ℕ → ℕ → Type 0
 IsOrderCost n old new = new ≤ old + (n - 1)
 
+-- a whole check of the order of n items, by a counter that takes one for each comparison: each was compared with the
+-- next, and counted
+abbrev pub IsWholeOrderCost : ℕ → ℕ → ℕ → ℕ → Type 0
+IsWholeOrderCost step n old new = step ≡ 1 → old + (n - 1) ≤ new
+
 -- a check of the order of a list that goes no further than the first item that isn't less than the next
 abbrev pub StopsAtFault : {T : Type 0} → (T → T → Ordering) → List T → ℕ → ℕ → Type 0
 StopsAtFault cmp items old new = (k : ℕ) → k + 1 < length items → ¬ IsLessThanNext cmp items k → new ≤ old + k + 1

@@ -1,6 +1,6 @@
 //! The check of the order of a list.
 ghost use Rattle.std.specs.Prelude.{◌+◌, ◌<◌, ◌≤◌, ◌↔◌, ℕ, IsTrue, length};
-ghost use Rattle.commonware_ordered.specs.Costs.{IsOrderCost, StopsAtFault};
+ghost use Rattle.commonware_ordered.specs.Costs.{IsOrderCost, IsWholeOrderCost, StopsAtFault};
 ghost use Rattle.commonware_ordered.specs.Strict.{IsStrict};
 
 use crate::at::cmp_next;
@@ -13,6 +13,8 @@ pub(crate) fn are_strict<T: CountedOrd<C>, C: Counter>(items: &[T], count: &mut 
     ensures strict { IsTrue result ↔ IsStrict T.order items.now }
     ensures cost { IsOrderCost (length items.now) (C.counted count.old) (C.counted count.new) }
     ensures stops { StopsAtFault T.order items.now (C.counted count.old) (C.counted count.new) }
+    ensures least { IsTrue result → IsWholeOrderCost C.step (length items.now)
+        (C.counted count.old) (C.counted count.new) }
 {
     let mut i = 1;
     while i < items.len() {

@@ -4,7 +4,7 @@ ghost use Rattle.std.specs.List.{IsAnyAnswer, list_any};
 ghost use Rattle.std.specs.Iterator.Adapters.{IterYieldsInOrder, IterYieldsInReverse};
 ghost use Rattle.std.specs.Slice.{IsItemAt};
 ghost use Rattle.std.specs.Slice.Iter.{iter_rest};
-ghost use Rattle.commonware_ordered.specs.Costs.{IsLookUpCost, IsOrderCost, StopsAtFault};
+ghost use Rattle.commonware_ordered.specs.Costs.{IsLookUpCost, IsOrderCost, IsWholeOrderCost, StopsAtFault};
 ghost use Rattle.commonware_ordered.specs.Strict.{HasEqualAt, IsPlaceOf, IsStrict};
 
 mod builders;
@@ -187,6 +187,8 @@ impl<T: Order, A: Allocator> Set<T, A> {
         ensures cost { IsOrderCost (length items.items)
             (C.counted count.old) (C.counted count.new) }
         ensures stops { StopsAtFault T.order items.items
+            (C.counted count.old) (C.counted count.new) }
+        ensures least { IsSome result → IsWholeOrderCost C.step (length items.items)
             (C.counted count.old) (C.counted count.new) }
     {
         if are_strict(items.as_slice(), count) {

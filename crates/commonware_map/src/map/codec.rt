@@ -12,7 +12,7 @@ ghost use Rattle.commonware_base.specs.Source.{rest_of, Consumes};
 ghost use Rattle.commonware_base.specs.Text.{Accepts};
 ghost use Rattle.commonware_map.specs.laws.MapLaws.{map_bytes, map_canonical, map_laws, map_prefix_free};
 ghost use Rattle.commonware_map.specs.Maps.{map_enc, map_size_bound, IsAllowedMap, IsWritableMap, MapFault};
-ghost use Rattle.commonware_ordered.specs.Costs.{IsOrderCost, IsReadCost, StatesLength};
+ghost use Rattle.commonware_ordered.specs.Costs.{IsOrderCost, IsReadCost, IsWholeOrderCost, StatesLength};
 ghost use Rattle.commonware_ordered.specs.Sets.{IsWritableSet};
 
 use super::Map;
@@ -82,7 +82,8 @@ impl<K: Ord + Canonical + Read<A> + Drop, V: Read<A> + Drop, A: Allocator + Copy
 /// Decodes a map under a range for its length and a configuration each for its keys and values, as
 /// `Map::read_cfg` does, and counts its comparisons of keys: whatever the input, none, or fewer
 /// than the length that the input states and than the most pairs that the range allows; and none
-/// after the first key that isn't less than the next.
+/// after the first key that isn't less than the next. In a map that it returns each key was
+/// compared with the next, and counted.
 pub fn read_map_counted<
     K: CountedOrd<C> + Read<A> + Drop,
     V: Read<A> + Drop,
@@ -114,6 +115,8 @@ pub fn read_map_counted<
         (C.counted count.old) (C.counted count.new) }
     ensures stated { (n : ℕ) → StatesLength (rest_of src.old) n
         → IsOrderCost n (C.counted count.old) (C.counted count.new) }
+    ensures least { IfOk result (λ m.
+        IsWholeOrderCost C.step (length m) (C.counted count.old) (C.counted count.new)) }
 {
     let mut here = *src;
     let keys = read_set_counted::<K, A, C>(alloc, &mut here, range, key, count)?;

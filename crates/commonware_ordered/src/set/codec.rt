@@ -7,7 +7,7 @@ ghost use Rattle.commonware_base.specs.Range.{Within};
 ghost use Rattle.commonware_base.specs.Refusal.{Refuses};
 ghost use Rattle.commonware_base.specs.Source.{rest_of, Consumes};
 ghost use Rattle.commonware_base.specs.Varint.{varint_size};
-ghost use Rattle.commonware_ordered.specs.Costs.{IsOrderCost, IsReadCost, StatesLength};
+ghost use Rattle.commonware_ordered.specs.Costs.{IsOrderCost, IsReadCost, IsWholeOrderCost, StatesLength};
 ghost use Rattle.commonware_ordered.specs.Sets.{IsWritableSet, SetFault, set_case};
 ghost use Rattle.commonware_ordered.specs.laws.SetLaws.{set_prefix_free, set_laws, set_canonical};
 
@@ -105,7 +105,8 @@ pub fn set_fault_law<T: Ord + Canonical + Read<A>, A: Allocator>(
 ///
 /// It counts its comparisons of items: whatever the input, none, or fewer than the length that the
 /// input states and than the most items that the range allows; none where the input doesn't begin
-/// with such a list; and none after the first item that isn't less than the next.
+/// with such a list; and none after the first item that isn't less than the next. In a set that it
+/// returns each item was compared with the next, and counted.
 pub fn read_set_counted<T: CountedOrd<C> + Read<A> + Drop, A: Allocator + Copy, C: Counter>(
     alloc: A,
     src: &mut Source<'_>,
@@ -128,6 +129,8 @@ pub fn read_set_counted<T: CountedOrd<C> + Read<A> + Drop, A: Allocator + Copy, 
         (C.counted count.old) (C.counted count.new) }
     ensures stated { (n : ℕ) → StatesLength (rest_of src.old) n
         → IsOrderCost n (C.counted count.old) (C.counted count.new) }
+    ensures least { IfOk result (λ v.
+        IsWholeOrderCost C.step (length v) (C.counted count.old) (C.counted count.new)) }
 {
     let mut here = *src;
     let items = read_list::<T, A>(alloc, &mut here, range, item)?;

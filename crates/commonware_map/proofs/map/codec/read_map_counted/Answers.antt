@@ -66,3 +66,13 @@ returns-clause-cost_ok g c =
     let both = length-zip ks vs in
     let keys = c.in_ok-keys.ensures.cost_ok in
     omega arith
+
+pub returns-clause-least : goal.returns-clause-least
+returns-clause-least g c = λ one.
+    let ks = c.in_ok-keys.keys in
+    let vs = c.in_ok-values.values.items in
+    let range : exactly c.len.result ≡ exactly (length ks) = ap exactly c.len.ensures in
+    let even = as_many (g.V.Read.allowed c.args.value.now) (length ks) vs (subst (λ r. IsAllowedList r (g.V.Read.allowed c.args.value.now) vs) range c.in_ok-values.ensures.allowed) in
+    let both = length-zip ks vs in
+    let keys = c.in_ok-keys.ensures.least one in
+    omega arith
