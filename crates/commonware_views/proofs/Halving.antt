@@ -1,5 +1,5 @@
 -- How many comparisons a search makes that halves what is left, and leaves out what it compared with.
-use Rattle.std.proofs.Common.{ℕ, zero, suc, ◌+◌, ◌*◌, ◌^◌, ◌<◌, ◌≤◌, arith}
+use Rattle.std.proofs.Common.{◌≡◌, ℕ, zero, suc, ◌+◌, ◌*◌, ◌^◌, ◌<◌, ◌≤◌, arith}
 use native.Mathlib.Numerals.{unary_clauses}
 
 -- Before a step there were `old` comparisons, and now there are `new`: of those of k, j are left.
@@ -26,3 +26,12 @@ found_by_halving old new next size k one some (suc i, e, room) = let f = simp un
 -- at the end
 pub cost_of_halving : (old new size k : ℕ) → IsHalvingLeft old new size k → new ≤ old + k
 cost_of_halving old new size k (j, e, room) = omega arith
+
+-- Of n keys as many are left, and there is a comparison counted unless all of them are.
+abbrev pub IsSomeCounted : ℕ → ℕ → ℕ → ℕ → Type 0
+IsSomeCounted n left old new = (old ≤ new) × (left < n → old + 1 ≤ new)
+
+-- a comparison more
+pub one_more_counted : (n left next old new now step : ℕ) → now ≡ new + step → step ≡ 1 → IsSomeCounted n left old new
+    → IsSomeCounted n next old now
+one_more_counted n left next old new now step more one (some, _) = (omega (arith, more, one, some), λ _. omega (arith, more, one, some))

@@ -9,7 +9,8 @@ ghost use Rattle.commonware_base.specs.Refusal.{Refuses};
 ghost use Rattle.commonware_base.specs.Source.{rest_of, Consumes};
 ghost use Rattle.commonware_ordered.specs.Strict.{IsLessThanNext, IsStrict};
 ghost use Rattle.commonware_sequence.specs.FixedBytes.{bytes_cmp, own_bytes};
-ghost use Rattle.commonware_views.specs.Costs.{IsHalvingCost};
+ghost use Rattle.commonware_ordered.specs.Costs.{IsWholeOrderCost};
+ghost use Rattle.commonware_views.specs.Costs.{IsHalvingCost, IsLookUpCounted};
 ghost use Rattle.commonware_views.specs.Lists.{AreItemsOf, IsGapFor, IsListOf, IsNotWhole, list_fault};
 
 use crate::counted::{Keys, PrefixedKey};
@@ -165,6 +166,8 @@ impl<'a> ListView<'a> {
         ensures stops { (k : ℕ) → k + 1 < length self.now
             → ¬ IsLessThanNext bytes_cmp self.now k
             → C.counted counter.new ≤ C.counted counter.old + k + 2 }
+        ensures least { IsTrue result → IsWholeOrderCost C.step (length self.now)
+            (C.counted counter.old) (C.counted counter.new) }
     {
         are_strict(self, counter)
     }
@@ -185,8 +188,9 @@ impl<'a> ListView<'a> {
     }
 
     /// Returns what `binary_search` does, and counts how many items it compares with the key: of
-    /// fewer than 2^k items at most k, whatever they are. A comparison looks at each word of eight
-    /// bytes at most once, but for the last word of two equal items.
+    /// fewer than 2^k items at most k, whatever they are, and at least one where there is an item.
+    /// A comparison looks at each word of eight bytes at most once, but for the last word of two
+    /// equal items.
     #[inline(always)]
     pub fn binary_search_counted<C: Counter>(
         &self,
@@ -198,6 +202,8 @@ impl<'a> ListView<'a> {
         ensures exactly { IsStrict bytes_cmp self.now → (p : ℕ)
             → (result ≡ Ok p) ↔ (slice_get self.now p ≡ Some key.now) }
         ensures cost { IsHalvingCost (length self.now)
+            (C.counted counter.old) (C.counted counter.new) }
+        ensures least { IsLookUpCounted C.step (length self.now)
             (C.counted counter.old) (C.counted counter.new) }
     {
         place_of(self, &PrefixedKey::new(key), counter)

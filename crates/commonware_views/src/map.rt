@@ -9,8 +9,8 @@ ghost use Rattle.commonware_base.specs.Refusal.{Refuses};
 ghost use Rattle.commonware_base.specs.Source.{rest_of, Consumes};
 ghost use Rattle.commonware_map.specs.Maps.{map_enc};
 ghost use Rattle.commonware_sequence.specs.FixedBytes.{own_bytes};
-ghost use Rattle.commonware_views.specs.Costs.{IsHalvingCost};
-ghost use Rattle.commonware_ordered.specs.Costs.{StatesLength};
+ghost use Rattle.commonware_views.specs.Costs.{IsHalvingCost, IsLookUpCounted};
+ghost use Rattle.commonware_ordered.specs.Costs.{IsWholeOrderCost, StatesLength};
 ghost use Rattle.commonware_views.specs.Lists.{list_fault};
 ghost use Rattle.commonware_views.specs.Maps.{IsSizedMapOf, sized_map_fault};
 ghost use Rattle.commonware_views.specs.Sets.{IsOutOfOrderAt};
@@ -69,7 +69,8 @@ impl<'a> MapView<'a> {
     /// Finds what `read` does, and counts how many keys it compares with the next: whatever the
     /// input, at most as many as the most pairs that the range allows, and as the length that the
     /// input states first; none where no whole list of keys is read. It stops at the first key that
-    /// isn't less than the next: where this is at place k, it compares at most k + 2 times.
+    /// isn't less than the next: where this is at place k, it compares at most k + 2 times. In a
+    /// map that it returns each key was compared with the next, and counted.
     pub fn read_counted<C: Counter>(
         src: &mut Source<'a>,
         key_size: usize,
@@ -94,6 +95,8 @@ impl<'a> MapView<'a> {
             → C.counted counter.new ≡ C.counted counter.old }
         ensures stops { (k : ℕ) → IsOutOfOrderAt key_size range (rest_of src.old) k
             → C.counted counter.new ≤ C.counted counter.old + k + 2 }
+        ensures least { IfOk result (λ pairs. IsWholeOrderCost C.step (length pairs)
+            (C.counted counter.old) (C.counted counter.new)) }
     {
         next_pairs(src, key_size, value_size, range, counter)
     }
@@ -150,11 +153,13 @@ impl<'a> MapView<'a> {
     }
 
     /// Returns what `position` does, and counts how many keys it compares with the given one: of
-    /// fewer than 2^k keys at most k.
+    /// fewer than 2^k keys at most k, and at least one where there is a key.
     pub fn position_counted<C: Counter>(&self, key: &[u8], counter: &mut C) -> Option<usize>
         ensures place { (p : ℕ)
             → (result ≡ Some p) ↔ (slice_get (keys_of self.now) p ≡ Some key.now) }
         ensures cost { IsHalvingCost (length self.now)
+            (C.counted counter.old) (C.counted counter.new) }
+        ensures least { IsLookUpCounted C.step (length self.now)
             (C.counted counter.old) (C.counted counter.new) }
     {
         self.keys().position_counted(key, counter)
@@ -170,11 +175,13 @@ impl<'a> MapView<'a> {
     }
 
     /// Returns what `get_value` does, and counts how many keys it compares with the given one: of
-    /// fewer than 2^k keys at most k.
+    /// fewer than 2^k keys at most k, and at least one where there is a key.
     pub fn get_value_counted<C: Counter>(&self, key: &[u8], counter: &mut C) -> Option<&'a [u8]>
         ensures value { (value : List ℕ) → (option_copied result ≡ Some value)
             ↔ ((p : ℕ) × (slice_get self.now p ≡ Some (key.now, value))) }
         ensures cost { IsHalvingCost (length self.now)
+            (C.counted counter.old) (C.counted counter.new) }
+        ensures least { IsLookUpCounted C.step (length self.now)
             (C.counted counter.old) (C.counted counter.new) }
     {
         self.value(self.position_counted(key, counter)?)
@@ -204,6 +211,8 @@ fn next_pairs<'a, C: Counter>(
         → C.counted counter.new ≡ C.counted counter.old }
     ensures stops { (k : ℕ) → IsOutOfOrderAt key_size range (rest_of src.old) k
         → C.counted counter.new ≤ C.counted counter.old + k + 2 }
+    ensures least { IfOk result (λ pairs. IsWholeOrderCost C.step (length pairs)
+        (C.counted counter.old) (C.counted counter.new)) }
 {
     let mut here = *src;
     let keys = SetView::read_counted(&mut here, key_size, range, counter)?;

@@ -2,6 +2,7 @@
 ghost use Rattle.std.specs.Prelude.{◌≡◌, ◌↔◌, ◌+◌, ◌-◌, ◌<◌, ◌≤◌, ℕ, IsTrue, length};
 ghost use Rattle.std.specs.List.{AllAdjacentBelow};
 ghost use Rattle.std.specs.declared.cmp.Ordering.TheVariants.{Less};
+ghost use Rattle.commonware_ordered.specs.Costs.{IsWholeOrderCost};
 ghost use Rattle.commonware_ordered.specs.Strict.{IsLessThanNext, IsStrict};
 ghost use Rattle.commonware_sequence.specs.FixedBytes.{bytes_cmp};
 
@@ -21,6 +22,8 @@ pub(crate) fn are_strict<K: Keys<C>, C: Counter>(keys: &K, counter: &mut C) -> b
     ensures stops { (k : ℕ) → k + 1 < length (K.keys keys.now)
         → ¬ IsLessThanNext bytes_cmp (K.keys keys.now) k
         → C.counted counter.new ≤ C.counted counter.old + k + 2 }
+    ensures least { IsTrue result → IsWholeOrderCost C.step (length (K.keys keys.now))
+        (C.counted counter.old) (C.counted counter.new) }
 {
     let count = keys.count();
     if count < 2 {
@@ -53,6 +56,8 @@ fn are_strict_from<K: Keys<C>, C: Counter>(keys: &K, from: usize, counter: &mut 
     ensures stops { (k : ℕ) → k + 1 < length (K.keys keys.now)
         → ¬ IsLessThanNext bytes_cmp (K.keys keys.now) k
         → C.counted counter.new + from ≤ C.counted counter.old + k + 2 }
+    ensures least { IsTrue result → C.step ≡ 1
+        → C.counted counter.old + (length (K.keys keys.now) - from) ≤ C.counted counter.new }
 {
     let count = keys.count();
     let mut last = keys.key_at(from - 1);

@@ -5,7 +5,7 @@ ghost use Rattle.std.specs.List.{slice_get};
 ghost use Rattle.std.specs.declared.result.Result.TheVariants.{Ok};
 ghost use Rattle.commonware_ordered.specs.Strict.{IsStrict};
 ghost use Rattle.commonware_sequence.specs.FixedBytes.{bytes_cmp};
-ghost use Rattle.commonware_views.specs.Costs.{IsHalvingCost};
+ghost use Rattle.commonware_views.specs.Costs.{IsHalvingCost, IsLookUpCounted};
 ghost use Rattle.commonware_views.specs.Lists.{IsGapFor};
 
 use crate::counted::{CountedKey, Keys};
@@ -28,6 +28,7 @@ fn compare_middle<K: Keys<C>, C: Counter>(
     ensures inside { (low ≤ result.0) × (result.0 < high) }
     ensures value { (d : List ℕ) → result.1
         ≡ bytes_cmp (slice_index_or (K.keys keys.now) result.0 d) (K.Key.bytes key.now) }
+    ensures count { C.counted counter.new ≡ C.counted counter.old + C.step }
     ensures cost { (C.counted counter.new ≤ C.counted counter.old + 1)
         × (2 * (result.0 - low) ≤ high - low)
         × (2 * (high - (result.0 + 1)) ≤ high - low) }
@@ -51,6 +52,8 @@ pub(crate) fn place_of<K: Keys<C>, C: Counter>(
     ensures exactly { IsStrict bytes_cmp (K.keys keys.now) → (p : ℕ)
         → (result ≡ Ok p) ↔ (slice_get (K.keys keys.now) p ≡ Some (K.Key.bytes key.now)) }
     ensures cost { IsHalvingCost (length (K.keys keys.now))
+        (C.counted counter.old) (C.counted counter.new) }
+    ensures least { IsLookUpCounted C.step (length (K.keys keys.now))
         (C.counted counter.old) (C.counted counter.new) }
 {
     let mut low = 0;

@@ -9,8 +9,8 @@ ghost use Rattle.commonware_base.specs.Refusal.{Refuses};
 ghost use Rattle.commonware_base.specs.Source.{rest_of, Consumes};
 ghost use Rattle.commonware_ordered.specs.Strict.{IsStrict};
 ghost use Rattle.commonware_sequence.specs.FixedBytes.{bytes_cmp, own_bytes};
-ghost use Rattle.commonware_views.specs.Costs.{IsHalvingCost};
-ghost use Rattle.commonware_ordered.specs.Costs.{StatesLength};
+ghost use Rattle.commonware_views.specs.Costs.{IsHalvingCost, IsLookUpCounted};
+ghost use Rattle.commonware_ordered.specs.Costs.{IsWholeOrderCost, StatesLength};
 ghost use Rattle.commonware_views.specs.Lists.{list_fault};
 ghost use Rattle.commonware_views.specs.Sets.{IsKeySetOf, IsOutOfOrderAt, key_set_fault};
 
@@ -65,7 +65,8 @@ impl<'a> SetView<'a> {
     /// Finds what `read` does, and counts how many keys it compares with the next: whatever the
     /// input, at most as many as the most keys that the range allows, and as the length that the
     /// input states; none where no whole list is read. It stops at the first key that isn't less
-    /// than the next: where this is at place k, it compares at most k + 2 times.
+    /// than the next: where this is at place k, it compares at most k + 2 times. In a set that it
+    /// returns each key was compared with the next, and counted.
     #[inline(always)]
     pub fn read_counted<C: Counter>(
         src: &mut Source<'a>,
@@ -90,6 +91,8 @@ impl<'a> SetView<'a> {
             → C.counted counter.new ≡ C.counted counter.old }
         ensures stops { (k : ℕ) → IsOutOfOrderAt size range (rest_of src.old) k
             → C.counted counter.new ≤ C.counted counter.old + k + 2 }
+        ensures least { IfOk result (λ keys. IsWholeOrderCost C.step (length keys)
+            (C.counted counter.old) (C.counted counter.new)) }
     {
         next_keys(src, size, range, counter)
     }
@@ -151,11 +154,13 @@ impl<'a> SetView<'a> {
     }
 
     /// Returns what `position` does, and counts how many keys it compares with the given one: of
-    /// fewer than 2^k keys at most k.
+    /// fewer than 2^k keys at most k, and at least one where there is a key.
     #[inline(always)]
     pub fn position_counted<C: Counter>(&self, key: &[u8], counter: &mut C) -> Option<usize>
         ensures place { (p : ℕ) → (result ≡ Some p) ↔ (slice_get self.now p ≡ Some key.now) }
         ensures cost { IsHalvingCost (length self.now)
+            (C.counted counter.old) (C.counted counter.new) }
+        ensures least { IsLookUpCounted C.step (length self.now)
             (C.counted counter.old) (C.counted counter.new) }
     {
         self.keys.binary_search_counted(key, counter).ok()
@@ -193,6 +198,8 @@ fn next_keys<'a, C: Counter>(
         → C.counted counter.new ≡ C.counted counter.old }
     ensures stops { (k : ℕ) → IsOutOfOrderAt size range (rest_of src.old) k
         → C.counted counter.new ≤ C.counted counter.old + k + 2 }
+    ensures least { IfOk result (λ keys. IsWholeOrderCost C.step (length keys)
+        (C.counted counter.old) (C.counted counter.new)) }
 {
     let mut here = *src;
     let keys = ListView::read(&mut here, size, range)?;

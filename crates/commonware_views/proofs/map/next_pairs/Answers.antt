@@ -1,4 +1,4 @@
-use Rattle.std.proofs.Common.{◌≡◌, ◌∙◌, ◌++◌, ap, sym, subst, subst₂, length}
+use Rattle.std.proofs.Common.{◌≡◌, ◌∙◌, ◌++◌, ap, arith, sym, subst, subst₂, length}
 use Rattle.std.proofs.lemmas.Map.Made.{keys_of-zip}
 use Rattle.commonware_base.proofs.Errors.{err_along}
 use Rattle.commonware_base.proofs.SourceLemmas.{consumes_both}
@@ -11,6 +11,7 @@ use Rattle.commonware_base.specs.Source.{Consumes, rest_of}
 use Rattle.commonware_map.proofs.Columns.{values_of-zip}
 use Rattle.commonware_map.proofs.MapReads.{accepts_map, as_many}
 use Rattle.commonware_sequence.specs.FixedBytes.{IsOfSize, bytes_cmp, own_bytes}
+use Rattle.commonware_views.proofs.Pairs.{pairs_number}
 use Rattle.commonware_views.specs.Lists.{Any, list_fault}
 use Rattle.commonware_views.specs.Maps.{sized_map_fault}
 use Rattle.commonware_views.specs.Sets.{key_set_fault}
@@ -59,3 +60,12 @@ returns-clause-consumed g c =
     let even = as_many Any (length keys) values allowed in
     let both = consumes_both c.args.src.now c.read_counted.new.src c.read.new.src (list_enc own_bytes keys) (list_enc own_bytes values) c.in_ok-keys.ensures.consumed c.in_ok-values.ensures.consumed in
     subst₂ (λ ks vs. Consumes c.args.src.now c.read.new.src (list_enc own_bytes ks ++ list_enc own_bytes vs)) (sym (keys_of-zip keys values even)) (sym (values_of-zip keys values even)) both
+
+pub returns-clause-least : goal.returns-clause-least
+returns-clause-least g c = λ one.
+    let keys = c.in_ok-keys.keys in
+    let values = c.in_ok-values.values in
+    let range : c.exact.result ≡ exactly (length keys) = c.exact.ensures.bounds ∙ ap exactly c.len.ensures in
+    let allowed : IsAllowedList (exactly (length keys)) Any values = subst (λ r. IsAllowedList r Any values) range c.in_ok-values.ensures.accepted.allowed in
+    let number = pairs_number keys values (as_many Any (length keys) values allowed) in
+    omega (arith, number, c.in_ok-keys.ensures.least one)

@@ -36,6 +36,7 @@ loop-i-preserved g c =
       (λ d. c.key_at-next.ensures d ∙ ap (λ n. get_or keys n d) back),
       one_more_rises keys i last next c.loop-i.invariant.0 (omega (arith, c.loop-i-test.true, number)) c.loop-i.invariant.2 c.key_at-next.ensures less c.loop-i.invariant.3,
       (let a = c.order_by_prefix.ensures.cost in let h = c.loop-i.invariant.4 in omega arith),
+      (λ one. let a = c.order_by_prefix.ensures.count in let h = c.loop-i.invariant.5 one in omega arith),
     )
 
 pub returns-clause-strict : goal.returns-clause-strict
@@ -50,3 +51,15 @@ returns-in-None-clause-stops g c = λ k inside faulty.
     let one = c.order_by_prefix.ensures.cost in
     let h = c.loop-i.invariant.4 in
     omega arith
+
+pub returns-in-None-clause-least : goal.returns-in-None-clause-least
+returns-in-None-clause-least g c = λ yes one.
+    let rest = c.are_strict_from.ensures.least yes one in
+    let first = c.order_by_prefix.ensures.count in
+    let h = c.loop-i.invariant.5 one in
+    omega arith
+
+pub returns-clause-least : goal.returns-clause-least
+returns-clause-least g c = λ _ one.
+    let h = c.loop-i.invariant.5 one in
+    omega (arith, h, c.count-count.ensures, c.loop-i-test.false)

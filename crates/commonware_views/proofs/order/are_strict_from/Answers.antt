@@ -30,6 +30,7 @@ loop-i-preserved g c =
       (λ d. c.key_at-next.ensures d ∙ ap (λ n. get_or keys n d) back),
       one_more_rises keys i last next c.loop-i.invariant.0 (omega (arith, c.loop-i-test.true, number)) c.loop-i.invariant.2 c.key_at-next.ensures less c.loop-i.invariant.3,
       (let a = c.order.ensures.cost in let h = c.loop-i.invariant.4 in omega arith),
+      (λ one. let a = c.order.ensures.count in let h = c.loop-i.invariant.5 one in omega arith),
     )
 
 pub returns-clause-strict : goal.returns-clause-strict
@@ -37,3 +38,8 @@ returns-clause-strict g c = (
   (λ _ k d h. c.loop-i.invariant.3 k d (omega (arith, h, c.count-count.ensures, c.loop-i-test.false))),
   (λ _. refl),
 )
+
+pub returns-clause-least : goal.returns-clause-least
+returns-clause-least g c = λ _ one.
+    let h = c.loop-i.invariant.5 one in
+    omega (arith, h, c.count-count.ensures, c.loop-i-test.false)

@@ -10,6 +10,7 @@ invariant-loop-i g l =
     (0 < l.i) × (l.i ≤ length keys) × ((d : List ℕ) → g.K.Key.CountedKey.bytes l.last ≡ get_or keys (l.i - 1) d)
     × AllAdjacentBelow (λ x y. bytes_cmp x y ≡ Less) keys l.i
     × (g.C.Counter.counted l.counter + l.from ≤ g.C.Counter.counted l.fn.counter + l.i)
+    × (g.C.Counter.step ≡ 1 → g.C.Counter.counted l.fn.counter + l.i ≤ g.C.Counter.counted l.counter + l.from)
 
 abbrev pub decreases-loop-i : goal.decreases-loop-i
 decreases-loop-i g l = l.count - l.i

@@ -7,7 +7,7 @@ use Rattle.std.specs.declared.cmp.Ordering.TheVariants.{Less, Greater}
 use Rattle.std.proofs.lemmas.Map.Lookups.{exact_bytes}
 use Rattle.std.proofs.lemmas.Option.{slice_get_read, slice_get_within, get_or_from_slice_get}
 use Rattle.commonware_sequence.specs.FixedBytes.{bytes_cmp}
-use Rattle.commonware_views.proofs.Halving.{left_by_halving, halving_at_first, found_by_halving, cost_of_halving}
+use Rattle.commonware_views.proofs.Halving.{left_by_halving, halving_at_first, found_by_halving, cost_of_halving, one_more_counted}
 use Rattle.commonware_views.proofs.NoGap.{not_in_gap, same_place}
 use Rattle.commonware_views.proofs.search.place_of.Goals as goal
 
@@ -29,11 +29,13 @@ loop-low-preserved-in-Less g c =
       c.loop-low.invariant.1,
       (λ _ d. subst (λ n. bytes_cmp (get_or keys n d) key ≡ Less) back (sym (c.compare_middle-middle.ensures.value d) ∙ c.in-Less.is)),
       c.loop-low.invariant.3,
-      λ k few. left_by_halving (g.C.Counter.counted c.args.counter.now) (g.C.Counter.counted c.loop-low.counter) (g.C.Counter.counted c.compare_middle-middle.new.counter) (c.loop-low.high - c.loop-low.low) (c.loop-low.high - (middle + 1)) k c.compare_middle-middle.ensures.cost.0 (omega (arith, up, down)) less (c.loop-low.invariant.4 k few),
+      (λ k few. left_by_halving (g.C.Counter.counted c.args.counter.now) (g.C.Counter.counted c.loop-low.counter) (g.C.Counter.counted c.compare_middle-middle.new.counter) (c.loop-low.high - c.loop-low.low) (c.loop-low.high - (middle + 1)) k c.compare_middle-middle.ensures.cost.0 (omega (arith, up, down)) less (c.loop-low.invariant.4 k few)),
+      (λ one. one_more_counted (length keys) (c.loop-low.high - c.loop-low.low) (c.loop-low.high - (middle + 1)) (g.C.Counter.counted c.args.counter.now) (g.C.Counter.counted c.loop-low.counter) (g.C.Counter.counted c.compare_middle-middle.new.counter) _ c.compare_middle-middle.ensures.count one (c.loop-low.invariant.5 one)),
     )
 
 pub loop-low-preserved : goal.loop-low-preserved
 loop-low-preserved g c =
+    let keys = g.K.Keys.keys c.args.keys.now in
     let middle = c.compare_middle-middle.result.0 in
     let up = c.compare_middle-middle.ensures.inside.0 in
     let down = c.compare_middle-middle.ensures.inside.1 in (
@@ -41,7 +43,8 @@ loop-low-preserved g c =
       omega (arith, down, c.loop-low.invariant.1),
       c.loop-low.invariant.2,
       (λ _ d. sym (c.compare_middle-middle.ensures.value d) ∙ c.in-Greater.is),
-      λ k few. left_by_halving (g.C.Counter.counted c.args.counter.now) (g.C.Counter.counted c.loop-low.counter) (g.C.Counter.counted c.compare_middle-middle.new.counter) (c.loop-low.high - c.loop-low.low) (middle - c.loop-low.low) k c.compare_middle-middle.ensures.cost.0 (omega (arith, up, down)) c.compare_middle-middle.ensures.cost.1 (c.loop-low.invariant.4 k few),
+      (λ k few. left_by_halving (g.C.Counter.counted c.args.counter.now) (g.C.Counter.counted c.loop-low.counter) (g.C.Counter.counted c.compare_middle-middle.new.counter) (c.loop-low.high - c.loop-low.low) (middle - c.loop-low.low) k c.compare_middle-middle.ensures.cost.0 (omega (arith, up, down)) c.compare_middle-middle.ensures.cost.1 (c.loop-low.invariant.4 k few)),
+      (λ one. one_more_counted (length keys) (c.loop-low.high - c.loop-low.low) (middle - c.loop-low.low) (g.C.Counter.counted c.args.counter.now) (g.C.Counter.counted c.loop-low.counter) (g.C.Counter.counted c.compare_middle-middle.new.counter) _ c.compare_middle-middle.ensures.count one (c.loop-low.invariant.5 one)),
     )
 
 pub returns-in-Equal-clause-found : goal.returns-in-Equal-clause-found
@@ -87,7 +90,8 @@ loop-low-init g c = (
   omega (arith, c.count-high.ensures),
   (λ never. absurd (omega (arith, never))),
   (λ less. absurd (omega (arith, less, c.count-high.ensures))),
-  λ k few. halving_at_first (g.C.Counter.counted c.args.counter.now) (c.count-high.result - 0) k (omega (arith, few, c.count-high.ensures)),
+  (λ k few. halving_at_first (g.C.Counter.counted c.args.counter.now) (c.count-high.result - 0) k (omega (arith, few, c.count-high.ensures))),
+  (λ _. (omega arith, λ less. absurd (omega (arith, less, c.count-high.ensures)))),
 )
 
 pub returns-in-Equal-clause-cost : goal.returns-in-Equal-clause-cost
@@ -97,3 +101,11 @@ returns-in-Equal-clause-cost g c = λ k few.
 
 pub returns-clause-cost : goal.returns-clause-cost
 returns-clause-cost g c = λ k few. cost_of_halving (g.C.Counter.counted c.args.counter.now) (g.C.Counter.counted c.loop-low.counter) (c.loop-low.high - c.loop-low.low) k (c.loop-low.invariant.4 k few)
+
+pub returns-in-Equal-clause-least : goal.returns-in-Equal-clause-least
+returns-in-Equal-clause-least g c = λ one some.
+    let before = (c.loop-low.invariant.5 one).0 in
+    omega (arith, before, one, c.compare_middle-middle.ensures.count)
+
+pub returns-clause-least : goal.returns-clause-least
+returns-clause-least g c = λ one some. (c.loop-low.invariant.5 one).1 (omega (arith, some, c.loop-low-test.false))
