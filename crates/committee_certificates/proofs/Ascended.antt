@@ -66,6 +66,18 @@ module _ (P : Type 0) (IsAt : P → List ℕ → Type 0) where
   module _ (left index : P → ℕ) (at_end : (place : P) → IsAt place [] → left place ≡ 0)
       (at_index : (place : P) (i : ℕ) (indices : List ℕ) → IsAt place (i ∷ indices)
       → (left place ≡ suc (length indices)) × (index place ≡ i)) where
+    -- as many are left as there are
+    pub left_is : (place : P) (indices : List ℕ) → IsAt place indices → left place ≡ length indices
+    left_is place [] at = at_end place at
+    left_is place (i ∷ indices) at = (at_index place i indices at).0
+
+    -- after an index one fewer is left
+    pub one_fewer : (place next : P) (indices : List ℕ) → IsAt place indices → 0 < left place → IsNext place next
+        → left place ≡ left next + 1
+    one_fewer place next [] at some step = absurd (omega (arith, at_end place at, some))
+    one_fewer place next (i ∷ indices) at some step =
+        omega (arith, (at_index place i indices at).0, left_is next indices (step i indices at))
+
     module _ (first second : List ℕ) (one two : P) (count : ℕ) (old_room room : List ℕ)
         (p : ArePassed first second one two count old_room room) where
       module _ (first_left : 0 < left one) (second_left : 0 < left two) where

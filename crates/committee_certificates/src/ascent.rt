@@ -6,6 +6,7 @@ ghost use Rattle.std.specs.Prelude.{[], ◌∷◌, length, suc};
 ghost use Rattle.std.specs.Ordering.{MatchOrdering, nat_cmp};
 ghost use Rattle.commonware_ordered.specs.Strict.{IsStrict};
 ghost use Rattle.committee_certificates.specs.InPlace.{AreWrittenBoth, written};
+ghost use Rattle.committee_certificates.specs.WalkCosts.{IsWalkedToAnEnd};
 
 use commonware_ordered::Counter;
 use std::cmp::Ordering;
@@ -63,7 +64,8 @@ pub(crate) trait Ascent<C: Counter>: Copy {
 
 /// Writes the indices that are left at both places to the start of the room, in order, as many as
 /// it has places for, and returns how many there are. Each comparison walks past an index of one of
-/// the two, or past one of both.
+/// the two, or past one of both, and the walk goes to the end of one of them: so there are at least
+/// as many as one of them has indices.
 #[inline(always)]
 pub(crate) fn write_common<P: Ascent<C>, C: Counter>(
     first: P,
@@ -77,6 +79,10 @@ pub(crate) fn write_common<P: Ascent<C>, C: Counter>(
         → AreWrittenBoth firsts seconds result (P.indices out.old) (P.indices out.new) }
     ensures cost { C.counted count.new + result
         ≤ C.counted count.old + P.left first + P.left second }
+    ensures least { (firsts seconds : List ℕ) → IsStrict nat_cmp firsts → IsStrict nat_cmp seconds
+        → P.is_at first firsts → P.is_at second seconds
+        → IsWalkedToAnEnd C.step (length firsts) (length seconds)
+        (C.counted count.old) (C.counted count.new) }
 {
     let mut one = first;
     let mut two = second;

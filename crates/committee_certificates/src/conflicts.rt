@@ -3,6 +3,7 @@ ghost use Rattle.std.specs.Prelude.{◌≡◌, ◌≢◌, ◌+◌, ◌*◌, ◌<
 ghost use Rattle.committee_certificates.specs.declared.conflicts.ConflictError.TheVariants.{Memory, Outside, TooFew};
 ghost use Rattle.committee_certificates.specs.Signers.{AreInBoth, AreMembers, AreQuorum, AreTooFew};
 ghost use Rattle.committee_certificates.specs.Signers.{HasOutsider, LeavesOneOutside, OutnumberFaults};
+ghost use Rattle.committee_certificates.specs.WalkCosts.{IsWalkedToAnEnd};
 ghost use Rattle.commonware_faults.specs.Counts.{IsCommitteeSize};
 ghost use Rattle.commonware_faults.specs.Subsets.{Greatest, Greatest3, Greatest5};
 ghost use Rattle.commonware_ordered.specs.Strict.{IsStrict};
@@ -139,7 +140,7 @@ pub fn conflict_among<A: Allocator>(
 
 /// Returns what `conflict_among` does, and counts how often it compares a signer of one certificate
 /// with one of the other: at most as often as there are signers in both, where those that signed
-/// both are counted once.
+/// both are counted once; and for an Ok at least as often as one of them has signers.
 pub fn conflict_among_counted<A: Allocator, C: Counter>(
     alloc: A,
     members: usize,
@@ -171,6 +172,9 @@ pub fn conflict_among_counted<A: Allocator, C: Counter>(
         ≤ C.counted count.old + length first.now.signers + length second.now.signers }
     ensures once { IfOk result (λ both. C.counted count.new + length both
         ≤ C.counted count.old + length first.now.signers + length second.now.signers) }
+    ensures least { OnOk result (IsWalkedToAnEnd C.step
+        (length first.now.signers) (length second.now.signers)
+        (C.counted count.old) (C.counted count.new)) }
 {
     let first_signers = first.signers.as_slice();
     let second_signers = second.signers.as_slice();

@@ -5,6 +5,7 @@ ghost use Rattle.committee_certificates.specs.Accountability.{EachHasEquivocated
 ghost use Rattle.committee_certificates.specs.Signers.{AreInBoth, AreMembers, AreQuorum, AreTooFew};
 ghost use Rattle.committee_certificates.specs.Signers.{HasOutsider, LeavesOneOutside, OutnumberFaults};
 ghost use Rattle.committee_certificates.specs.Slots.{AreOfOtherSlots, AreOneDecision, Contradict, HasSlot};
+ghost use Rattle.committee_certificates.specs.WalkCosts.{IsWalkedToAnEnd};
 ghost use Rattle.commonware_faults.specs.Counts.{IsCommitteeSize};
 ghost use Rattle.commonware_faults.specs.Subsets.{Greatest, Greatest3, Greatest5};
 
@@ -155,7 +156,7 @@ pub fn equivocation_among<A: Allocator>(
 
 /// Returns what `equivocation_among` does, and counts how often it compares a signer of one
 /// certificate with one of the other: at most as often as there are signers in both, where those
-/// that signed both are counted once.
+/// that signed both are counted once; and for an Ok at least as often as one of them has signers.
 pub fn equivocation_among_counted<A: Allocator, C: Counter>(
     alloc: A,
     members: usize,
@@ -202,6 +203,9 @@ pub fn equivocation_among_counted<A: Allocator, C: Counter>(
         ≤ C.counted count.old + length first.now.signers + length second.now.signers }
     ensures once { IfOk result (λ both. C.counted count.new + length both
         ≤ C.counted count.old + length first.now.signers + length second.now.signers) }
+    ensures least { OnOk result (IsWalkedToAnEnd C.step
+        (length first.now.signers) (length second.now.signers)
+        (C.counted count.old) (C.counted count.new)) }
 {
     check_values(&first.value, &second.value)?;
     match conflict_among_counted(alloc, members, faults, first, second, count) {

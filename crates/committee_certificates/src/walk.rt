@@ -4,6 +4,7 @@ ghost use Rattle.std.specs.Ordering.{MatchOrdering};
 ghost use Rattle.committee_certificates.specs.Cursors.{GoesOnWith, IsAt};
 ghost use Rattle.committee_certificates.specs.InPlace.{AreSignersAt, AreWrittenBoth, sum_at, written};
 ghost use Rattle.committee_certificates.specs.Signers.{AreMembers};
+ghost use Rattle.committee_certificates.specs.WalkCosts.{IsWalkedToAnEnd};
 
 use crate::ascent::{Ascent, write_common};
 use crate::in_place::SignersAt;
@@ -68,7 +69,7 @@ pub fn write_both(first: &SignersAt<'_>, second: &SignersAt<'_>, out: &mut [u32]
 
 /// Returns and writes what `write_both` does, and counts how often it compares an index with one of
 /// the other signers: at most as often as there are signers, where those among both are counted
-/// once.
+/// once, and at least as often as one of the two has signers.
 pub fn write_both_counted<C: Counter>(
     first: &SignersAt<'_>,
     second: &SignersAt<'_>,
@@ -79,6 +80,9 @@ pub fn write_both_counted<C: Counter>(
         → AreWrittenBoth one two result out.old out.new }
     ensures cost { (one two : List ℕ) → AreSignersAt first.now one → AreSignersAt second.now two
         → C.counted count.new + result ≤ C.counted count.old + length one + length two }
+    ensures least { (one two : List ℕ) → AreSignersAt first.now one → AreSignersAt second.now two
+        → IsWalkedToAnEnd C.step (length one) (length two)
+        (C.counted count.old) (C.counted count.new) }
 {
     write_common(first_place(first), first_place(second), out, count)
 }

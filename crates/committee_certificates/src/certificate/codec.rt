@@ -7,7 +7,7 @@ ghost use Rattle.commonware_base.specs.Sequence.{sequence_case};
 ghost use Rattle.commonware_base.specs.Source.{rest_of, Consumes};
 ghost use Rattle.commonware_base.specs.Text.{Accepts};
 ghost use Rattle.commonware_base.specs.laws.TextLaws.{canonical_on, laws_on, prefix_free_on};
-ghost use Rattle.commonware_ordered.specs.Costs.{IsOrderCost};
+ghost use Rattle.commonware_ordered.specs.Costs.{IsOrderCost, IsWholeOrderCost};
 ghost use Rattle.committee_certificates.specs.Certificates.{are_equal_parts, certificate_enc, parts};
 ghost use Rattle.committee_certificates.specs.Certificates.{CertificateFault, IsAllowedCertificate};
 ghost use Rattle.committee_certificates.specs.Certificates.{IsCertificateMemoryFree, IsWritableCertificate};
@@ -80,7 +80,8 @@ impl<A: Allocator + Copy> Read<A> for Certificate<A> {
 /// Decodes a certificate under a range for the length of its value and one for the number of its
 /// signers, as `Certificate::read_cfg` does, and counts the comparisons of two signers: whatever
 /// the input, none, or fewer than the signers that it states and than the most that the range
-/// allows; and none after the first that isn't less than the next.
+/// allows; and none after the first that isn't less than the next. In a certificate that it returns
+/// each signer was compared with the next, and counted.
 pub fn read_certificate_counted<A: Allocator + Copy, C: Counter>(
     alloc: A,
     src: &mut Source<'_>,
@@ -104,6 +105,8 @@ pub fn read_certificate_counted<A: Allocator + Copy, C: Counter>(
         (C.counted count.old) (C.counted count.new) }
     ensures stated { (n : ℕ) → StatesSigners (rest_of src.old) n
         → IsOrderCost n (C.counted count.old) (C.counted count.new) }
+    ensures least { IfOk result (λ c. IsWholeOrderCost C.step (length c.signers)
+        (C.counted count.old) (C.counted count.new)) }
 {
     let mut here = *src;
     let value = read_list::<u8, A>(alloc, &mut here, value_range, &())?;

@@ -34,6 +34,8 @@ loop-i-preserved-then-is_lt g c =
       omega arith,
       c.loop-i.invariant.2,
       omega arith,
+      (λ counts. let h = c.loop-i.invariant.4 counts in let b = c.cmp_places-order.ensures.count in omega (arith, counts)),
+      (λ counts. let h = c.loop-i.invariant.5 counts in let b = c.cmp_places-order.ensures.count in omega (arith, counts)),
     )
 
 pub loop-i-preserved : goal.loop-i-preserved
@@ -51,6 +53,8 @@ loop-i-preserved g c =
       omega arith,
       omega arith,
       omega arith,
+      (λ counts. let h = c.loop-i.invariant.4 counts in let b = c.cmp_places-order.ensures.count in omega (arith, counts)),
+      (λ counts. let h = c.loop-i.invariant.5 counts in let b = c.cmp_places-order.ensures.count in omega (arith, counts)),
     )
 
 pub returns-clause-shared : goal.returns-clause-shared
@@ -62,3 +66,9 @@ returns-clause-shared g c =
     ] in
     merged_end g.T.Order.order g.T.Order.same g.met.T.CountedOrd.total g.met.T.CountedOrd.ties c.args.first.now c.args.second.now c.requires.first_strict c.requires.second_strict
     over c.loop-i.invariant.0
+
+pub returns-clause-least : goal.returns-clause-least
+returns-clause-least g c = λ counts. elim c.loop-i-test.branch [
+  | then-loop-i-test+else-j-second w ↦ let j = c.loop-i.invariant.5 counts in inr (omega arith)
+  | else-loop-i-test w ↦ let i = c.loop-i.invariant.4 counts in inl (omega arith)
+]
