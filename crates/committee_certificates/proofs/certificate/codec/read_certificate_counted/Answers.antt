@@ -51,11 +51,13 @@ returns-in_err-signers-clause-stated g c = λ n states.
     let a = c.in_ok-value.ensures in
     let begins : HasAfterValue (rest_of c.args.src.now) (rest_of c.read_list.new.src) =
     record { value = c.in_ok-value.value.items; writable = a.writable; begins = a.consumed.rest } in
-    c.in_err-signers.ensures.stated n (subst (λ u. StatesLength u n) (one_after_value (rest_of c.args.src.now) states.0 (rest_of c.read_list.new.src) states.1 begins) states.2)
+    let most = c.in_err-signers.ensures.stated n (subst (λ u. StatesLength u n) (one_after_value (rest_of c.args.src.now) states.0 (rest_of c.read_list.new.src) states.1 begins) states.2) in
+    omega arith
 
 pub returns-clause-stated : goal.returns-clause-stated
 returns-clause-stated g c = λ n states.
     let a = c.in_ok-value.ensures in
     let begins : HasAfterValue (rest_of c.args.src.now) (rest_of c.read_list.new.src) =
     record { value = c.in_ok-value.value.items; writable = a.writable; begins = a.consumed.rest } in
-    c.in_ok-signers.ensures.stated n (subst (λ u. StatesLength u n) (one_after_value (rest_of c.args.src.now) states.0 (rest_of c.read_list.new.src) states.1 begins) states.2)
+    let most = c.in_ok-signers.ensures.stated n (subst (λ u. StatesLength u n) (one_after_value (rest_of c.args.src.now) states.0 (rest_of c.read_list.new.src) states.1 begins) states.2) in
+    omega arith
