@@ -140,7 +140,7 @@ pub fn conflict_among<A: Allocator>(
 
 /// Returns what `conflict_among` does, and counts how often it compares a signer of one certificate
 /// with one of the other: at most as often as there are signers in both, where those that signed
-/// both are counted once; and for an Ok at least as often as one of them has signers.
+/// both are counted once; and for an Ok at least as often as one of the certificates has signers.
 pub fn conflict_among_counted<A: Allocator, C: Counter>(
     alloc: A,
     members: usize,
