@@ -6,6 +6,7 @@ ghost use Rattle.commonware_c.specs.Certificates.{IsWhole, LacksRoom};
 ghost use Rattle.commonware_c.specs.Conflicting.{AreBothFound, AreConflicting, IsViewOfBoth};
 ghost use Rattle.committee_certificates.specs.InPlace.{AreSignersAt};
 ghost use Rattle.committee_certificates.specs.Signers.{AreInBoth, AreQuorum};
+ghost use Rattle.committee_certificates.specs.WalkCosts.{IsWalkedToAnEnd};
 ghost use Rattle.commonware_c.specs.Status.{IsOfInput};
 
 use crate::certificates::find_whole;
@@ -187,7 +188,8 @@ pub(crate) fn view_of_both(
 /// Returns what `view_of_both` does, and counts how often it compares a signer of one certificate
 /// with one of the other: at most as often as both have signers; or at most twice as often, where
 /// the room is shorter than either list of signers and long enough for those that signed both,
-/// since these are counted before they are written.
+/// since these are counted before they are written; and, whatever the room, at least as often as
+/// one of the certificates has signers.
 fn view_of_both_counted<C: Counter>(
     first: &SignersAt<'_>,
     second: &SignersAt<'_>,
@@ -201,6 +203,9 @@ fn view_of_both_counted<C: Counter>(
     ensures once { (one two : List ℕ) → AreSignersAt first.now one → AreSignersAt second.now two
         → (result.status ≢ 0) ⊎ (length one ≤ length out.old) ⊎ (length two ≤ length out.old)
         → C.counted counter.new ≤ C.counted counter.old + (length one + length two) }
+    ensures least { (one two : List ℕ) → AreSignersAt first.now one → AreSignersAt second.now two
+        → IsWalkedToAnEnd C.step (length one) (length two)
+        (C.counted counter.old) (C.counted counter.new) }
 {
     if let Some(count) = lacking(first, second, out.len(), counter) {
         return view(ROOM, count);
@@ -227,6 +232,10 @@ fn lacking<C: Counter>(
     ensures free { (one two : List ℕ) → AreSignersAt first.now one → AreSignersAt second.now two
         → (length one ≤ places) ⊎ (length two ≤ places)
         → C.counted counter.new ≡ C.counted counter.old }
+    ensures least { (one two : List ℕ) → AreSignersAt first.now one → AreSignersAt second.now two
+        → places < length one → places < length two
+        → IsWalkedToAnEnd C.step (length one) (length two)
+        (C.counted counter.old) (C.counted counter.new) }
 {
     // Those that signed both are no more than those that signed one, so most rooms are large enough
     // whoever signed.

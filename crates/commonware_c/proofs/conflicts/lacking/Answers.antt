@@ -26,3 +26,18 @@ pub returns-else-count-places-3-clause-some : goal.returns-else-count-places-3-c
 returns-else-count-places-3-clause-some g c = λ one two first second.
     let w = c.write_both_counted-count.ensures.both one two first second in
     (w.both, w.in_both, w.count_is, omega (arith, c.if-count-places-3.false))
+
+pub returns-then-count-places-clause-least : goal.returns-then-count-places-clause-least
+returns-then-count-places-clause-least g c = λ one two first second less less'. absurd (elim c.then-count-places.branch [
+  | then-count-places-via-then-count-places w ↦ omega (arith, w.if-count-places.true, c.count.ensures.count one first, less)
+  | then-count-places-via-else-count-places+then-count-places-2 w ↦
+      omega (arith, w.if-count-places-2.true, w.count-else-count-places.ensures.count two second, less')
+])
+
+pub returns-then-count-places-3-clause-least : goal.returns-then-count-places-3-clause-least
+returns-then-count-places-3-clause-least g c = λ one two first second less less'.
+    c.write_both_counted-count.ensures.least one two first second
+
+pub returns-else-count-places-3-clause-least : goal.returns-else-count-places-3-clause-least
+returns-else-count-places-3-clause-least g c = λ one two first second less less'.
+    c.write_both_counted-count.ensures.least one two first second
