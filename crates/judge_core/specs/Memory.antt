@@ -17,7 +17,7 @@ use Rattle.judge_verdicts.specs.Collections.{MayFailToAllocateToFindIn, lists_of
 use Rattle.judge_verdicts.specs.Conflicts.{MayFailToAllocateToJudgeBoth}
 use Rattle.judge_verdicts.specs.Quorums.{MayFailToAllocateToJudge}
 use Rattle.judge_verdicts.specs.Readings.{reading_of}
-use Rattle.judge_verdicts.specs.Weights.{listed_numbers}
+use Rattle.judge_verdicts.specs.Weights.{MayFailToAllocateToWeigh}
 use Rattle.judge_core.specs.Answered.{AsksBy, asked_from}
 
 -- no word of the line is long, and where it asks for a reading, that is memory-free
@@ -26,8 +26,8 @@ pub record IsReadingMemoryFree (line : List ℕ) : Type 0 where
   pub reading : (form : Form) (limits : Limits) (text : List ℕ) → IsQuestion line form limits text
       → (reading_of form limits).MemoryFree text
 
--- No allocation fails as the line is answered: none of its words is long; and what is read or built or looked up takes
--- no memory, as certificates and weights that are read do.
+-- No allocation fails as the line is answered: none of its words is long; reading what it asks of, a set, a certificate
+-- or weights among them, is memory-free; and nothing is built.
 pub record IsLineMemoryFree (line : List ℕ) : Type 0 where
   pub readings : IsReadingMemoryFree line
   pub builds : (unique : Bool) (collection : Collection) (text : List ℕ)
@@ -41,13 +41,13 @@ pub record IsLineMemoryFree (line : List ℕ) : Type 0 where
       → AsksBy line (both_verb by_slot) (λ words. AsksForConflict words k n one other)
       → ¬ MayFailToAllocateToJudgeBoth one other
   pub weights : (k : ℕ) (list : List ℕ) → AsksBy line Weights (λ words. AsksForWeights words k list)
-      → ¬ MayFailToAllocateToBuild listed_numbers list
+      → ¬ MayFailToAllocateToWeigh list
   pub weighted_quorums : (k : ℕ) (list text : List ℕ)
       → AsksBy line WeightedQuorum (λ words. AsksForWeightedQuorum words k list text)
-      → ¬ MayFailToAllocateToBuild listed_numbers list
+      → ¬ MayFailToAllocateToWeigh list
   pub weighted_conflicts : (by_slot : Bool) (k : ℕ) (list one other : List ℕ)
       → AsksBy line (weighted_both_verb by_slot) (λ words. AsksForWeightedConflict words k list one other)
-      → ¬ MayFailToAllocateToBuild listed_numbers list
+      → ¬ MayFailToAllocateToWeigh list
 
 -- each of the numbered lines has fewer than 4096 bytes and is answered without an allocation
 abbrev pub AreMemoryFree : List (ℕ × List ℕ) → Type 0

@@ -23,10 +23,11 @@ AreMisread first second what =
     ⊎ ((one : List ℕ × List ℕ) × IsWhole (a_certificate full full) first one
     × IsMisread (a_certificate full full) second what)
 
--- an allocation may fail as the first certificate is read; where it is one, as the second is read, or once both are
+-- An allocation may fail only where reading the first certificate isn't memory-free, or where it is a certificate and
+-- reading the second isn't. Members are named only where both have signers, and then neither reading is.
 abbrev pub MayFailToAllocateToJudgeBoth : List ℕ → List ℕ → Type 0
 MayFailToAllocateToJudgeBoth first second =
-    (¬ (a_certificate full full).MemoryFree first)
+    MayFailToAllocateToJudge first
     ⊎ ((one : List ℕ × List ℕ) × IsWhole (a_certificate full full) first one × MayFailToAllocateToJudge second)
 
 -- a quorum of members signed each of two certificates, and no one else

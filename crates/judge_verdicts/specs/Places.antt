@@ -22,8 +22,9 @@ module _ (range : Bounds ℕ) (item : Reading) (eq : item.Value → item.Value �
       IsMisread (set_of range item cmp) set_text what
       ⊎ ((set : List item.Value) × IsWhole (set_of range item cmp) set_text set × IsMisread item item_text what)
 
--- an allocation may fail as the set is read, or as the item is
+-- an allocation may fail only where reading the set isn't memory-free, or where it is a set and reading the item isn't
 abbrev pub MayFailToAllocateToFind : Bounds ℕ → (item : Reading) → (item.Value → item.Value → Ordering) → List ℕ
     → List ℕ → Type 0
 MayFailToAllocateToFind range item cmp set_text item_text =
-    (¬ (set_of range item cmp).MemoryFree set_text) ⊎ (¬ item.MemoryFree item_text)
+    (¬ (set_of range item cmp).MemoryFree set_text)
+    ⊎ ((set : List item.Value) × IsWhole (set_of range item cmp) set_text set × (¬ item.MemoryFree item_text))

@@ -4,7 +4,6 @@ use Rattle.committee_certificates.specs.Signers.{AreMembers, AreQuorum, AreTooFe
 use Rattle.committee_certificates.specs.Slots.{HasSlot, IsFor}
 use Rattle.commonware_utils.specs.Faults.{IsFaultTolerance}
 use Rattle.judge_questions.specs.Limits.{full}
-use Rattle.judge_verdicts.specs.Builds.{MayFailToAllocateToBuild}
 use Rattle.judge_verdicts.specs.Readings.{a_certificate}
 use Rattle.judge_verdicts.specs.Whole.{IsMisread, IsWhole}
 use Rattle.judge_verdicts.specs.declared.quorum.Checked.{Checked}
@@ -36,9 +35,10 @@ abbrev pub IsRead : List ℕ → (List ℕ × List ℕ → Type 0) → Type 0
 IsRead text Says =
     (certificate : List ℕ × List ℕ) × IsWhole (a_certificate full full) text certificate × Says certificate
 
--- an allocation may fail as the certificate is read, or once it is
+-- An allocation may fail only where reading the certificate isn't memory-free: where it is, the value is empty and no
+-- one signed it, so nothing else is kept.
 abbrev pub MayFailToAllocateToJudge : List ℕ → Type 0
-MayFailToAllocateToJudge text = MayFailToAllocateToBuild (a_certificate full full) text
+MayFailToAllocateToJudge text = ¬ (a_certificate full full).MemoryFree text
 
 -- what a certificate says of a committee of n at a resilience k
 abbrev pub IsChecked : ℕ → ℕ → List ℕ → Result Certified NoQuorum → Type 0

@@ -15,6 +15,10 @@ use Rattle.judge_verdicts.specs.declared.weights.WeightNumbers.{WeightNumbers}
 abbrev pub listed_numbers : Reading
 listed_numbers = list_of full a_u64
 
+-- An allocation may fail only where reading the list isn't memory-free. Reading a list of none is, and nothing follows.
+abbrev pub MayFailToAllocateToWeigh : List ℕ → Type 0
+MayFailToAllocateToWeigh text = ¬ listed_numbers.MemoryFree text
+
 -- the input lists the weights of a committee
 abbrev pub AreListed : List ℕ → List ℕ → Type 0
 AreListed text weights = IsWhole listed_numbers text weights × AreCommitteeWeights weights

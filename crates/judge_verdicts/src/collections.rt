@@ -81,8 +81,8 @@ fn build_form<A: Allocator + Copy>(
 }
 
 /// The position of the item in the set, each the whole of an input. What is wrong with the set
-/// comes first. The error is an allocation failure, and comes only where one of the two is read
-/// with memory.
+/// comes first. The error is an allocation failure, and comes only where the reading of the set
+/// isn't memory-free, or where it is a set and the reading of the item isn't.
 pub fn position<A: Allocator + Copy>(
     alloc: A,
     form: SetForm,

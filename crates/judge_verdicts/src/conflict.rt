@@ -1,10 +1,10 @@
 //! The members that signed both of two certificates.
-ghost use Rattle.std.specs.Prelude.{◌≤◌, IfErr, IfOk};
+ghost use Rattle.std.specs.Prelude.{◌≤◌, ◌≢◌, IfErr, IfOk};
 ghost use Rattle.std.specs.Ordering.{nat_cmp};
 ghost use Rattle.committee_certificates.specs.Certificates.{parts};
 ghost use Rattle.commonware_utils.specs.Codec.{IsWord};
 ghost use Rattle.commonware_utils.specs.Ordered.{IsWritableSet};
-ghost use Rattle.judge_verdicts.specs.Conflicts.{IsConflict, IsConflictOf};
+ghost use Rattle.judge_verdicts.specs.Conflicts.{AreBothOfQuorums, IsConflict, IsConflictOf};
 ghost use Rattle.judge_verdicts.specs.Conflicts.{MayFailToAllocateToJudgeBoth};
 ghost use Rattle.judge_verdicts.specs.Whole.{items_of};
 
@@ -33,8 +33,8 @@ pub enum NoConflict {
 /// The bytes of the set of the members of a committee of `n`, at a resilience `k`, that signed both
 /// of two certificates for different values, or why there are none. What is wrong with the first
 /// comes first. The error is an allocation failure, and comes only where the reading of the first
-/// isn't memory-free, or where it is a certificate and the second is one or isn't read without
-/// memory. `k` is at least 2 and `n` at least 1.
+/// isn't memory-free, or where it is a certificate and the reading of the second isn't. `k` is at
+/// least 2 and `n` at least 1.
 pub fn conflict_of<A: Allocator + Copy>(
     alloc: A,
     k: u32,
@@ -54,7 +54,8 @@ pub fn conflict_of<A: Allocator + Copy>(
     }
 }
 
-/// The members of a committee of `n` that signed both certificates, or why there are none.
+/// The members of a committee of `n` that signed both certificates, or why there are none. The
+/// error is an allocation failure, and comes only where the values differ and quorums signed both.
 fn among<A: Allocator + Copy>(
     alloc: A,
     k: u32,
@@ -65,8 +66,10 @@ fn among<A: Allocator + Copy>(
     requires resilience { 2 ≤ k }
     requires some { 1 ≤ n }
     requires writable { IsWritableSet IsWord nat_cmp first.now.signers }
-    ensures { IfOk result (λ members.
+    ensures members { IfOk result (λ members.
         IsConflictOf k n (parts first.now) (parts second.now) (items_of members)) }
+    ensures memory { IfErr result (λ _. (first.now.value.items ≢ second.now.value.items)
+        × AreBothOfQuorums k n (parts first.now) (parts second.now)) }
 {
     if first.value.as_slice() == second.value.as_slice() {
         return Ok(Err(NoConflict::EqualValues));

@@ -2,9 +2,10 @@
 ghost use Rattle.std.specs.Prelude.{◌≤◌, IfErr, IfOk};
 ghost use Rattle.std.specs.Ordering.{nat_cmp};
 ghost use Rattle.committee_certificates.specs.Certificates.{parts};
+ghost use Rattle.committee_certificates.specs.Slots.{Contradict};
 ghost use Rattle.commonware_utils.specs.Codec.{IsWord};
 ghost use Rattle.commonware_utils.specs.Ordered.{IsWritableSet};
-ghost use Rattle.judge_verdicts.specs.Conflicts.{MayFailToAllocateToJudgeBoth};
+ghost use Rattle.judge_verdicts.specs.Conflicts.{AreBothOfQuorums, MayFailToAllocateToJudgeBoth};
 ghost use Rattle.judge_verdicts.specs.Equivocations.{IsEquivocation, IsEquivocationOf};
 ghost use Rattle.judge_verdicts.specs.Whole.{items_of};
 
@@ -38,8 +39,8 @@ pub enum NoEquivocation {
 /// The bytes of the set of the members of a committee of `n`, at a resilience `k`, that signed two
 /// different decisions for one slot, each with a quorum; or why there are none. What is wrong with
 /// the first comes first. The error is an allocation failure, and comes only where the reading of
-/// the first isn't memory-free, or where it is a certificate and the second is one or isn't read
-/// without memory. `k` is at least 2 and `n` at least 1.
+/// the first isn't memory-free, or where it is a certificate and the reading of the second isn't.
+/// `k` is at least 2 and `n` at least 1.
 pub fn equivocation_of<A: Allocator + Copy>(
     alloc: A,
     k: u32,
@@ -60,7 +61,8 @@ pub fn equivocation_of<A: Allocator + Copy>(
 }
 
 /// The members of a committee of `n` that signed both certificates, which contradict one another,
-/// or why there are none.
+/// or why there are none. The error is an allocation failure, and comes only where the values
+/// contradict one another and quorums signed both.
 fn by_slot<A: Allocator + Copy>(
     alloc: A,
     k: u32,
@@ -71,8 +73,10 @@ fn by_slot<A: Allocator + Copy>(
     requires resilience { 2 ≤ k }
     requires some { 1 ≤ n }
     requires writable { IsWritableSet IsWord nat_cmp first.now.signers }
-    ensures { IfOk result (λ members.
+    ensures members { IfOk result (λ members.
         IsEquivocationOf k n (parts first.now) (parts second.now) (items_of members)) }
+    ensures memory { IfErr result (λ _. Contradict first.now.value.items second.now.value.items
+        × AreBothOfQuorums k n (parts first.now) (parts second.now)) }
 {
     match equivocation_among(alloc, n as usize, tolerated_faults(k, n), first, second) {
         Ok(both) => Ok(Ok(bytes_of(alloc, &both)?)),

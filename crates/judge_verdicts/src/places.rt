@@ -22,8 +22,8 @@ pub enum Found {
 }
 
 /// The position of the item in the set, each the whole of an input. What is wrong with the set
-/// comes first. The error is an allocation failure, and comes only where one of the two is read
-/// with memory.
+/// comes first. The error is an allocation failure, and comes only where the reading of the set
+/// isn't memory-free, or where it is a set and the reading of the item isn't.
 pub fn position_as<T: Ord + Canonical + Read<A> + Drop, A: Allocator + Copy>(
     alloc: A,
     set: &[u8],

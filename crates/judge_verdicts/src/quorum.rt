@@ -1,5 +1,5 @@
 //! Whether a quorum signed a certificate.
-ghost use Rattle.std.specs.Prelude.{◌≡◌, ◌≤◌, IfErr, IfOk, OnOk};
+ghost use Rattle.std.specs.Prelude.{◌≡◌, ◌≤◌, IfErr, IfOk, OnOk, length};
 ghost use Rattle.judge_verdicts.specs.Quorums.{IsChecked, IsSlotOf, MayFailToAllocateToJudge};
 ghost use Rattle.judge_verdicts.specs.Quorums.{checked_of, slot_items};
 
@@ -38,8 +38,8 @@ pub enum NoQuorum {
 }
 
 /// What a quorum of a committee of `n`, at a resilience `k`, signed by the certificate, or why none
-/// did. The error is an allocation failure, and comes only where the reading isn't memory-free, or
-/// the certificate was read. `k` is at least 2 and `n` at least 1.
+/// did. The error is an allocation failure, and comes only where the reading isn't memory-free. `k`
+/// is at least 2 and `n` at least 1.
 pub fn quorum_of<A: Allocator + Copy>(
     alloc: A,
     k: u32,
@@ -65,12 +65,15 @@ pub fn quorum_of<A: Allocator + Copy>(
     }
 }
 
-/// The slot and the decision that the value is, or `None` where it has no slot.
+/// The slot and the decision that the value is, or `None` where it has no slot. The error is an
+/// allocation failure, and comes only where one of the two has a byte: the value `00` is an empty
+/// decision for an empty slot.
 pub(crate) fn copied_slot<A: Allocator + Copy>(
     alloc: A,
     value: &[u8],
 ) -> Result<Option<SlotAndDecision<A>>, AllocError>
-    ensures { IfOk result (λ slot. IsSlotOf value.now (slot_items slot)) }
+    ensures slot { IfOk result (λ slot. IsSlotOf value.now (slot_items slot)) }
+    ensures memory { IfErr result (λ _. 2 ≤ length value.now) }
 {
     match slot_of(value) {
         Some((slot, decision)) => Ok(Some((copied(alloc, slot)?, copied(alloc, decision)?))),
@@ -78,9 +81,10 @@ pub(crate) fn copied_slot<A: Allocator + Copy>(
     }
 }
 
-/// A copy of the bytes.
+/// A copy of the bytes. The error is an allocation failure, and comes only where there are some.
 fn copied<A: Allocator>(alloc: A, bytes: &[u8]) -> Result<Vec<u8, A>, AllocError>
-    ensures { IfOk result (λ copy. copy.items ≡ bytes.now) }
+    ensures copied { IfOk result (λ copy. copy.items ≡ bytes.now) }
+    ensures memory { IfErr result (λ _. 1 ≤ length bytes.now) }
 {
     let mut copy = Vec::with_capacity(alloc, bytes.len())?;
     copy.extend_from_slice(bytes)?;

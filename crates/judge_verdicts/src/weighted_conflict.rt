@@ -1,12 +1,11 @@
 //! The members that signed both of two certificates, where quorums are by weight.
-ghost use Rattle.std.specs.Prelude.{◌≤◌, IfErr, IfOk};
+ghost use Rattle.std.specs.Prelude.{◌≤◌, ◌≢◌, IfErr, IfOk};
 ghost use Rattle.std.specs.Ordering.{nat_cmp};
 ghost use Rattle.committee_certificates.specs.Certificates.{parts};
 ghost use Rattle.commonware_utils.specs.Codec.{IsWord};
 ghost use Rattle.commonware_utils.specs.Ordered.{IsWritableSet};
-ghost use Rattle.judge_verdicts.specs.Builds.{MayFailToAllocateToBuild};
-ghost use Rattle.judge_verdicts.specs.WeightedConflicts.{IsWeightedConflict, IsWeightedConflictOf, weighed_of};
-ghost use Rattle.judge_verdicts.specs.Weights.{listed_numbers};
+ghost use Rattle.judge_verdicts.specs.WeightedConflicts.{AreBothOfWeightedQuorums, IsWeightedConflict, IsWeightedConflictOf, weighed_of};
+ghost use Rattle.judge_verdicts.specs.Weights.{MayFailToAllocateToWeigh};
 
 use crate::certificates::read_both;
 use crate::weighted_members::{WeightedMembers, weighed};
@@ -38,7 +37,7 @@ pub enum NoWeightedConflict {
 /// The members that signed both of two certificates for different values, and what they weigh, or
 /// why there are none, at a resilience `k`. What is wrong with the weights comes first, and then
 /// what is wrong with the first certificate. The error is an allocation failure, and comes only
-/// where the reading of the weights isn't memory-free, or they were read. `k` is at least 2.
+/// where the reading of the weights isn't memory-free. `k` is at least 2.
 pub fn weighted_conflict_of<A: Allocator + Copy>(
     alloc: A,
     k: u32,
@@ -49,7 +48,7 @@ pub fn weighted_conflict_of<A: Allocator + Copy>(
     requires resilience { 2 ≤ k }
     ensures members { IfOk result (λ named.
         IsWeightedConflict k list.now first.now second.now (weighed_of named)) }
-    ensures memory { IfErr result (λ _. MayFailToAllocateToBuild listed_numbers list.now) }
+    ensures memory { IfErr result (λ _. MayFailToAllocateToWeigh list.now) }
 {
     let weights = match read_weights(alloc, list)? {
         Ok(weights) => weights,
@@ -61,7 +60,9 @@ pub fn weighted_conflict_of<A: Allocator + Copy>(
     }
 }
 
-/// The members that signed both certificates, and what they weigh, or why there are none.
+/// The members that signed both certificates, and what they weigh, or why there are none. The
+/// error is an allocation failure, and comes only where the values differ and the signers of each
+/// weigh a quorum.
 fn among<A: Allocator + Copy>(
     alloc: A,
     k: u32,
@@ -71,9 +72,11 @@ fn among<A: Allocator + Copy>(
 ) -> Result<Result<WeightedMembers<A>, NoWeightedConflict>, AllocError>
     requires resilience { 2 ≤ k }
     requires writable { IsWritableSet IsWord nat_cmp first.now.signers }
-    ensures { IfOk result (λ named.
+    ensures members { IfOk result (λ named.
         IsWeightedConflictOf k weights.now (parts first.now) (parts second.now)
         (weighed_of named)) }
+    ensures memory { IfErr result (λ _. (first.now.value.items ≢ second.now.value.items)
+        × AreBothOfWeightedQuorums k weights.now (parts first.now) (parts second.now)) }
 {
     if first.value.as_slice() == second.value.as_slice() {
         return Ok(Err(NoWeightedConflict::EqualValues));

@@ -3,12 +3,12 @@
 ghost use Rattle.std.specs.Prelude.{◌≤◌, IfErr, IfOk};
 ghost use Rattle.std.specs.Ordering.{nat_cmp};
 ghost use Rattle.committee_certificates.specs.Certificates.{parts};
+ghost use Rattle.committee_certificates.specs.Slots.{Contradict};
 ghost use Rattle.commonware_utils.specs.Codec.{IsWord};
 ghost use Rattle.commonware_utils.specs.Ordered.{IsWritableSet};
-ghost use Rattle.judge_verdicts.specs.Builds.{MayFailToAllocateToBuild};
-ghost use Rattle.judge_verdicts.specs.WeightedConflicts.{weighed_of};
+ghost use Rattle.judge_verdicts.specs.WeightedConflicts.{AreBothOfWeightedQuorums, weighed_of};
 ghost use Rattle.judge_verdicts.specs.WeightedEquivocations.{IsWeightedEquivocation, IsWeightedEquivocationOf};
-ghost use Rattle.judge_verdicts.specs.Weights.{listed_numbers};
+ghost use Rattle.judge_verdicts.specs.Weights.{MayFailToAllocateToWeigh};
 
 use crate::certificates::read_both;
 use crate::weighted_members::{WeightedMembers, weighed};
@@ -43,8 +43,7 @@ pub enum NoWeightedEquivocation {
 /// The members that signed two different decisions for one slot, each with a quorum by weight at a
 /// resilience `k`, and what they weigh; or why there are none. What is wrong with the weights comes
 /// first, and then what is wrong with the first certificate. The error is an allocation failure,
-/// and comes only where the reading of the weights isn't memory-free, or they were read. `k` is at
-/// least 2.
+/// and comes only where the reading of the weights isn't memory-free. `k` is at least 2.
 pub fn weighted_equivocation_of<A: Allocator + Copy>(
     alloc: A,
     k: u32,
@@ -55,7 +54,7 @@ pub fn weighted_equivocation_of<A: Allocator + Copy>(
     requires resilience { 2 ≤ k }
     ensures members { IfOk result (λ named.
         IsWeightedEquivocation k list.now first.now second.now (weighed_of named)) }
-    ensures memory { IfErr result (λ _. MayFailToAllocateToBuild listed_numbers list.now) }
+    ensures memory { IfErr result (λ _. MayFailToAllocateToWeigh list.now) }
 {
     let weights = match read_weights(alloc, list)? {
         Ok(weights) => weights,
@@ -68,7 +67,8 @@ pub fn weighted_equivocation_of<A: Allocator + Copy>(
 }
 
 /// The members that signed both certificates, which contradict one another, and what they weigh, or
-/// why there are none.
+/// why there are none. The error is an allocation failure, and comes only where the values
+/// contradict one another and the signers of each weigh a quorum.
 fn by_slot<A: Allocator + Copy>(
     alloc: A,
     k: u32,
@@ -78,9 +78,11 @@ fn by_slot<A: Allocator + Copy>(
 ) -> Result<Result<WeightedMembers<A>, NoWeightedEquivocation>, AllocError>
     requires resilience { 2 ≤ k }
     requires writable { IsWritableSet IsWord nat_cmp first.now.signers }
-    ensures { IfOk result (λ named.
+    ensures members { IfOk result (λ named.
         IsWeightedEquivocationOf k weights.now (parts first.now) (parts second.now)
         (weighed_of named)) }
+    ensures memory { IfErr result (λ _. Contradict first.now.value.items second.now.value.items
+        × AreBothOfWeightedQuorums k weights.now (parts first.now) (parts second.now)) }
 {
     match weighted_equivocation(alloc, k, weights, first, second) {
         Ok(both) => Ok(Ok(weighed(alloc, weights, &both)?)),

@@ -1,9 +1,9 @@
 //! Whether signers that weigh a quorum signed a certificate.
-ghost use Rattle.std.specs.Prelude.{◌≤◌, IfErr, IfOk};
+ghost use Rattle.std.specs.Prelude.{◌≤◌, IfErr, IfOk, length};
 ghost use Rattle.committee_certificates.specs.Certificates.{parts};
-ghost use Rattle.judge_verdicts.specs.Builds.{MayFailToAllocateToBuild};
+ghost use Rattle.committee_weights.specs.Members.{AreWeightedQuorum};
 ghost use Rattle.judge_verdicts.specs.WeightedQuorums.{IsCheckedByWeight, IsWeightChecked, weight_checked_of};
-ghost use Rattle.judge_verdicts.specs.Weights.{listed_numbers};
+ghost use Rattle.judge_verdicts.specs.Weights.{MayFailToAllocateToWeigh};
 
 use crate::certificates::read_certificate;
 use crate::quorum::{SlotAndDecision, copied_slot};
@@ -46,7 +46,7 @@ pub enum NoWeightedQuorum {
 
 /// What signers that weigh a quorum, at a resilience `k`, signed by the certificate, or why none
 /// did. What is wrong with the weights comes first. The error is an allocation failure, and comes
-/// only where the reading of the weights isn't memory-free, or they were read. `k` is at least 2.
+/// only where the reading of the weights isn't memory-free. `k` is at least 2.
 pub fn weighted_quorum_of<A: Allocator + Copy>(
     alloc: A,
     k: u32,
@@ -56,7 +56,7 @@ pub fn weighted_quorum_of<A: Allocator + Copy>(
     requires resilience { 2 ≤ k }
     ensures checked { IfOk result (λ checked.
         IsWeightChecked k list.now text.now (weight_checked_of checked)) }
-    ensures memory { IfErr result (λ _. MayFailToAllocateToBuild listed_numbers list.now) }
+    ensures memory { IfErr result (λ _. MayFailToAllocateToWeigh list.now) }
 {
     let weights = match read_weights(alloc, list)? {
         Ok(weights) => weights,
@@ -68,7 +68,9 @@ pub fn weighted_quorum_of<A: Allocator + Copy>(
     }
 }
 
-/// What signers that weigh a quorum signed by the certificate, or why none did.
+/// What signers that weigh a quorum signed by the certificate, or why none did. The error is an
+/// allocation failure, and comes only where they weigh a quorum and the value has two bytes or
+/// more.
 fn checked<A: Allocator + Copy>(
     alloc: A,
     k: u32,
@@ -76,8 +78,10 @@ fn checked<A: Allocator + Copy>(
     certificate: &Certificate<A>,
 ) -> Result<Result<WeightChecked<A>, NoWeightedQuorum>, AllocError>
     requires resilience { 2 ≤ k }
-    ensures { IfOk result (λ checked.
+    ensures checked { IfOk result (λ checked.
         IsCheckedByWeight k weights.now (parts certificate.now) (weight_checked_of checked)) }
+    ensures memory { IfErr result (λ _. AreWeightedQuorum k weights.now certificate.now.signers
+        × (2 ≤ length certificate.now.value.items)) }
 {
     match check_weight(k, weights, certificate) {
         Ok(()) => Ok(Ok(WeightChecked {

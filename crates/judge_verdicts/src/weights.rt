@@ -1,7 +1,6 @@
 //! The weights of participants, as an input lists them, and the numbers of a fault model for them.
-ghost use Rattle.std.specs.Prelude.{◌≡◌, ◌≤◌, IfErr, IfOk, MatchResult};
-ghost use Rattle.judge_verdicts.specs.Builds.{MayFailToAllocateToBuild};
-ghost use Rattle.judge_verdicts.specs.Weights.{AreListed, AreNoWeights, AreNumbersOfWeights, listed_numbers};
+ghost use Rattle.std.specs.Prelude.{◌≡◌, ◌≤◌, IfErr, IfOk, MatchResult, length};
+ghost use Rattle.judge_verdicts.specs.Weights.{AreListed, AreNoWeights, AreNumbersOfWeights, MayFailToAllocateToWeigh, listed_numbers};
 ghost use Rattle.judge_verdicts.specs.Whole.{IsMisread, IsWhole};
 
 use crate::whole::{Misread, read_whole};
@@ -42,7 +41,8 @@ pub enum NoWeights {
 }
 
 /// The numbers of the weights that the input lists, at a resilience `k`, or why it lists none. The
-/// error is an allocation failure. `k` is at least 2.
+/// error is an allocation failure, and comes only where the reading of the list isn't memory-free:
+/// for one of none, which is no weights, it never does. `k` is at least 2.
 pub fn weight_numbers<A: Allocator + Copy>(
     alloc: A,
     k: u32,
@@ -50,7 +50,7 @@ pub fn weight_numbers<A: Allocator + Copy>(
 ) -> Result<Result<WeightNumbers, NoWeights>, AllocError>
     requires resilience { 2 ≤ k }
     ensures numbers { IfOk result (AreNumbersOfWeights k list.now) }
-    ensures memory { IfErr result (λ _. MayFailToAllocateToBuild listed_numbers list.now) }
+    ensures memory { IfErr result (λ _. MayFailToAllocateToWeigh list.now) }
 {
     match read_weights(alloc, list)? {
         Ok(weights) => Ok(Ok(WeightNumbers {
@@ -63,14 +63,15 @@ pub fn weight_numbers<A: Allocator + Copy>(
     }
 }
 
-/// The weights that the input lists, or why it lists none.
+/// The weights that the input lists, or why it lists none. The error is an allocation failure, and
+/// comes only where the reading of the list isn't memory-free.
 pub(crate) fn read_weights<A: Allocator + Copy>(
     alloc: A,
     list: &[u8],
 ) -> Result<Result<Weights<A>, NoWeights>, AllocError>
     ensures listed { IfOk result (λ read. MatchResult read (AreListed list.now)
         (AreNoWeights list.now)) }
-    ensures memory { IfErr result (λ _. MayFailToAllocateToBuild listed_numbers list.now) }
+    ensures memory { IfErr result (λ _. MayFailToAllocateToWeigh list.now) }
 {
     match read_numbers(alloc, list)? {
         Ok(numbers) => match Weights::new(numbers_of(alloc, &numbers)?) {
@@ -97,9 +98,11 @@ fn read_numbers<A: Allocator + Copy>(
     read_whole::<Vec<U64, A>, A>(alloc, list, &(Limit::full().range(), ()))
 }
 
-/// The numbers of the items.
+/// The numbers of the items. The error is an allocation failure, and comes only where there are
+/// some.
 fn numbers_of<A: Allocator>(alloc: A, items: &[U64]) -> Result<Vec<u64, A>, AllocError>
-    ensures { IfOk result (λ numbers. numbers.items ≡ items.now) }
+    ensures numbers { IfOk result (λ numbers. numbers.items ≡ items.now) }
+    ensures memory { IfErr result (λ _. 1 ≤ length items.now) }
 {
     let mut numbers = Vec::with_capacity(alloc, items.len())?;
     for item in items {

@@ -53,3 +53,30 @@ fn the_first_lengths_that_allocate(rt: HostRuntime) {
     assert!(rt; allocates(alloc, b"vec<u8> .. 0107\n") == Ok(true));
     assert!(rt; allocates(alloc, b"weights n3f1 010000000000000001\n") == Ok(true));
 }
+
+/// Lines for which there is nothing to allocate: weights of none, certificates of empty values that
+/// no one signed, and what isn't read because of what comes before it.
+const NOTHING: &[u8] = b"weights n3f1 00\nweights n3f1 01\nweighted-quorum n3f1 00 01aa0100\n\
+weighted-conflict n3f1 00 01aa0100 01bb0100\n\
+weighted-equivocation n3f1 00 030107aa0100 030107bb0100\n\
+quorum n3f1 4 0000\nquorum n3f1 4 01\n\
+conflict n3f1 4 0000 0000\nconflict n3f1 4 00 01aa0100\nconflict n3f1 4 0000 01\n\
+equivocation n3f1 4 0000 0000\nequivocation n3f1 4 00 030107aa0100\n\
+position set<u8> 00 07\nposition set<set<u8>> 01 0107\n";
+
+/// Their answers.
+const NOTHING_ANSWERS: &[u8] = b"NoWeights\nEndOfBuffer\nNoWeights\nNoWeights\nNoWeights\n\
+TooFew\nEndOfBuffer\nEqualValues\nEndOfBuffer\nEndOfBuffer\nNoSlot\nEndOfBuffer\nnone\n\
+EndOfBuffer\n";
+
+/// A verdict for which there is nothing to allocate is given without memory; one item more, and an
+/// allocation that fails stops the session.
+#[test]
+fn a_verdict_of_nothing_needs_no_memory(rt: HostRuntime) {
+    let alloc = rt.alloc();
+    assert!(rt; allocates_nothing(alloc, NOTHING, NOTHING_ANSWERS, 0) == Ok(true));
+    assert!(rt; allocates(alloc, b"weights n3f1 010000000000000000\n") == Ok(true));
+    assert!(rt; allocates(alloc, b"quorum n3f1 4 010000\n") == Ok(true));
+    assert!(rt; allocates(alloc, b"conflict n3f1 4 0000 000100\n") == Ok(true));
+    assert!(rt; allocates(alloc, b"equivocation n3f1 4 0000 000100\n") == Ok(true));
+}

@@ -3,11 +3,10 @@
 use Rattle.std.proofs.Common.{ℕ, List, false, refl, subst, true}
 use Rattle.judge_questions.specs.Tasks.{IsTask}
 use Rattle.judge_questions.specs.declared.task.Task.TheVariants as tasks
-use Rattle.judge_verdicts.specs.Builds.{MayFailToAllocateToBuild}
 use Rattle.judge_verdicts.specs.WeightedConflicts.{IsWeightedConflict, weighed_of}
 use Rattle.judge_verdicts.specs.WeightedEquivocations.{IsWeightedEquivocation}
 use Rattle.judge_verdicts.specs.WeightedQuorums.{IsWeightChecked, weight_checked_of}
-use Rattle.judge_verdicts.specs.Weights.{AreNumbersOfWeights, listed_numbers}
+use Rattle.judge_verdicts.specs.Weights.{AreNumbersOfWeights, MayFailToAllocateToWeigh}
 use Rattle.judge_verdicts.proofs.Results.{on_error}
 use Rattle.judge_core.specs.Answered.{weight_accused, weight_checked, weight_named, weighed}
 use Rattle.judge_core.specs.Memory.{IsLineMemoryFree}
@@ -55,27 +54,27 @@ returns-in_ok-weighted_equivocation_of-in-Equivocation-clause-told g c =
 pub returns-in_err-weight_numbers-in-Numbers-clause-memory : goal.returns-in_err-weight_numbers-in-Numbers-clause-memory
 returns-in_err-weight_numbers-in-Numbers-clause-memory g c =
     let n = c.in-Numbers in
-    let may = subst (λ t. MayFailToAllocateToBuild listed_numbers t) c.as_slice.ensures c.in_err-weight_numbers-in-Numbers.ensures.memory in
+    let may = subst MayFailToAllocateToWeigh c.as_slice.ensures c.in_err-weight_numbers-in-Numbers.ensures.memory in
     on_error ((line : List ℕ) → IsTask line (tasks.Weighted c.args.task.now) → ¬ IsLineMemoryFree line) c.from_residual.result
     (λ line task free. free.weights n.k n.weights (asked_weights {A = g.row.A.Denot} line n.k n.weights (subst (λ t. IsTask line (tasks.Weighted t)) n.is task)) may)
 
 pub returns-in_err-weighted_quorum_of-in-Quorum-clause-memory : goal.returns-in_err-weighted_quorum_of-in-Quorum-clause-memory
 returns-in_err-weighted_quorum_of-in-Quorum-clause-memory g c =
     let q = c.in-Quorum in
-    let may = subst (λ t. MayFailToAllocateToBuild listed_numbers t) c.as_slice-in-Quorum.ensures c.in_err-weighted_quorum_of-in-Quorum.ensures.memory in
+    let may = subst MayFailToAllocateToWeigh c.as_slice-in-Quorum.ensures c.in_err-weighted_quorum_of-in-Quorum.ensures.memory in
     on_error ((line : List ℕ) → IsTask line (tasks.Weighted c.args.task.now) → ¬ IsLineMemoryFree line) c.from_residual-in_err-weighted_quorum_of-in-Quorum.result
     (λ line task free. free.weighted_quorums q.k q.weights q.text (asked_weighted_quorum {A = g.row.A.Denot} line q.k q.weights q.text (subst (λ t. IsTask line (tasks.Weighted t)) q.is task)) may)
 
 pub returns-in_err-weighted_conflict_of-in-Conflict-clause-memory : goal.returns-in_err-weighted_conflict_of-in-Conflict-clause-memory
 returns-in_err-weighted_conflict_of-in-Conflict-clause-memory g c =
     let f = c.in-Conflict in
-    let may = subst (λ t. MayFailToAllocateToBuild listed_numbers t) c.as_slice-in-Conflict.ensures c.in_err-weighted_conflict_of-in-Conflict.ensures.memory in
+    let may = subst MayFailToAllocateToWeigh c.as_slice-in-Conflict.ensures c.in_err-weighted_conflict_of-in-Conflict.ensures.memory in
     on_error ((line : List ℕ) → IsTask line (tasks.Weighted c.args.task.now) → ¬ IsLineMemoryFree line) c.from_residual-in_err-weighted_conflict_of-in-Conflict.result
     (λ line task free. free.weighted_conflicts false f.k f.weights f.first f.second (asked_weighted_conflict {A = g.row.A.Denot} line f.k f.weights f.first f.second (subst (λ t. IsTask line (tasks.Weighted t)) f.is task)) may)
 
 pub returns-in_err-weighted_equivocation_of-in-Equivocation-clause-memory : goal.returns-in_err-weighted_equivocation_of-in-Equivocation-clause-memory
 returns-in_err-weighted_equivocation_of-in-Equivocation-clause-memory g c =
     let e = c.in-Equivocation in
-    let may = subst (λ t. MayFailToAllocateToBuild listed_numbers t) c.as_slice-in-Equivocation.ensures c.in_err-weighted_equivocation_of-in-Equivocation.ensures.memory in
+    let may = subst MayFailToAllocateToWeigh c.as_slice-in-Equivocation.ensures c.in_err-weighted_equivocation_of-in-Equivocation.ensures.memory in
     on_error ((line : List ℕ) → IsTask line (tasks.Weighted c.args.task.now) → ¬ IsLineMemoryFree line) c.from_residual-in_err-weighted_equivocation_of-in-Equivocation.result
     (λ line task free. free.weighted_conflicts true e.k e.weights e.first e.second (asked_weighted_equivocation {A = g.row.A.Denot} line e.k e.weights e.first e.second (subst (λ t. IsTask line (tasks.Weighted t)) e.is task)) may)

@@ -1,4 +1,5 @@
--- What the certificates say of the weights is what their encodings say.
+-- What the certificates say of the weights is what their encodings say; and where there are weights, they were read with
+-- an allocation.
 use Rattle.std.proofs.Common.{List, ℕ}
 use Rattle.std.specs.Prelude.{Err, Ok, Result}
 use Rattle.committee_certificates.specs.Certificates.{parts}
@@ -8,7 +9,8 @@ use Rattle.judge_verdicts.specs.WeightedEquivocations.{IsWeightedEquivocation, I
 use Rattle.judge_verdicts.specs.Weights.{AreListed}
 use Rattle.judge_verdicts.specs.declared.weighted_equivocation.NoWeightedEquivocation.{NoWeightedEquivocation}
 use Rattle.judge_verdicts.specs.declared.weighted_equivocation.NoWeightedEquivocation.TheVariants.{NoSlot, OtherSlot, SameDecision, Outside, TooLight, Unlisted, Unread}
-use Rattle.judge_verdicts.proofs.Results.{if_ok_so}
+use Rattle.judge_verdicts.proofs.Needs.{weights_need}
+use Rattle.judge_verdicts.proofs.Results.{if_ok_so, on_error}
 use Rattle.judge_verdicts.proofs.weighted_equivocation.weighted_equivocation_of.Goals as goal
 
 module _ (k : ℕ) (list first second weights : List ℕ) (one other : List ℕ × List ℕ) (listed : AreListed list weights) (whole : AreWhole first second one other) where
@@ -29,4 +31,11 @@ returns-in-Ok-2-clause-members g c =
     let p = parts c.in-Ok-2.one in
     let q = parts c.in-Ok-2.other in
     if_ok_so (λ named. IsWeightedEquivocationOf c.args.k c.in-Ok.weights p q (weighed_of named)) (λ named. IsWeightedEquivocation c.args.k c.args.list.now c.args.first.now c.args.second.now (weighed_of named)) c.by_slot.result
-    (λ named. read c.args.k c.args.list.now c.args.first.now c.args.second.now c.in-Ok.weights p q listed whole (weighed_of named)) c.by_slot.ensures
+    (λ named. read c.args.k c.args.list.now c.args.first.now c.args.second.now c.in-Ok.weights p q listed whole (weighed_of named)) c.by_slot.ensures.members
+
+pub returns-in_err-one-clause-memory : goal.returns-in_err-one-clause-memory
+returns-in_err-one-clause-memory g c =
+    on_error _ c.from_residual-in_err-one.result (weights_need c.args.list.now c.in-Ok.weights (rw c.in-Ok.is at c.in_ok-weights.ensures.listed))
+
+pub returns-in-Ok-2-clause-memory : goal.returns-in-Ok-2-clause-memory
+returns-in-Ok-2-clause-memory g c = on_error _ c.by_slot.result (weights_need c.args.list.now c.in-Ok.weights (rw c.in-Ok.is at c.in_ok-weights.ensures.listed))
