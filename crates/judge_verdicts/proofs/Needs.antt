@@ -1,14 +1,12 @@
 -- What isn't read without an allocation.
-use Rattle.std.proofs.Common.{◌≡◌, ◌+◌, ◌-◌, ◌*◌, ◌≤◌, ◌⊎◌, ℕ, List, [], ◌∷◌, ◌++◌, arith, append_assoc, inl, inr, length, refl, ◌∙◌}
+use Rattle.std.proofs.Common.{◌+◌, ◌-◌, ◌*◌, ◌≤◌, ◌⊎◌, ℕ, List, [], ◌∷◌, ◌++◌, arith, append_assoc, inl, inr, length, refl, ◌∙◌}
 use Rattle.std.specs.List.{flat_map}
 use Rattle.commonware_base.specs.laws.ListLaws.{list_needs_memory}
 use Rattle.commonware_utils.specs.Codec.{Accepts, Bounds, Fault, IsAllowedList, IsByte, IsListMemoryFree, IsWord, IsWritableList, ReadLaws, byte, byte_fault, byte_laws, list_enc, varint, varint_fault, varint_laws}
-use Rattle.commonware_utils.specs.Faults.{IsFaultTolerance}
 use Rattle.commonware_sequence.specs.laws.U64Laws.{u64_laws}
 use Rattle.commonware_utils.specs.Sequence.{IsU64, u64_bytes, u64_fault}
 use Rattle.committee_certificates.specs.Certificates.{IsAllowedCertificate, IsCertificateMemoryFree, IsWritableCertificate, certificate_enc}
 use Rattle.committee_certificates.specs.laws.CertificateLaws.{signers_need_memory, value_needs_memory}
-use Rattle.committee_certificates.specs.Signers.{AreQuorum}
 use Rattle.judge_questions.specs.Limits.{full}
 use Rattle.judge_verdicts.specs.Conflicts.{AreBothOfQuorums}
 use Rattle.judge_verdicts.specs.Quorums.{MayFailToAllocateToJudge}

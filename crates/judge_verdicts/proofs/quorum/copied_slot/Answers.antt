@@ -1,4 +1,4 @@
-use Rattle.std.proofs.Common.{◌≡◌, ◌+◌, ◌<◌, ◌≤◌, ℕ, List, ◌++◌, ap, arith, length, length-append}
+use Rattle.std.proofs.Common.{◌+◌, ◌<◌, ℕ, List, ◌++◌, ap, arith, length, length-append}
 use Rattle.commonware_base.specs.Varint.{varint}
 use Rattle.commonware_base.specs.laws.VarintLaws.{groups_not_empty, varint_size_is}
 use Rattle.committee_certificates.specs.Slots.{IsFor}
