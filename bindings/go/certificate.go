@@ -22,10 +22,10 @@ func ReadCertificate(input []byte, mostBytes, mostSigners int) (Certificate, []b
 	}
 	// The first call tells how many indices it takes.
 	var signers []uint32
-	view := nativeCertificateRead(input, mostBytes, mostSigners, nil)
+	view := callCertificateRead(input, mostBytes, mostSigners, nil)
 	if view.status == statusRoom {
 		signers = make([]uint32, view.signers)
-		view = nativeCertificateRead(input, mostBytes, mostSigners, signers)
+		view = callCertificateRead(input, mostBytes, mostSigners, signers)
 	}
 	if err := errorOf(view.status, view.number); err != nil {
 		return Certificate{}, nil, err
@@ -51,7 +51,8 @@ func DecodeCertificate(input []byte) (Certificate, error) {
 // Encode encodes the certificate. The errors are [InvalidLengthError] for a value or signers past 4294967295, and
 // [NotStrictError] with the index of the first signer that isn't greater than the one before it.
 func (c Certificate) Encode() ([]byte, error) {
-	return nativeCertificateWrite(c.Value, c.Signers)
+	room := make([]byte, 10+len(c.Value)+5*len(c.Signers))
+	return written(callCertificateWrite(c.Value, c.Signers, room), room)
 }
 
 // Slot returns the slot and the decision that the value is, as [SplitValue] does.
@@ -63,7 +64,8 @@ func (c Certificate) Slot() (slot, decision []byte, isThere bool) {
 // decision. No other slot and decision have these bytes. The error is [InvalidLengthError] for a slot, a decision or a
 // value past 4294967295.
 func SlotValue(slot, decision []byte) ([]byte, error) {
-	return nativeValueWrite(slot, decision)
+	room := make([]byte, 5+len(slot)+len(decision))
+	return written(callValueWrite(slot, decision, room), room)
 }
 
 // SplitValue returns the slot and the decision that a value is, and true; or false where it is no decision for a slot.
@@ -73,7 +75,7 @@ func SplitValue(value []byte) (slot, decision []byte, isThere bool) {
 	if err != nil {
 		return nil, nil, false
 	}
-	view := nativeCertificateCheck(2, 1, input)
+	view := callCertificateCheck(2, 1, input)
 	if view.slotStart == 0 {
 		return nil, nil, false
 	}
@@ -101,11 +103,11 @@ type Checked struct {
 // Else the error is the first of these: [ErrNoModel], [ErrNoMembers], a fault of the input ([ErrEndOfInput],
 // [ErrInvalidVarint], [ErrNotStrict], [LeftOverError]), [ErrOutside], [ErrTooFew].
 func Check(model FaultModel, members uint32, input []byte) (Checked, error) {
-	return checkedOf(nativeCertificateCheck(uint32(model), members, input), input)
+	return checkedOf(callCertificateCheck(uint32(model), members, input), input)
 }
 
 // checkedOf returns what was found in an input, where it is a certificate of a quorum.
-func checkedOf(view foundChecked, input []byte) (Checked, error) {
+func checkedOf(view checkView, input []byte) (Checked, error) {
 	if err := errorOf(view.status, view.number); err != nil {
 		return Checked{}, err
 	}
@@ -133,7 +135,7 @@ func checkedOf(view foundChecked, input []byte) (Checked, error) {
 // of the second, [ErrTooFew] of the first, of the second. One that is about the first or the second is in a
 // [CertificateError].
 func Conflict(model FaultModel, members uint32, first, second []byte) ([]uint32, error) {
-	return named(nativeConflict, model, members, first, second)
+	return named(callConflict, model, members, first, second)
 }
 
 // Equivocation returns the indices, in order, of the members that equivocated: those that signed both of two
@@ -147,10 +149,10 @@ func Conflict(model FaultModel, members uint32, first, second []byte) ([]uint32,
 // first, of the second, [ErrTooFew] of the first, of the second. One that is about the first or the second is in a
 // [CertificateError].
 func Equivocation(model FaultModel, members uint32, first, second []byte) ([]uint32, error) {
-	return named(nativeEquivocation, model, members, first, second)
+	return named(callEquivocation, model, members, first, second)
 }
 
-type namer func(k, members uint32, first, second []byte, room []uint32) foundConflict
+type namer func(k, members uint32, first, second []byte, room []uint32) conflictView
 
 // named returns the members that a call names.
 func named(call namer, model FaultModel, members uint32, first, second []byte) ([]uint32, error) {
@@ -161,14 +163,14 @@ func named(call namer, model FaultModel, members uint32, first, second []byte) (
 		named = make([]uint32, view.count)
 		view = call(uint32(model), members, first, second, named)
 	}
-	return named, errorAbout(view)
+	return named, errorAbout(view.status, view.which, view.number)
 }
 
-// errorAbout returns the error of what was found, with the certificate that it is about, or nil.
-func errorAbout(view foundConflict) error {
-	err := errorOf(view.status, view.number)
-	if err != nil && view.which > 0 {
-		return CertificateError{Which: int(view.which), Err: err}
+// errorAbout returns the error of a status, with the certificate that it is about, or nil.
+func errorAbout(status, which uint32, number int) error {
+	err := errorOf(status, number)
+	if err != nil && which > 0 {
+		return CertificateError{Which: int(which), Err: err}
 	}
 	return err
 }

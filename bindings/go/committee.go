@@ -31,11 +31,11 @@ func ReadCommittee(input []byte, least, most int) (Committee, []byte, error) {
 	if areNegative(least, most) {
 		return Committee{}, nil, ErrNegative
 	}
-	view := nativeCommitteeRead(input, least, most)
+	view := callCommitteeRead(input, least, most)
 	if err := errorOf(view.status, view.number); err != nil {
 		return Committee{}, nil, err
 	}
-	return Committee{itemsAt(MemberSize, view.count, input, view.keys)}, rest(input, view.left), nil
+	return Committee{itemsAt(MemberSize, int(view.count), input, view.start)}, rest(input, view.left), nil
 }
 
 // DecodeCommittee decodes the committee that the whole input is, of any number of members. The errors are those of
@@ -51,7 +51,8 @@ func DecodeCommittee(input []byte) (Committee, error) {
 // EncodeCommittee encodes the committee of these keys: sorted, each key once. The keys may come in any order and
 // repeat. The errors are [InvalidLengthError] where the keys are more than 4294967295, and [ErrOutOfMemory].
 func EncodeCommittee(keys []Member) ([]byte, error) {
-	return nativeCommitteeWrite(flat(keys))
+	room := make([]byte, 5+MemberSize*len(keys))
+	return written(callCommitteeWrite(flat(keys), room), room)
 }
 
 // Len returns how many members there are.
@@ -73,11 +74,11 @@ func (c Committee) Members() []Member {
 
 // IndexOf returns the index of a member and true, or false where there is no such, in O(log n) comparisons.
 func (c Committee) IndexOf(key Member) (int, bool) {
-	index, isThere := nativeCommitteeIndex(c.members.bytes, &key)
-	if !isThere {
+	place := callCommitteeIndex(c.members.bytes, key[:])
+	if place.status != statusOK {
 		return 0, false
 	}
-	return index, true
+	return place.index, true
 }
 
 // Contains tells whether a key is that of a member.

@@ -40,16 +40,16 @@ func (k FaultModel) tell(n uint32, call func(k, n uint32) uint32) (uint32, error
 
 // MaxFaults returns how many of n participants may be faulty, or [ErrNoModel], or [ErrNoMembers] where n is 0.
 func (k FaultModel) MaxFaults(n uint32) (uint32, error) {
-	return k.tell(n, nativeMaxFaults)
+	return k.tell(n, callMaxFaults)
 }
 
 // Quorum returns how many of n participants make a quorum, n - f, or [ErrNoModel], or [ErrNoMembers] where n is 0.
 func (k FaultModel) Quorum(n uint32) (uint32, error) {
-	return k.tell(n, nativeQuorum)
+	return k.tell(n, callQuorum)
 }
 
 // SmallerQuorum returns the least size whose subsets share f + 1 participants with each quorum, 2f + 1, or
 // [ErrNoModel], or [ErrNoMembers] where n is 0.
 func (k FaultModel) SmallerQuorum(n uint32) (uint32, error) {
-	return k.tell(n, nativeSmallerQuorum)
+	return k.tell(n, callSmallerQuorum)
 }

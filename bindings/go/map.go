@@ -14,11 +14,11 @@ type Map struct {
 	values items
 }
 
-// mapAt returns the pairs that were found in an input.
-func mapAt(keySize, valueSize int, input []byte, view found) Map {
+// mapAt returns the pairs of an input, which are at these places.
+func mapAt(keySize, valueSize, count int, input []byte, keys, values int) Map {
 	return Map{
-		keys:   Set{itemsAt(keySize, view.count, input, view.keys)},
-		values: itemsAt(valueSize, view.count, input, view.values),
+		keys:   Set{itemsAt(keySize, count, input, keys)},
+		values: itemsAt(valueSize, count, input, values),
 	}
 }
 
@@ -30,11 +30,12 @@ func ReadMap(keySize, valueSize int, input []byte, least, most int) (Map, []byte
 	if areNegative(keySize, valueSize, least, most) {
 		return Map{}, nil, ErrNegative
 	}
-	view := nativeMapRead(keySize, valueSize, input, least, most)
+	view := callMapRead(keySize, valueSize, input, least, most)
 	if err := errorOf(view.status, view.number); err != nil {
 		return Map{}, nil, err
 	}
-	return mapAt(keySize, valueSize, input, view), rest(input, view.left), nil
+	pairs := mapAt(keySize, valueSize, int(view.count), input, view.keys, view.values)
+	return pairs, rest(input, view.left), nil
 }
 
 // DecodeMap decodes the map that the whole input is, of any number of pairs. The errors are those of [ReadMap], and
@@ -55,7 +56,8 @@ func EncodeMap(keySize, valueSize int, pairs []byte) ([]byte, error) {
 	if areNegative(keySize, valueSize) {
 		return nil, ErrNegative
 	}
-	return nativeMapWrite(keySize, valueSize, pairs)
+	room := make([]byte, 10+len(pairs))
+	return written(callMapWrite(keySize, valueSize, pairs, room), room)
 }
 
 // EncodeUniqueMap encodes the map of these pairs as [EncodeMap] does, where no key repeats. The errors are
@@ -64,7 +66,8 @@ func EncodeUniqueMap(keySize, valueSize int, pairs []byte) ([]byte, error) {
 	if areNegative(keySize, valueSize) {
 		return nil, ErrNegative
 	}
-	return nativeMapWriteUnique(keySize, valueSize, pairs)
+	room := make([]byte, 10+len(pairs))
+	return written(callMapWriteUnique(keySize, valueSize, pairs, room), room)
 }
 
 // Len returns how many pairs there are.
@@ -124,10 +127,10 @@ func ReadBiMap(keySize, valueSize int, input []byte, least, most int) (BiMap, []
 	}
 	// The first call tells how many indices it takes.
 	var byValue []uint32
-	view := nativeBiMapRead(keySize, valueSize, input, least, most, nil)
+	view := callBimapRead(keySize, valueSize, input, least, most, nil)
 	if view.status == statusRoom {
 		byValue = make([]uint32, view.number)
-		view = nativeBiMapRead(keySize, valueSize, input, least, most, byValue)
+		view = callBimapRead(keySize, valueSize, input, least, most, byValue)
 	}
 	if view.status == statusRepeatedValue {
 		return BiMap{}, nil, RepeatedValueError{First: view.first, Second: view.second}
@@ -135,7 +138,8 @@ func ReadBiMap(keySize, valueSize int, input []byte, least, most int) (BiMap, []
 	if err := errorOf(view.status, view.number); err != nil {
 		return BiMap{}, nil, err
 	}
-	return BiMap{mapAt(keySize, valueSize, input, view), byValue}, rest(input, view.left), nil
+	pairs := mapAt(keySize, valueSize, int(view.count), input, view.keys, view.values)
+	return BiMap{pairs, byValue}, rest(input, view.left), nil
 }
 
 // DecodeBiMap decodes the bimap that the whole input is, of any number of pairs. The errors are those of [ReadBiMap],

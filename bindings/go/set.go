@@ -73,11 +73,11 @@ func ReadSet(size int, input []byte, least, most int) (Set, []byte, error) {
 	if areNegative(size, least, most) {
 		return Set{}, nil, ErrNegative
 	}
-	view := nativeSetRead(size, input, least, most)
+	view := callSetRead(size, input, least, most)
 	if err := errorOf(view.status, view.number); err != nil {
 		return Set{}, nil, err
 	}
-	return Set{itemsAt(size, view.count, input, view.keys)}, rest(input, view.left), nil
+	return Set{itemsAt(size, int(view.count), input, view.start)}, rest(input, view.left), nil
 }
 
 // DecodeSet decodes the set of keys of size bytes that the whole input is, of any number of keys. The errors are those
@@ -97,7 +97,8 @@ func EncodeSet(size int, keys []byte) ([]byte, error) {
 	if size < 0 {
 		return nil, ErrNegative
 	}
-	return nativeSetWrite(size, keys)
+	room := make([]byte, 5+len(keys))
+	return written(callSetWrite(size, keys, room), room)
 }
 
 // Size returns how many bytes a key has.
@@ -134,11 +135,11 @@ func (s Set) IndexOf(key []byte) (int, bool) {
 	if len(key) == 0 {
 		return 0, s.Len() > 0
 	}
-	index, isThere := nativeSetIndex(s.Bytes(), key)
-	if !isThere {
+	place := callSetIndex(s.Bytes(), key)
+	if place.status != statusOK {
 		return 0, false
 	}
-	return index, true
+	return place.index, true
 }
 
 // Contains tells whether a key is there.

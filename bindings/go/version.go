@@ -7,7 +7,7 @@ import "fmt"
 // Version returns the version of the library that is linked: its major version, its minor version
 // and its patch. The major version is the one that this module needs.
 func Version() (major, minor, patch uint32) {
-	number := nativeVersion()
+	number := callVersion()
 	return number / 1_000_000, number / 1000 % 1000, number % 1000
 }
 

@@ -26,7 +26,14 @@ type WeightNumbers struct {
 // Else the error is the first of these: [ErrNoModel], [ErrNoMembers] where there are no weights, [InvalidLengthError]
 // where they are more than 4294967295, and [ZeroWeightError] or [WeightOverflowError], whose index comes first.
 func (k FaultModel) OfWeights(weights []uint64) (WeightNumbers, error) {
-	return nativeWeightsQuorum(uint32(k), weights)
+	view := callWeightsQuorum(uint32(k), weights)
+	if err := errorOf(view.status, view.number); err != nil {
+		return WeightNumbers{}, err
+	}
+	return WeightNumbers{
+		Total: view.total, MaxFaultyWeight: view.tolerated,
+		QuorumWeight: view.quorum, SmallerQuorumWeight: view.smallerQuorum,
+	}, nil
 }
 
 // A WeightedChecked certificate is one whose signers are members of a committee and weigh at least a quorum.
@@ -44,9 +51,19 @@ type WeightedChecked struct {
 // Else the error is the first of these: one of [FaultModel.OfWeights], a fault of the input ([ErrEndOfInput],
 // [ErrInvalidVarint], [ErrNotStrict], [LeftOverError]), [ErrOutside], [ErrTooLight].
 func WeightedCheck(model FaultModel, weights []uint64, input []byte) (WeightedChecked, error) {
-	view, weight := nativeWeightedCheck(uint32(model), weights, input)
-	checked, err := checkedOf(view, input)
-	return WeightedChecked{checked, weight}, err
+	view := callWeightedCheck(uint32(model), weights, input)
+	checked, err := checkedOf(view.checkView(), input)
+	return WeightedChecked{checked, view.weight}, err
+}
+
+// checkView returns the fields that the view of a check has too.
+func (view weightedCheckView) checkView() checkView {
+	return checkView{
+		status: view.status, signers: view.signers, number: view.number,
+		valueStart: view.valueStart, valueLength: view.valueLength,
+		slotStart: view.slotStart, slotLength: view.slotLength,
+		decisionStart: view.decisionStart, decisionLength: view.decisionLength,
+	}
 }
 
 // Named are the members that a call names.
@@ -72,7 +89,7 @@ type Named struct {
 // of the second, [ErrTooLight] of the first, of the second. One that is about the first or the second is in a
 // [CertificateError].
 func WeightedConflict(model FaultModel, weights []uint64, first, second []byte) (Named, error) {
-	return namedByWeight(nativeWeightedConflict, model, weights, first, second)
+	return namedByWeight(callWeightedConflict, model, weights, first, second)
 }
 
 // WeightedEquivocation returns the members that equivocated, and what they weigh: those that signed both of two
@@ -86,19 +103,19 @@ func WeightedConflict(model FaultModel, weights []uint64, first, second []byte) 
 // first, of the second, [ErrTooLight] of the first, of the second. One that is about the first or the second is in a
 // [CertificateError].
 func WeightedEquivocation(model FaultModel, weights []uint64, first, second []byte) (Named, error) {
-	return namedByWeight(nativeWeightedEquivocation, model, weights, first, second)
+	return namedByWeight(callWeightedEquivocation, model, weights, first, second)
 }
 
-type weighedNamer func(k uint32, weights []uint64, first, second []byte, room []uint32) (foundConflict, uint64)
+type weighedNamer func(k uint32, weights []uint64, first, second []byte, room []uint32) weightedConflictView
 
 // namedByWeight returns the members that a call names, and what they weigh.
 func namedByWeight(call weighedNamer, model FaultModel, weights []uint64, first, second []byte) (Named, error) {
 	// The first call tells how many indices it takes.
 	var members []uint32
-	view, weight := call(uint32(model), weights, first, second, nil)
+	view := call(uint32(model), weights, first, second, nil)
 	if view.status == statusRoom {
 		members = make([]uint32, view.count)
-		view, weight = call(uint32(model), weights, first, second, members)
+		view = call(uint32(model), weights, first, second, members)
 	}
-	return Named{members, weight}, errorAbout(view)
+	return Named{members, view.weight}, errorAbout(view.status, view.which, view.number)
 }

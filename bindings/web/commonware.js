@@ -6,9 +6,10 @@
 //     const commonware = await load();
 //     commonware.quorum(N3F1, 4); // 3
 
+import { ABSENT, OK, REPEATED_VALUE, ROOM } from "./calls.js";
 import { LeftOver, NoMembers, NoMemory64, NoModel, NotWhole, OtherVersion, RepeatedValue, WrongSize } from "./errors.js";
 import { Counted, Native, Room, U64_MAX, bytesOf, isBytes, isSupported, numberOf, wideOf } from "./native.js";
-import { ABSENT, OK, REPEATED_VALUE, ROOM, checked } from "./statuses.js";
+import { checked } from "./statuses.js";
 
 export * from "./errors.js";
 export { isSupported } from "./native.js";
@@ -209,7 +210,7 @@ export class Commonware {
 
     #keys(name, sizes, size, input, limits) {
         const bytes = bytesOf("input", input);
-        const view = checked(this.#native.call(name, "set", [...sizes, bytes, ...limitsOf(limits)]));
+        const view = checked(this.#native.call(name, [...sizes, bytes, ...limitsOf(limits)]));
         return { keys: itemsAt(bytes, view.start, size, view.count), left: bytes.slice(bytes.length - view.left) };
     }
 
@@ -247,7 +248,7 @@ export class Commonware {
     readMap(keySize, valueSize, input, limits = {}) {
         const bytes = bytesOf("input", input);
         const args = [sizeOf("keySize", keySize), sizeOf("valueSize", valueSize), bytes, ...limitsOf(limits)];
-        const view = checked(this.#native.call("map_read", "map", args));
+        const view = checked(this.#native.call("map_read", args));
         return columnsOf(keySize, valueSize, bytes, view);
     }
 
@@ -278,7 +279,7 @@ export class Commonware {
     readBiMap(keySize, valueSize, input, limits = {}) {
         const bytes = bytesOf("input", input);
         const args = [sizeOf("keySize", keySize), sizeOf("valueSize", valueSize), bytes, ...limitsOf(limits)];
-        const read = (length) => this.#native.call("bimap_read", "bimap", [...args, new Room(Uint32Array, length)]);
+        const read = (length) => this.#native.call("bimap_read", [...args, new Room(Uint32Array, length)]);
         const view = this.#withRoom(read, (it) => it.number, REPEATED_VALUE);
         if (view.status === REPEATED_VALUE) {
             throw new RepeatedValue(view.first, view.second);
@@ -298,7 +299,7 @@ export class Commonware {
         const bytes = bytesOf("input", input);
         const args = [bytes, wideOf("mostBytes", mostBytes), wideOf("mostSigners", mostSigners)];
         const read = (length) =>
-            this.#native.call("certificate_read", "certificate", [...args, new Room(Uint32Array, length)]);
+            this.#native.call("certificate_read", [...args, new Room(Uint32Array, length)]);
         const view = this.#withRoom(read, (it) => it.signers);
         const value = bytes.slice(view.valueStart, view.valueStart + view.valueLength);
         return { value, signers: [...view.out], left: bytes.slice(bytes.length - view.left) };
@@ -329,25 +330,25 @@ export class Commonware {
     checkQuorum(k, members, certificate) {
         const bytes = bytesOf("certificate", certificate);
         const args = [numberOf("k", k), numberOf("members", members), bytes];
-        return checkedOf(bytes, checked(this.#native.call("certificate_check", "check", args)));
+        return checkedOf(bytes, checked(this.#native.call("certificate_check", args)));
     }
 
     /** Returns the indices of the members that signed both of two certificates for different values. No signature
      * is looked at. */
     conflict(k, members, first, second) {
-        return this.#both("conflict", "conflict", [numberOf("k", k), numberOf("members", members)], first, second).both;
+        return this.#both("conflict", [numberOf("k", k), numberOf("members", members)], first, second).both;
     }
 
     /** The same of two certificates for different decisions for one slot: these members equivocated. */
     equivocation(k, members, first, second) {
-        return this.#both("equivocation", "conflict", [numberOf("k", k), numberOf("members", members)], first, second).both;
+        return this.#both("equivocation", [numberOf("k", k), numberOf("members", members)], first, second).both;
     }
 
     /** What the weights of a committee allow, as bigints: what all weigh, what may be faulty, a quorum, and the least
      * weight whose subsets share one more than may be faulty with each quorum. */
     weightNumbers(k, weights) {
         const args = [numberOf("k", k), weightsOf(weights)];
-        const view = checked(this.#native.call("weights_quorum", "weights", args));
+        const view = checked(this.#native.call("weights_quorum", args));
         const { total, tolerated, quorum, smallerQuorum } = view;
         return { total, tolerated, quorum, smallerQuorum };
     }
@@ -356,27 +357,27 @@ export class Commonware {
     checkWeightedQuorum(k, weights, certificate) {
         const bytes = bytesOf("certificate", certificate);
         const args = [numberOf("k", k), weightsOf(weights), bytes];
-        const view = checked(this.#native.call("weighted_check", "weightedCheck", args));
+        const view = checked(this.#native.call("weighted_check", args));
         return { ...checkedOf(bytes, view), weight: view.weight };
     }
 
     /** Returns the members that signed both of two certificates for different values, and what they weigh. */
     weightedConflict(k, weights, first, second) {
         const args = [numberOf("k", k), weightsOf(weights)];
-        return this.#both("weighted_conflict", "weightedConflict", args, first, second);
+        return this.#both("weighted_conflict", args, first, second);
     }
 
     /** The same of two certificates for different decisions for one slot: these members equivocated. */
     weightedEquivocation(k, weights, first, second) {
         const args = [numberOf("k", k), weightsOf(weights)];
-        return this.#both("weighted_equivocation", "weightedConflict", args, first, second);
+        return this.#both("weighted_equivocation", args, first, second);
     }
 
-    #both(name, kind, committee, first, second) {
+    #both(name, committee, first, second) {
         const args = [...committee, bytesOf("first", first), bytesOf("second", second)];
-        const find = (length) => this.#native.call(name, kind, [...args, new Room(Uint32Array, length)]);
+        const find = (length) => this.#native.call(name, [...args, new Room(Uint32Array, length)]);
         const view = this.#withRoom(find, (it) => it.count);
-        return kind === "conflict" ? { both: [...view.out] } : { both: [...view.out], weight: view.weight };
+        return view.weight === undefined ? { both: [...view.out] } : { both: [...view.out], weight: view.weight };
     }
 
     /** Calls with no room, and where some is needed again with as much. */
@@ -386,12 +387,12 @@ export class Commonware {
     }
 
     #place(name, args) {
-        const view = checked(this.#native.call(name, "place", args), ABSENT);
+        const view = checked(this.#native.call(name, args), ABSENT);
         return view.status === OK ? view.index : null;
     }
 
     #plain(name, args, most) {
-        const view = this.#native.call(name, "written", [...args, new Room(Uint8Array, most)]);
+        const view = this.#native.call(name, [...args, new Room(Uint8Array, most)]);
         return checked(view).out.slice(0, view.size);
     }
 

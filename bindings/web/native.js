@@ -1,8 +1,8 @@
 // The proved functions as the module has them: arguments go into its memory, and a view comes out. The other files
 // call them by this one alone.
 
+import { MEMORY, RESULTS } from "./calls.js";
 import { NoMemory64, OutOfMemory, OutOfRange } from "./errors.js";
-import { MEMORY } from "./statuses.js";
 
 export const U32_MAX = 2 ** 32 - 1;
 export const U64_MAX = 2n ** 64n - 1n;
@@ -14,24 +14,6 @@ const PAGE = 65536;
 const VIEW_SIZE = 128;
 // Returns the name of the type of a typed array, which nothing but one has.
 const typeOf = Object.getOwnPropertyDescriptor(Object.getPrototypeOf(Uint8Array.prototype), Symbol.toStringTag).get;
-
-// The fields of each view after its status, in their order. Those of 32 bits begin with u, the others have 64: a
-// weight is a bigint, and else a number, since no length here reaches 2^53.
-const VIEWS = {
-    set: ["ucount", "number", "start", "left"],
-    place: ["index"],
-    written: ["count", "number", "size"],
-    map: ["ucount", "number", "keys", "values", "left"],
-    bimap: ["ucount", "number", "keys", "values", "left", "first", "second"],
-    certificate: ["usigners", "number", "valueStart", "valueLength", "left"],
-    conflict: ["uwhich", "number", "count"],
-    weights: ["number", "total", "tolerated", "quorum", "smallerQuorum"],
-    weightedConflict: ["uwhich", "number", "count", "weight"],
-};
-VIEWS.check = ["usigners", "number", "valueStart", "valueLength", "slotStart", "slotLength"];
-VIEWS.check.push("decisionStart", "decisionLength");
-VIEWS.weightedCheck = [...VIEWS.check, "weight"];
-const WEIGHTS = new Set(["total", "tolerated", "quorum", "smallerQuorum", "weight"]);
 
 /** Tells whether WebAssembly here has memories of 64 bits. */
 export function isSupported() {
@@ -76,22 +58,16 @@ function roundUp(number) {
     return 16 * Math.ceil(number / 16);
 }
 
-/** Returns the view at a place in memory. */
+// How a number of each type is read. One of 64 bits is a bigint, and a length a number, since none here reaches 2^53.
+const READ = {
+    u32: (data, at) => data.getUint32(at, true),
+    u64: (data, at) => data.getBigUint64(at, true),
+    usize: (data, at) => Number(data.getBigUint64(at, true)),
+};
+
+/** Returns the view of these fields in memory. */
 function viewAt(data, fields) {
-    const view = { status: data.getUint32(0, true) };
-    let at = 4;
-    for (const field of fields) {
-        if (field.startsWith("u")) {
-            view[field.slice(1)] = data.getUint32(at, true);
-            at += 4;
-            continue;
-        }
-        at = (at + 7) & ~7;
-        const wide = data.getBigUint64(at, true);
-        view[field] = WEIGHTS.has(field) ? wide : Number(wide);
-        at += 8;
-    }
-    return view;
+    return Object.fromEntries(fields.map(([name, type, offset]) => [name, READ[type](data, offset)]));
 }
 
 /** Room for as many numbers of a type, which a function fills. */
@@ -153,7 +129,7 @@ export class Native {
 
     /** Calls a function, and returns its view, with what stands in a Room afterwards as `out`. The arguments are
      * numbers, bigints, typed arrays, and the two classes above. At least `heap` bytes may be allocated. */
-    call(name, kind, args, heap = 0) {
+    call(name, args, heap = 0) {
         // The view first, then each array, at multiples of 16.
         let top = this.#base + VIEW_SIZE;
         const words = [BigInt(this.#base)];
@@ -177,7 +153,7 @@ export class Native {
         }
         this.#exports.commonware_heap_reset(BigInt(top), BigInt(buffer.byteLength - top));
         this.#exports[`commonware_${name}`](...words);
-        const view = viewAt(new DataView(buffer, this.#base, VIEW_SIZE), VIEWS[kind]);
+        const view = viewAt(new DataView(buffer, this.#base, VIEW_SIZE), RESULTS[name]);
         for (const [at, it] of placed.filter(([, it]) => it instanceof Room)) {
             // A copy, since the next call takes the memory anew.
             view.out = new it.Type(buffer, at, it.length).slice();
@@ -189,7 +165,7 @@ export class Native {
     allocating(name, args) {
         const given = args.reduce((sum, it) => sum + (it.byteLength ?? 0), 0);
         for (let heap = PAGE + 4 * given; ; heap *= 4) {
-            const view = this.call(name, "written", args, heap);
+            const view = this.call(name, args, heap);
             if (view.status !== MEMORY) {
                 return view;
             }

@@ -1,5 +1,27 @@
-// The statuses of the library, and the error that each is.
+// The error that each status of the library is.
 
+import {
+    END_OF_INPUT,
+    INVALID_LENGTH,
+    INVALID_VARINT,
+    LEFT_OVER,
+    MEMORY,
+    NOT_STRICT,
+    NOT_WHOLE,
+    NO_MEMBERS,
+    NO_MODEL,
+    NO_SIZE,
+    NO_SLOT,
+    OK,
+    OTHER_SLOT,
+    OUTSIDE,
+    REPEATED_KEY,
+    SAME_VALUE,
+    TOO_FEW,
+    TOO_LIGHT,
+    WEIGHT_OVERFLOW,
+    ZERO_WEIGHT,
+} from "./calls.js";
 import {
     EndOfInput,
     InvalidLength,
@@ -22,34 +44,28 @@ import {
     ZeroWeight,
 } from "./errors.js";
 
-export const OK = 0;
-export const MEMORY = 5;
-export const ROOM = 11;
-export const ABSENT = 12;
-export const REPEATED_VALUE = 18;
-
 // The error of each status, which is made of the view's number. Those of ROOM, ABSENT and REPEATED_VALUE aren't here:
 // the calls that have these go on, or know more.
 const BY_STATUS = new Map([
-    [1, EndOfInput],
-    [2, InvalidVarint],
-    [3, InvalidLength],
-    [4, NotStrict],
-    [5, OutOfMemory],
-    [6, LeftOver],
-    [7, NoMembers],
-    [8, SameValue],
-    [9, Outside],
-    [10, TooFew],
-    [13, NoModel],
-    [14, NoSlot],
-    [15, OtherSlot],
-    [16, NoSize],
-    [17, NotWhole],
-    [19, RepeatedKey],
-    [20, ZeroWeight],
-    [21, WeightOverflow],
-    [22, TooLight],
+    [END_OF_INPUT, EndOfInput],
+    [INVALID_VARINT, InvalidVarint],
+    [INVALID_LENGTH, InvalidLength],
+    [NOT_STRICT, NotStrict],
+    [MEMORY, OutOfMemory],
+    [LEFT_OVER, LeftOver],
+    [NO_MEMBERS, NoMembers],
+    [SAME_VALUE, SameValue],
+    [OUTSIDE, Outside],
+    [TOO_FEW, TooFew],
+    [NO_MODEL, NoModel],
+    [NO_SLOT, NoSlot],
+    [OTHER_SLOT, OtherSlot],
+    [NO_SIZE, NoSize],
+    [NOT_WHOLE, NotWhole],
+    [REPEATED_KEY, RepeatedKey],
+    [ZERO_WEIGHT, ZeroWeight],
+    [WEIGHT_OVERFLOW, WeightOverflow],
+    [TOO_LIGHT, TooLight],
 ]);
 
 /** Returns the error of a view whose status isn't 0. */

@@ -1,14 +1,12 @@
-"""The functions of the shared library as `bindings/c/commonware.h` declares them, and what they get
-from Python. The other modules call them by this one alone."""
+"""What the functions of the shared library get from Python, and the errors of their statuses."""
 
 import array
 import ctypes
 import operator
-from ctypes import c_char, c_size_t, c_uint32, c_uint64, c_void_p
-from typing import Any, Callable, Iterable, NamedTuple, Optional, Tuple, Type, TypeVar, Union
+from ctypes import c_char, c_void_p
+from typing import Any, Callable, Iterable, NamedTuple, Optional, Tuple, TypeVar, Union
 
-from . import errors
-from ._library import declare
+from . import _calls, errors
 
 U32_MAX = 2**32 - 1
 U64_MAX = SIZE_MAX = 2**64 - 1
@@ -18,8 +16,6 @@ BytesLike = Union[bytes, bytearray, memoryview]
 
 Numbers = array.array
 """Indices of 32 bits or weights of 64, as the library has them on the one machine that it is for."""
-
-OK, NOT_STRICT, ROOM, REPEATED_VALUE = 0, 4, 11, 18
 
 _Made = TypeVar("_Made")
 
@@ -31,78 +27,6 @@ def made(make: Callable[..., _Made], *arguments: Any) -> _Made:
         return make(*arguments)
     except MemoryError:
         raise errors.OutOfMemory() from None
-
-
-def _view(name: str, *fields: Tuple[str, Any]) -> Type[ctypes.Structure]:
-    """Returns the struct of a result, whose first field is a status."""
-    return type(name, (ctypes.Structure,), {"_fields_": [("status", c_uint32), *fields]})
-
-
-def _sizes(*names: str) -> Iterable[Tuple[str, Any]]:
-    return ((name, c_size_t) for name in names)
-
-
-_KEYS = _view("Keys", ("count", c_uint32), *_sizes("number", "start", "left"))
-_PAIRS = _view("Pairs", ("count", c_uint32), *_sizes("number", "keys", "values", "left"))
-_BIMAP = _view(
-    "BiMap", ("count", c_uint32), *_sizes("number", "keys", "values", "left", "first", "second")
-)
-_PLACE = _view("Place", *_sizes("index"))
-_WRITTEN = _view("Written", *_sizes("count", "number", "size"))
-_CERTIFICATE = _view(
-    "Certificate", ("signers", c_uint32), *_sizes("number", "value_start", "value_length", "left")
-)
-_CHECKED = (
-    ("signers", c_uint32),
-    *_sizes("number", "value_start", "value_length", "slot_start", "slot_length"),
-    *_sizes("decision_start", "decision_length"),
-)
-_CHECK = _view("Check", *_CHECKED)
-_NAMED = (("which", c_uint32), *_sizes("number", "count"))
-_CONFLICT = _view("Conflict", *_NAMED)
-_WEIGHTS = _view(
-    "WeightNumbers",
-    *_sizes("number"),
-    *((name, c_uint64) for name in ("total", "tolerated", "quorum", "smaller_quorum")),
-)
-_WEIGHTED_CHECK = _view("WeightedCheck", *_CHECKED, ("weight", c_uint64))
-_WEIGHTED_CONFLICT = _view("WeightedConflict", *_NAMED, ("weight", c_uint64))
-
-_INPUT = (c_void_p, c_size_t)
-
-max_faults = declare("max_faults", c_uint32, c_uint32, c_uint32)
-quorum = declare("quorum", c_uint32, c_uint32, c_uint32)
-smaller_quorum = declare("smaller_quorum", c_uint32, c_uint32, c_uint32)
-committee_read = declare("committee_read", _KEYS, *_INPUT, c_size_t, c_size_t)
-committee_index = declare("committee_index", _PLACE, *_INPUT, c_void_p)
-committee_write = declare("committee_write", _WRITTEN, *_INPUT, *_INPUT)
-set_read = declare("set_read", _KEYS, c_size_t, *_INPUT, c_size_t, c_size_t)
-set_index = declare("set_index", _PLACE, *_INPUT, *_INPUT)
-set_write = declare("set_write", _WRITTEN, c_size_t, *_INPUT, *_INPUT)
-map_read = declare("map_read", _PAIRS, c_size_t, c_size_t, *_INPUT, c_size_t, c_size_t)
-map_write = declare("map_write", _WRITTEN, c_size_t, c_size_t, *_INPUT, *_INPUT)
-map_write_unique = declare("map_write_unique", _WRITTEN, c_size_t, c_size_t, *_INPUT, *_INPUT)
-bimap_read = declare(
-    "bimap_read", _BIMAP, c_size_t, c_size_t, *_INPUT, c_size_t, c_size_t, *_INPUT
-)
-certificate_read = declare(
-    "certificate_read", _CERTIFICATE, *_INPUT, c_size_t, c_size_t, *_INPUT
-)
-certificate_write = declare("certificate_write", _WRITTEN, *_INPUT, *_INPUT, *_INPUT)
-value_write = declare("value_write", _WRITTEN, *_INPUT, *_INPUT, *_INPUT)
-certificate_check = declare("certificate_check", _CHECK, c_uint32, c_uint32, *_INPUT)
-conflict = declare("conflict", _CONFLICT, c_uint32, c_uint32, *_INPUT, *_INPUT, *_INPUT)
-equivocation = declare(
-    "equivocation", _CONFLICT, c_uint32, c_uint32, *_INPUT, *_INPUT, *_INPUT
-)
-weights_quorum = declare("weights_quorum", _WEIGHTS, c_uint32, *_INPUT)
-weighted_check = declare("weighted_check", _WEIGHTED_CHECK, c_uint32, *_INPUT, *_INPUT)
-weighted_conflict = declare(
-    "weighted_conflict", _WEIGHTED_CONFLICT, c_uint32, *_INPUT, *_INPUT, *_INPUT, *_INPUT
-)
-weighted_equivocation = declare(
-    "weighted_equivocation", _WEIGHTED_CONFLICT, c_uint32, *_INPUT, *_INPUT, *_INPUT, *_INPUT
-)
 
 
 class _Buffer(ctypes.Structure):
@@ -187,7 +111,7 @@ def written(call: Callable[..., Any], most: int, *arguments: Any) -> bytes:
     """Returns what a call writes, which is at most `most` bytes and at least one."""
     out = made(bytearray, most)
     view = call(*arguments, ctypes.byref(c_char.from_buffer(out)), most)
-    if view.status == NOT_STRICT:
+    if view.status == _calls.NOT_STRICT:
         raise errors.NotStrict(view.number)
     check_status(view.status, view.number)
     with memoryview(out) as whole:
@@ -218,33 +142,33 @@ def weights_of(numbers: Iterable[int]) -> Numbers:
 
 
 _PLAIN = {
-    1: errors.EndOfInput,
-    2: errors.InvalidVarint,
-    4: errors.NotStrict,
-    5: errors.OutOfMemory,
-    7: errors.NoMembers,
-    8: errors.SameValue,
-    9: errors.Outside,
-    10: errors.TooFew,
-    13: errors.NoModel,
-    14: errors.NoSlot,
-    15: errors.OtherSlot,
-    16: errors.NoSize,
-    22: errors.TooLight,
+    _calls.END_OF_INPUT: errors.EndOfInput,
+    _calls.INVALID_VARINT: errors.InvalidVarint,
+    _calls.NOT_STRICT: errors.NotStrict,
+    _calls.MEMORY: errors.OutOfMemory,
+    _calls.NO_MEMBERS: errors.NoMembers,
+    _calls.SAME_VALUE: errors.SameValue,
+    _calls.OUTSIDE: errors.Outside,
+    _calls.TOO_FEW: errors.TooFew,
+    _calls.NO_MODEL: errors.NoModel,
+    _calls.NO_SLOT: errors.NoSlot,
+    _calls.OTHER_SLOT: errors.OtherSlot,
+    _calls.NO_SIZE: errors.NoSize,
+    _calls.TOO_LIGHT: errors.TooLight,
 }
 _NUMBERED = {
-    3: errors.InvalidLength,
-    6: errors.LeftOver,
-    17: errors.NotWhole,
-    19: errors.RepeatedKey,
-    20: errors.ZeroWeight,
-    21: errors.WeightOverflow,
+    _calls.INVALID_LENGTH: errors.InvalidLength,
+    _calls.LEFT_OVER: errors.LeftOver,
+    _calls.NOT_WHOLE: errors.NotWhole,
+    _calls.REPEATED_KEY: errors.RepeatedKey,
+    _calls.ZERO_WEIGHT: errors.ZeroWeight,
+    _calls.WEIGHT_OVERFLOW: errors.WeightOverflow,
 }
 
 
 def check_status(status: int, number: int = 0, which: int = 0) -> None:
     """Raises the error of a status of the library, with its number, where it isn't OK."""
-    if status == OK:
+    if status == _calls.OK:
         return
     if status in _NUMBERED:
         error: errors.CommonwareError = _NUMBERED[status](number)

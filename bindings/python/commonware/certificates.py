@@ -6,9 +6,10 @@ innocent member.
 
 from typing import Any, Callable, Iterable, NamedTuple, Optional, Tuple, Union
 
-from . import _native
+from . import _calls, _native
+from ._calls import OK, ROOM
 from ._items import whole
-from ._native import OK, ROOM, SIZE_MAX, U32_MAX, BytesLike, Input, check_status, input_of, made, number_of, written
+from ._native import SIZE_MAX, U32_MAX, BytesLike, Input, check_status, input_of, made, number_of, written
 from .faults import k_of, members_of
 from .sets import Committee
 
@@ -65,10 +66,10 @@ class Certificate:
         limits = _limit_of("most_bytes", most_bytes), _limit_of("most_signers", most_signers)
         # The first call tells how many indices it takes.
         signers, room = _native.room_for(0)
-        found = _native.certificate_read(*view.arguments, *limits, *room)
+        found = _calls.certificate_read(*view.arguments, *limits, *room)
         if found.status == ROOM:
             signers, room = _native.room_for(found.signers)
-            found = _native.certificate_read(*view.arguments, *limits, *room)
+            found = _calls.certificate_read(*view.arguments, *limits, *room)
         check_status(found.status, found.number)
         certificate = object.__new__(cls)
         end = len(view.data) - found.left
@@ -109,7 +110,7 @@ class Certificate:
         given = input_of(value)
         indices = _native.indices_of("signer", signers)
         most = 10 + len(given.data) + 5 * len(indices)
-        return written(_native.certificate_write, most, *given.arguments, *_native.pointed(indices))
+        return written(_calls.certificate_write, most, *given.arguments, *_native.pointed(indices))
 
     @property
     def value(self) -> bytes:
@@ -208,7 +209,7 @@ def check(k: int, members: _Members, certificate: _Given) -> Checked:
     commonware.errors.TooFew: fewer signers than a quorum
     """
     given = _certificate_of(certificate)
-    view = _native.certificate_check(k_of(k), _count_of(members), *given.arguments)
+    view = _calls.certificate_check(k_of(k), _count_of(members), *given.arguments)
     check_status(view.status, view.number)
     return found_in(given, view)
 
@@ -265,7 +266,7 @@ def conflict(k: int, members: _Members, first: _Given, second: _Given) -> Tuple[
     Traceback (most recent call last):
     commonware.errors.TooFew: certificate 2: fewer signers than a quorum
     """
-    return _named(_native.conflict, k, members, first, second)
+    return _named(_calls.conflict, k, members, first, second)
 
 
 def equivocation(k: int, members: _Members, first: _Given, second: _Given) -> Tuple[int, ...]:
@@ -290,7 +291,7 @@ def equivocation(k: int, members: _Members, first: _Given, second: _Given) -> Tu
     Traceback (most recent call last):
     commonware.errors.OtherSlot: two different slots
     """
-    return _named(_native.equivocation, k, members, first, second)
+    return _named(_calls.equivocation, k, members, first, second)
 
 
 def slot_value(slot: BytesLike, decision: BytesLike) -> bytes:
@@ -304,4 +305,4 @@ def slot_value(slot: BytesLike, decision: BytesLike) -> bytes:
     """
     given, decided = input_of(slot), input_of(decision)
     most = 5 + len(given.data) + len(decided.data)
-    return written(_native.value_write, most, *given.arguments, *decided.arguments)
+    return written(_calls.value_write, most, *given.arguments, *decided.arguments)

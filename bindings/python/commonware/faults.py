@@ -1,6 +1,6 @@
 """How many of n participants may be faulty, and how many make a quorum."""
 
-from . import _native, errors
+from . import _calls, _native, errors
 
 __all__ = ["N3F1", "N5F1", "max_faults", "quorum", "smaller_quorum"]
 
@@ -41,7 +41,7 @@ def max_faults(k: int, n: int) -> int:
     Traceback (most recent call last):
     commonware.errors.NoModel: k is below 2
     """
-    return int(_native.max_faults(*_model_of(k, n)))
+    return int(_calls.max_faults(*_model_of(k, n)))
 
 
 def quorum(k: int, n: int) -> int:
@@ -52,7 +52,7 @@ def quorum(k: int, n: int) -> int:
     >>> quorum(N3F1, 4), quorum(N5F1, 100)
     (3, 81)
     """
-    return int(_native.quorum(*_model_of(k, n)))
+    return int(_calls.quorum(*_model_of(k, n)))
 
 
 def smaller_quorum(k: int, n: int) -> int:
@@ -63,4 +63,4 @@ def smaller_quorum(k: int, n: int) -> int:
     >>> smaller_quorum(N5F1, 10)
     3
     """
-    return int(_native.smaller_quorum(*_model_of(k, n)))
+    return int(_calls.smaller_quorum(*_model_of(k, n)))

@@ -3,7 +3,7 @@
 from collections.abc import ItemsView, Iterable, Iterator, Mapping, ValuesView
 from typing import Any, Callable, Optional, Tuple, Type, TypeVar, Union
 
-from . import _native, errors
+from . import _calls, _native, errors
 from ._items import Items, item_of, items_at, whole
 from ._native import SIZE_MAX, BytesLike, check_status, input_of, limits_of, made, number_of, written
 from .sets import SetView
@@ -181,7 +181,7 @@ class MapView(_Pairs):
         """
         view = input_of(data)
         sizes = number_of("key_size", key_size, SIZE_MAX), number_of("value_size", value_size, SIZE_MAX)
-        found = _native.map_read(*sizes, *view.arguments, *limits_of(least, most))
+        found = _calls.map_read(*sizes, *view.arguments, *limits_of(least, most))
         check_status(found.status, found.number)
         return cls._of(sizes, view.data, found), view.data[len(view.data) - found.left :]
 
@@ -212,7 +212,7 @@ class MapView(_Pairs):
         >>> MapView.encode(1, 2, {b"b": b"c2", b"a": b"c1"}), MapView.encode(1, 2, b"bc2ac1bc3")
         (b'\x02ab\x02c1c2', b'\x02ab\x02c1c2')
         """
-        return _encoded(_native.map_write, key_size, value_size, pairs)
+        return _encoded(_calls.map_write, key_size, value_size, pairs)
 
     @staticmethod
     def encode_unique(key_size: int, value_size: int, pairs: _Given) -> bytes:
@@ -225,7 +225,7 @@ class MapView(_Pairs):
         Traceback (most recent call last):
         commonware.errors.RepeatedKey: pair 2 has the key of an earlier one
         """
-        return _encoded(_native.map_write_unique, key_size, value_size, pairs)
+        return _encoded(_calls.map_write_unique, key_size, value_size, pairs)
 
 
 class BiMapView(_Pairs):
@@ -262,11 +262,11 @@ class BiMapView(_Pairs):
         asked = (*sizes, *view.arguments, *limits_of(least, most))
         # The first call tells how many indices it takes.
         by_value, room = _native.room_for(0)
-        found = _native.bimap_read(*asked, *room)
-        if found.status == _native.ROOM:
+        found = _calls.bimap_read(*asked, *room)
+        if found.status == _calls.ROOM:
             by_value, room = _native.room_for(found.number)
-            found = _native.bimap_read(*asked, *room)
-        if found.status == _native.REPEATED_VALUE:
+            found = _calls.bimap_read(*asked, *room)
+        if found.status == _calls.REPEATED_VALUE:
             raise errors.RepeatedValue(found.first, found.second)
         check_status(found.status, found.number)
         bimap = cls._of(sizes, view.data, found)

@@ -3,9 +3,10 @@
 from collections.abc import Sequence
 from typing import Any, Iterable, Iterator, Optional, Tuple, Type, TypeVar, Union, cast, overload
 
-from . import _native, errors, faults
+from . import _calls, errors, faults
+from ._calls import OK
 from ._items import Items, items_at, one_after_another, whole
-from ._native import OK, SIZE_MAX, BytesLike, check_status, input_of, limits_of, number_of, written
+from ._native import SIZE_MAX, BytesLike, check_status, input_of, limits_of, number_of, written
 
 __all__ = ["MEMBER_SIZE", "Committee", "SetView"]
 
@@ -129,7 +130,7 @@ class SetView(_KeySequence):
         """
         view = input_of(data)
         size = number_of("size", size, SIZE_MAX)
-        found = _native.set_read(size, *view.arguments, *limits_of(least, most))
+        found = _calls.set_read(size, *view.arguments, *limits_of(least, most))
         check_status(found.status, found.number)
         items = items_at(size, found.count, view.data, found.start)
         end = len(view.data) - found.left
@@ -164,7 +165,7 @@ class SetView(_KeySequence):
         """
         size = number_of("size", size, SIZE_MAX)
         given = input_of(one_after_another(size, keys))
-        return written(_native.set_write, 5 + len(given.data), size, *given.arguments)
+        return written(_calls.set_write, 5 + len(given.data), size, *given.arguments)
 
     def index_of(self, key: BytesLike) -> Optional[int]:
         r"""Returns the index of a key, or None where it isn't there, as one of another size never is, in
@@ -180,7 +181,7 @@ class SetView(_KeySequence):
         if self.size == 0:
             return 0 if len(self) > 0 else None
         keys = input_of(self._items.data)
-        place = _native.set_index(*keys.arguments, *given.arguments)
+        place = _calls.set_index(*keys.arguments, *given.arguments)
         return place.index if place.status == OK else None
 
     def __reduce__(self) -> Tuple[Any, ...]:
@@ -232,7 +233,7 @@ class Committee(_KeySequence):
         (1, b'more')
         """
         view = input_of(data)
-        found = _native.committee_read(*view.arguments, *limits_of(least, most))
+        found = _calls.committee_read(*view.arguments, *limits_of(least, most))
         check_status(found.status, found.number)
         items = items_at(MEMBER_SIZE, found.count, view.data, found.start)
         end = len(view.data) - found.left
@@ -265,7 +266,7 @@ class Committee(_KeySequence):
         length, over = divmod(len(given.data), MEMBER_SIZE)
         if over > 0:
             raise errors.NotWhole(over)
-        return written(_native.committee_write, 5 + len(given.data), given.pointer, length)
+        return written(_calls.committee_write, 5 + len(given.data), given.pointer, length)
 
     def index_of(self, key: BytesLike) -> Optional[int]:
         """Returns the index of a member, or None where there is no such, as one of another size never is, in
@@ -279,7 +280,7 @@ class Committee(_KeySequence):
         if len(given.data) != MEMBER_SIZE:
             return None
         members = input_of(self._items.data)
-        place = _native.committee_index(members.pointer, len(self), given.pointer)
+        place = _calls.committee_index(members.pointer, len(self), given.pointer)
         return place.index if place.status == OK else None
 
     def max_faults(self, k: int) -> int:

@@ -9,8 +9,9 @@ import array
 from collections.abc import Sequence
 from typing import Any, Callable, Iterable, Iterator, NamedTuple, Optional, Tuple, Union, overload
 
-from . import _native
-from ._native import ROOM, check_status, made
+from . import _calls, _native
+from ._calls import ROOM
+from ._native import check_status, made
 from .certificates import _certificate_of, _Given, found_in
 from .faults import k_of
 
@@ -62,7 +63,7 @@ class Weights(Sequence[int]):
 
     def _numbers(self, k: int) -> Any:
         """Returns what the library says of the weights in a model."""
-        view = _native.weights_quorum(k_of(k), *_native.pointed(self._items))
+        view = _calls.weights_quorum(k_of(k), *_native.pointed(self._items))
         check_status(view.status, view.number)
         return view
 
@@ -190,7 +191,7 @@ def weighted_check(k: int, weights: _Weights, certificate: _Given) -> WeightedCh
     commonware.errors.TooLight: the signers weigh less than a quorum
     """
     given = _certificate_of(certificate)
-    view = _native.weighted_check(k_of(k), *_pointed(weights), *given.arguments)
+    view = _calls.weighted_check(k_of(k), *_pointed(weights), *given.arguments)
     check_status(view.status, view.number)
     return WeightedChecked(*found_in(given, view), view.weight)
 
@@ -233,7 +234,7 @@ def weighted_conflict(k: int, weights: _Weights, first: _Given, second: _Given) 
     Traceback (most recent call last):
     commonware.errors.TooLight: certificate 2: the signers weigh less than a quorum
     """
-    return _named(_native.weighted_conflict, k, weights, first, second)
+    return _named(_calls.weighted_conflict, k, weights, first, second)
 
 
 def weighted_equivocation(k: int, weights: _Weights, first: _Given, second: _Given) -> Named:
@@ -252,4 +253,4 @@ def weighted_equivocation(k: int, weights: _Weights, first: _Given, second: _Giv
     >>> weighted_equivocation(N3F1, weights, first, Certificate.encode(slot_value(b"view 7", b"B"), [0, 2, 3]))
     Named(members=(0,), weight=40)
     """
-    return _named(_native.weighted_equivocation, k, weights, first, second)
+    return _named(_calls.weighted_equivocation, k, weights, first, second)

@@ -25,6 +25,7 @@ from commonware import (
     MapView,
     SetView,
     Weights,
+    _calls,
     _library,
     _native,
     check,
@@ -128,16 +129,16 @@ print(list(commonware.SetView.decode(1, memoryview(b"-\\2ab")[1:])))
         self.assertGreater(len(declared), 15)
         self.assertEqual((declared.pop("version"), _library.version_number.argtypes), ("void", ()))
         for name, arguments in declared.items():
-            self.assertEqual(len(getattr(_native, name).argtypes), arguments.count(",") + 1, name)
+            self.assertEqual(len(getattr(_calls, name).argtypes), arguments.count(",") + 1, name)
 
     def test_every_result_of_the_header_is_declared(self):
         text = re.sub(r"/\*.*?\*/", "", (HERE.parent / "c/commonware.h").read_text(), flags=re.DOTALL)
         results = dict((name, body) for body, name in re.findall(r"typedef struct \{(.*?)\} (\w+);", text, re.DOTALL))
-        kinds = {"uint32_t": _native.c_uint32, "size_t": _native.c_size_t, "uint64_t": _native.c_uint64}
+        kinds = {"uint32_t": _calls.c_uint32, "size_t": _calls.c_size_t, "uint64_t": _calls.c_uint64}
         for result, name in re.findall(r"\b(commonware_\w+_view) commonware_(\w+)\(", text):
             lines = re.findall(r"(\w+) ([\w, ]+);", results[result])
             fields = [(field, kinds[kind]) for kind, names in lines for field in names.split(", ")]
-            self.assertEqual(getattr(_native, name).restype._fields_, fields, name)
+            self.assertEqual(getattr(_calls, name).restype._fields_, fields, name)
 
     def test_every_status_of_the_header_has_an_error(self):
         text = (HERE.parent / "c/commonware.h").read_text()

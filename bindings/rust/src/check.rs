@@ -24,6 +24,22 @@ pub struct Checked<'a> {
     signer_count: u32,
 }
 
+impl From<raw::WeightedCheckView> for raw::CheckView {
+    fn from(view: raw::WeightedCheckView) -> raw::CheckView {
+        raw::CheckView {
+            status: view.status,
+            signers: view.signers,
+            number: view.number,
+            value_start: view.value_start,
+            value_length: view.value_length,
+            slot_start: view.slot_start,
+            slot_length: view.slot_length,
+            decision_start: view.decision_start,
+            decision_length: view.decision_length,
+        }
+    }
+}
+
 impl<'a> Checked<'a> {
     /// Returns what the library has found in an input that is a certificate of a quorum.
     pub(crate) fn of(input: &'a [u8], view: &raw::CheckView) -> Checked<'a> {

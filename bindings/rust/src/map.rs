@@ -353,7 +353,7 @@ impl<'a> MapView<'a> {
 
 /// Returns what a call writes of these pairs.
 fn encoded(
-    write: raw::MapWrite,
+    write: raw::MapWriteCall,
     key_size: usize,
     value_size: usize,
     pairs: &[u8],

@@ -39,15 +39,14 @@ impl Which {
     }
 }
 
-impl AsRef<raw::ConflictView> for raw::ConflictView {
-    fn as_ref(&self) -> &raw::ConflictView {
-        self
-    }
-}
-
-impl AsRef<raw::ConflictView> for raw::WeightedConflictView {
-    fn as_ref(&self) -> &raw::ConflictView {
-        &self.conflict
+impl From<raw::WeightedConflictView> for raw::ConflictView {
+    fn from(view: raw::WeightedConflictView) -> raw::ConflictView {
+        raw::ConflictView {
+            status: view.status,
+            which: view.which,
+            number: view.number,
+            count: view.count,
+        }
     }
 }
 
@@ -63,18 +62,19 @@ impl fmt::Display for Which {
 /// Returns the members that a call names, which gets a room for their indices, and what it says of
 /// them. Else what it says, or `None` where an allocation failed. No memory is taken where no one
 /// is named.
-pub fn named_by<V: AsRef<raw::ConflictView>>(
+pub fn named_by<V: Copy + Into<raw::ConflictView>>(
     call: impl Fn(&mut [u32]) -> V,
 ) -> Result<(Vec<u32>, V), Option<V>> {
     let mut few = [0; FEW];
     let mut view = call(&mut few);
-    if !matches!(view.as_ref().status, status::OK | status::ROOM) {
+    let said: raw::ConflictView = view.into();
+    if !matches!(said.status, status::OK | status::ROOM) {
         return Err(Some(view));
     }
-    let named = indices(&few, view.as_ref().count, |room| {
+    let named = indices(&few, said.count, |room| {
         view = call(room);
-        let status = view.as_ref().status;
-        debug_assert_eq!(status, status::OK, "there is room for each member");
+        let said: raw::ConflictView = view.into();
+        debug_assert_eq!(said.status, status::OK, "there is room for each member");
     });
     Ok((named.ok_or(None)?, view))
 }
@@ -82,7 +82,7 @@ pub fn named_by<V: AsRef<raw::ConflictView>>(
 /// Returns the members that a call names for two inputs, of a committee with this number of them.
 /// Else what the library says of them, or `None` where an allocation failed.
 pub fn named(
-    judge: raw::Judge,
+    judge: raw::ConflictCall,
     model: FaultModel,
     members: u32,
     [first, second]: [&[u8]; 2],

@@ -270,7 +270,7 @@ fn checked_raw(k: u32, weights: &[u64], input: &[u8]) -> Result<(usize, usize, u
             input.len(),
         )
     };
-    let it = view.check;
+    let it = view;
     if it.status != 0 {
         let parts = [
             it.value_start,
@@ -330,7 +330,7 @@ fn certificates_are_checked_as_by_the_naive_check() {
 /// Names the members of two inputs by a library's function alone, with rooms that are just long
 /// enough, too long, and too short.
 fn named_raw(
-    judge: raw::WeightedJudge,
+    judge: raw::WeightedConflictCall,
     k: u32,
     weights: &[u64],
     [first, second]: [&[u8]; 2],
@@ -350,7 +350,7 @@ fn named_raw(
                 room.len(),
             )
         };
-        (view.conflict, view.weight)
+        (view, view.weight)
     };
     let mut room = [u32::MAX; 20];
     let (said, weight) = call(&mut room);

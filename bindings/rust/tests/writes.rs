@@ -153,7 +153,7 @@ type Encode = fn(usize, usize, &[u8]) -> Result<Vec<u8>, EncodeError>;
 
 /// A way to write a map: the call of the library, and that of the crate.
 struct MapWriter {
-    call: raw::MapWrite,
+    call: raw::MapWriteCall,
     encode: Encode,
 }
 

@@ -12,7 +12,7 @@ ghost use Rattle.commonware_c.specs.Status.{IsRefusedWith};
 use crate::maps::{MapAt, find_map};
 use crate::statuses::{OK, REPEATED_VALUE, ROOM, status_of};
 
-/// A bimap of keys and values at the start of an input, for a caller in C.
+/// A bimap of keys of one size and values of another at the start of the input.
 ///
 /// Two pairs of keys of 20 bytes and values of 8, which are `02`, 40 bytes, `02` and 16 bytes, have
 /// status 0, count 2, keys 1, values 42 and 0 left where the values differ. Where they are the same
@@ -20,34 +20,40 @@ use crate::statuses::{OK, REPEATED_VALUE, ROOM, status_of};
 #[repr(C)]
 #[derive(Clone, Copy, Drop)]
 pub struct BimapView {
-    /// 0, or why there is no bimap.
+    /// OK, END_OF_INPUT, INVALID_VARINT, INVALID_LENGTH, NOT_STRICT, ROOM or REPEATED_VALUE.
     pub status: u32,
-    /// How many pairs there are.
+    /// At OK: how many pairs there are.
     pub count: u32,
-    /// The length that is out of range, or the number of pairs that need room, where that is the
-    /// status.
+    /// At INVALID_LENGTH: the stated length, of the keys or the values; at ROOM: how many indices
+    /// `room` has to have, one for each pair.
     pub number: usize,
-    /// Where the first key begins. The next follows it.
+    /// At OK: the offset of the first key.
     pub keys: usize,
-    /// Where the first value begins, which is that of the first key. The next follows it.
+    /// At OK: the offset of the first value, which is that of the first key.
     pub values: usize,
-    /// How many bytes follow the bimap.
+    /// At OK: how many bytes of the input follow the last value.
     pub left: usize,
-    /// The index of the pair that has the value of the second, where a value is repeated.
+    /// At REPEATED_VALUE: the index of the earlier of two pairs with one value.
     pub first: usize,
-    /// The least index of a pair whose value an earlier pair has, where a value is repeated.
+    /// At REPEATED_VALUE: the later index, the least whose value stands earlier.
     pub second: usize,
 }
 
-/// Decodes a bimap of `least` to `most` pairs at the start of the input, with keys of `key_size`
-/// bytes and values of `value_size`: a map, as `commonware_map_read` decodes it, of which no two
-/// values are the same. These are the inputs that `BiMap<FixedBytes<key_size>,
-/// FixedBytes<value_size>>` is decoded from.
+/// Decodes a bimap of `least` to `most` pairs at the start of the input: a map of which no two
+/// values are the same. All is as commonware_map_read has it, and a map that it refuses has the
+/// same first fault (decoding error) here. Of a map, ROOM where `room` has fewer indices than there
+/// are pairs; else REPEATED_VALUE where two values are the same, and OK where all differ.
 ///
-/// Nothing is allocated: a repeated value is looked for by sorting the indices of the pairs in
-/// `room`, in O(n log n) comparisons. A room of fewer places than there are pairs is refused before
-/// that. After status 0 and 18 its first places are the indices of the pairs in the order of their
-/// values.
+/// `room` is for indices, and its length is in indices; what it holds before the call doesn't
+/// matter. After OK its first `count` are the indices of the pairs in the order of their values, by
+/// which a key is found by its value in O(log n) comparisons. After REPEATED_VALUE its first
+/// indices, as many as there are pairs, are in this order too, those of the same value in their own
+/// order. At both what follows them stays, and at every other status all of `room` does. A call
+/// with `room_length` 0 returns ROOM with how many indices it takes, or OK for no pairs. It takes
+/// O(n log n) comparisons. Never MEMORY.
+///
+/// There is no call that writes a bimap: it is what commonware_map_write_unique writes, and this
+/// call says whether two values are the same.
 #[unsafe(no_mangle)]
 pub extern "C" fn commonware_bimap_read(
     key_size: usize,

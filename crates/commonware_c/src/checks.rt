@@ -10,35 +10,39 @@ use committee_certificates::{CertificateAt, slot_of};
 use commonware_base::codec::{EncodeSize, UInt};
 use commonware_faults::tolerated_faults;
 
-/// A certificate that a quorum signed, for a caller in C.
+/// A certificate that a quorum signed.
 ///
 /// Among 4 members at a resilience of 3, `03 01 07 aa 03 00 01 02` has status 0, 3 signers, and a
 /// value of 3 bytes at 1, with the slot of 1 byte at 2 and the decision of 1 byte at 3.
 #[repr(C)]
 #[derive(Clone, Copy, Drop)]
 pub struct CheckView {
-    /// 0, or why it is no certificate of a quorum.
+    /// OK, or why it is none.
     pub status: u32,
-    /// How many signers there are.
+    /// At OK: how many members signed.
     pub signers: u32,
-    /// How many bytes are left over, where that is the status.
+    /// At LEFT_OVER: how many bytes follow the certificate.
     pub number: usize,
-    /// Where the value begins.
+    /// At OK: the offset of the value.
     pub value_start: usize,
-    /// How many bytes it has.
+    /// At OK: how many bytes it has.
     pub value_length: usize,
-    /// Where the slot begins, which is never at 0; 0 where the value has none.
+    /// At OK: the offset of the slot, never 0; 0 where the value has none.
     pub slot_start: usize,
-    /// How many bytes it has.
+    /// At OK, with a slot: how many bytes it has.
     pub slot_length: usize,
-    /// Where the decision begins.
+    /// At OK, with a slot: the offset of the decision.
     pub decision_start: usize,
-    /// How many bytes it has.
+    /// At OK, with a slot: how many bytes it has.
     pub decision_length: usize,
 }
 
-/// Judges the certificate that the input is, with nothing after it, in a committee of `members` at
-/// a resilience of `k`. Nothing is allocated, and no signature is looked at.
+/// Whether the input is exactly one certificate whose signers are members of a committee of
+/// `members`, and at least a quorum at a resilience k: OK exactly then. Else the first of these:
+/// NO_MODEL, NO_MEMBERS, a fault of the input (END_OF_INPUT, INVALID_VARINT, NOT_STRICT,
+/// LEFT_OVER), OUTSIDE, TOO_FEW.
+///
+/// Warning: no signature is looked at. Whoever doesn't verify them knows nothing of who signed.
 #[unsafe(no_mangle)]
 pub extern "C" fn commonware_certificate_check(k: u32, members: u32, input: &[u8]) -> CheckView
     ensures accepted { result.status ≡ 0 → IsToldOf k members input.now result }

@@ -15,20 +15,21 @@ use committee_certificates::{CertificateAt, SignersAt, write_both_counted};
 use commonware_faults::tolerated_faults;
 use commonware_ordered::{Counter, Uncounted};
 
-/// The result for two certificates, for a caller in C.
+/// The result for two certificates.
 ///
 /// Among 4 members at a resilience of 3, `01 aa 03 00 01 02` and `01 bb 03 01 02 03` have status 0
 /// and count 2: members 1 and 2 signed both values.
 #[repr(C)]
 #[derive(Clone, Copy, Drop)]
 pub struct ConflictView {
-    /// 0, or why no one is named.
+    /// Each up to OTHER_SLOT but INVALID_LENGTH, MEMORY and ABSENT.
     pub status: u32,
-    /// 1 or 2 where the status is about the first or the second input alone, else 0.
+    /// The input that the status is about, 1 or 2; 0 at OK, NO_MODEL, NO_MEMBERS, SAME_VALUE,
+    /// OTHER_SLOT and ROOM.
     pub which: u32,
-    /// How many bytes are left over, where that is the status.
+    /// At LEFT_OVER: how many bytes follow the certificate.
     pub number: usize,
-    /// How many members are named, or would be where the room is too small.
+    /// At OK and ROOM: how many members signed both.
     pub count: usize,
 }
 
@@ -40,8 +41,20 @@ pub(crate) struct Reason {
     pub(crate) number: usize,
 }
 
-/// Returns the members that signed both of two certificates for different values, in a committee of
-/// `members` at a resilience of `k`, with room for their indices. Nothing is allocated.
+/// The members that signed both of two certificates for different values, in a committee of
+/// `members` at a resilience k: their indices go to the start of `out`, in order. With f =
+/// commonware_max_faults(k, members) they are at least (k - 2)f + 1, and where k is 3 or more, at
+/// least one of them is outside every set of f members. Each input is exactly one certificate. To
+/// sign two values is a fault only where both are for one slot, which commonware_equivocation asks:
+/// honest members sign many values, one a slot.
+///
+/// Warning: no signature is looked at. Whoever doesn't verify them first may accuse an innocent
+/// member.
+///
+/// The status is the first of these: NO_MODEL, NO_MEMBERS, a fault of the first input
+/// (END_OF_INPUT, INVALID_VARINT, NOT_STRICT, LEFT_OVER), one of the second, SAME_VALUE, OUTSIDE of
+/// the first, of the second, TOO_FEW of the first, of the second, ROOM. As many indices as there
+/// are members always suffice. Never MEMORY.
 #[unsafe(no_mangle)]
 pub extern "C" fn commonware_conflict(
     k: u32,

@@ -13,8 +13,11 @@ use crate::statuses::{INVALID_LENGTH, NOT_STRICT, OK, ROOM};
 use crate::written::{WrittenView, refused};
 use commonware_base::codec::{EncodeSize, UInt};
 
-/// Encodes the certificate of a value and of the indices of its signers to the start of `out`.
-/// Nothing is allocated.
+/// Writes the certificate of a value and of the indices of its signers to the start of `out`, where
+/// the indices are strictly increasing: OK exactly then, and where there is room. Else the first of
+/// these: INVALID_LENGTH for a value and then for signers past 4294967295, NOT_STRICT for the first
+/// signer that isn't greater than the one before it, ROOM.
+/// COMMONWARE_CERTIFICATE_SIZE(value_length, signers_length) bytes always suffice. Never MEMORY.
 #[unsafe(no_mangle)]
 pub extern "C" fn commonware_certificate_write(
     value: &[u8],

@@ -15,9 +15,16 @@ use crate::statuses::{NO_SLOT, OTHER_SLOT, SAME_VALUE};
 use committee_certificates::{SignersAt, slot_of};
 use commonware_faults::tolerated_faults;
 
-/// Returns the members that equivocated: those that signed both of two certificates for different
-/// decisions for one slot, in a committee of `members` at a resilience of `k`, with room for their
-/// indices. Nothing is allocated.
+/// The members that equivocated: those that signed both of two certificates for different decisions
+/// for one slot. All is as commonware_conflict has it, and no honest member is named where honest
+/// members sign at most one decision a slot.
+///
+/// Warning: no signature is looked at. Whoever doesn't verify them first may accuse an innocent
+/// member.
+///
+/// The status is the first of these: NO_MODEL, NO_MEMBERS, a fault of the first input, one of the
+/// second, NO_SLOT of the first value, of the second, OTHER_SLOT, SAME_VALUE for one decision,
+/// OUTSIDE of the first, of the second, TOO_FEW of the first, of the second, ROOM. Never MEMORY.
 #[unsafe(no_mangle)]
 pub extern "C" fn commonware_equivocation(
     k: u32,

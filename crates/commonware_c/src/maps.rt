@@ -13,29 +13,42 @@ use crate::statuses::{OK, status_of};
 use commonware_base::codec::{EncodeSize, Error, RangeCfg, Source, UInt};
 use commonware_views::MapView;
 
-/// A map of keys and values at the start of an input, for a caller in C.
+/// A map of keys of one size and values of another at the start of the input.
 ///
 /// Two pairs of keys of 20 bytes and values of 8, which are `02`, 40 bytes, `02` and 16 bytes, have
 /// status 0, count 2, keys 1, values 42 and 0 left.
 #[repr(C)]
 #[derive(Clone, Copy, Drop)]
 pub struct PairsView {
-    /// 0, or why there is no map.
+    /// OK, END_OF_INPUT, INVALID_VARINT, INVALID_LENGTH or NOT_STRICT.
     pub status: u32,
-    /// How many pairs there are.
+    /// At OK: how many pairs there are.
     pub count: u32,
-    /// The length that is out of range, where that is the status.
+    /// At INVALID_LENGTH: the stated length, of the keys or the values.
     pub number: usize,
-    /// Where the first key begins. The next follows it.
+    /// At OK: the offset of the first key.
     pub keys: usize,
-    /// Where the first value begins, which is that of the first key. The next follows it.
+    /// At OK: the offset of the first value, which is that of the first key.
     pub values: usize,
-    /// How many bytes follow the map.
+    /// At OK: how many bytes of the input follow the last value.
     pub left: usize,
 }
 
-/// Decodes a map of `least` to `most` pairs at the start of the input, with keys of `key_size`
-/// bytes and values of `value_size`. Nothing is allocated.
+/// Decodes a map of `least` to `most` pairs at the start of the input: the set of its keys, of
+/// `key_size` bytes each, and a list of as many values, of `value_size` bytes each, in the order of
+/// the keys. OK exactly where there is one, else the first fault (decoding error): that of the keys
+/// as commonware_set_read has it, and then that of the values, which is INVALID_LENGTH where the
+/// input states another number of them than of keys. Key i is the key_size bytes from input + keys
+/// + i * key_size on, and its value the value_size bytes from input + values + i * value_size on.
+/// The value of a key is found by the index of the key:
+///
+/// ```c
+/// at = commonware_set_index(input + view.keys, view.count * key_size, key, key_size);
+/// value = input + view.values + at.index * value_size; // where at.status is COMMONWARE_OK
+/// ```
+///
+/// Every number is a size, of keys and of values. Values may be equal; those of 0 bytes have no
+/// bytes in the input. Of keys of 0 bytes a map has at most one.
 #[unsafe(no_mangle)]
 pub extern "C" fn commonware_map_read(
     key_size: usize,

@@ -8,8 +8,9 @@ use commonware_faults::tolerated_faults;
 /// What stands for a quorum where there is none: more than any number of signers.
 const NO_QUORUM: u32 = u32::MAX;
 
-/// Returns how many of `n` participants may be faulty at a resilience `n >= kf + 1`: the greatest f
-/// that fits; 0 where `n` is 0 or `k` below 2.
+/// How many of n participants may be faulty at a resilience n >= kf + 1: the greatest f that fits.
+/// It is the greatest for which any two quorums share (k - 2)f + 1 participants. 0 where n is 0 or
+/// k below 2.
 #[unsafe(no_mangle)]
 pub extern "C" fn commonware_max_faults(k: u32, n: u32) -> u32
     ensures tolerance { 2 ≤ k → 1 ≤ n → IsFaultTolerance k n result }
@@ -22,8 +23,8 @@ pub extern "C" fn commonware_max_faults(k: u32, n: u32) -> u32
     tolerated_faults(k, n)
 }
 
-/// Returns how many of `n` participants make a quorum, which are all but those that may be faulty;
-/// 4294967295 where `n` is 0 or `k` below 2, so that no number of signers is taken for a quorum.
+/// How many of n participants make a quorum, n - f. 4294967295 where n is 0 or k below 2, so that
+/// no number of signers is taken for a quorum of nothing.
 #[unsafe(no_mangle)]
 pub extern "C" fn commonware_quorum(k: u32, n: u32) -> u32
     ensures quorum { 2 ≤ k → 1 ≤ n → IsQuorumSize k n result }
@@ -36,9 +37,8 @@ pub extern "C" fn commonware_quorum(k: u32, n: u32) -> u32
     n - tolerated_faults(k, n)
 }
 
-/// Returns the least size whose subsets of `n` participants share with each quorum one more than
-/// may be faulty; 4294967295 where `n` is 0 or `k` below 2, so that no number of signers is taken
-/// for one.
+/// The least size whose subsets share f + 1 participants with each quorum, 2f + 1. 4294967295 where
+/// n is 0 or k below 2, for the same reason.
 #[unsafe(no_mangle)]
 pub extern "C" fn commonware_smaller_quorum(k: u32, n: u32) -> u32
     ensures quorum { 2 ≤ k → 1 ≤ n → IsSmallerQuorumSize k n result }

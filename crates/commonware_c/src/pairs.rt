@@ -15,9 +15,14 @@ use commonware_map::Map;
 use commonware_views::{ListView, NotWhole};
 use std::alloc::{AllocError, Global};
 
-/// Encodes the map of these pairs, in the order of their keys, to the start of `out`: each is a key
-/// of `key_size` bytes and then its value of `value_size`, one pair after another. They may come in
-/// any order. Of pairs with equal keys the first is written.
+/// Writes the map of these pairs to the start of `out`, in the order of their keys: each is a key
+/// of `key_size` bytes and then its value of `value_size`, one pair after another; `pairs_length`
+/// is in bytes. They may come in any order. Of pairs with equal keys the first is written, so at OK
+/// and ROOM `count` is less than the number of pairs exactly where a key repeats. 10 + pairs_length
+/// bytes always suffice. NO_SIZE exactly where `key_size` is 0; NOT_WHOLE exactly where it is
+/// greater and the sum of both sizes, which never wraps, doesn't divide `pairs_length`;
+/// INVALID_LENGTH where the distinct keys are more than 4294967295. Never MEMORY for no pairs, and
+/// never NOT_STRICT.
 #[unsafe(no_mangle)]
 pub extern "C" fn commonware_map_write(
     alloc: Global,

@@ -15,19 +15,24 @@ use commonware_views::{ListView, NotWhole};
 #[repr(C)]
 #[derive(Clone, Copy, Drop)]
 pub struct PlaceView {
-    /// 0 where one of them is the key; 12 where none is; else why they are no keys of its size.
+    /// OK or ABSENT; of commonware_set_index also NO_SIZE and NOT_WHOLE.
     pub status: u32,
-    /// The index of the one that is; else of the one before which the key would be inserted.
+    /// At OK: that of the key; at ABSENT: that of the first greater one, or the number of keys.
     pub index: usize,
 }
 
-/// Looks a key up among keys of its size that follow one another, by halving them. Nothing is
-/// allocated.
+/// Returns the index of a key of `key_length` bytes among keys of as many bytes, one after another,
+/// in O(log n) comparisons; `keys_length` is in bytes. Among those that commonware_set_read has
+/// found with a size_t `size` it is
 ///
-/// It takes every list of keys, and returns the index of the key itself, or a gap between two
-/// neighbours of which the first is less than the key and the second is greater. Where the keys are
-/// strictly increasing, as those of a set are, it returns a gap exactly where the key isn't among
-/// them. Keys of no bytes have no number, and bytes that aren't whole keys are refused.
+/// ```c
+/// commonware_set_index(input + view.start, view.count * size, key, size)
+/// ```
+///
+/// NO_SIZE exactly where `key_length` is 0, since it can't be told how many keys of no bytes there
+/// are: a set of such keys has the key exactly where view.count is 1. NOT_WHOLE exactly where
+/// `key_length` is greater than 0 and doesn't divide `keys_length`. In a list that isn't in order,
+/// OK and ABSENT are as commonware_committee_index has them.
 #[unsafe(no_mangle)]
 pub extern "C" fn commonware_set_index(keys: &[u8], key: &[u8]) -> PlaceView
     ensures found { result.status ≡ 0 → (items : List (List ℕ))
@@ -58,7 +63,12 @@ fn no_place(status: u32) -> PlaceView
     PlaceView { status, index: 0 }
 }
 
-/// Looks a key up among the keys of a committee, as `commonware_set_index` does.
+/// Returns the index of a key among the members of a committee, in O(log n) comparisons.
+/// `members_count` is the number of members, which are 32 * members_count bytes in a row:
+/// &keys[0][0] of a `uint8_t keys[n][32]`, or input + view.start of the view.count members that
+/// commonware_committee_read has found. `key` has 32 bytes. In a list that isn't in order, OK still
+/// comes with the index of the key, and ABSENT with an index where the key is greater than the one
+/// before and less than the one there.
 #[unsafe(no_mangle)]
 pub extern "C" fn commonware_committee_index(members: &[[u8; 32]], key: &[u8; 32]) -> PlaceView
     ensures found { result.status ≡ 0 → (result.index < length members.now)

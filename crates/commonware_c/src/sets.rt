@@ -10,27 +10,34 @@ use crate::statuses::{OK, status_of};
 use commonware_base::codec::{EncodeSize, Error, RangeCfg, Source, UInt};
 use commonware_views::SetView;
 
-/// A set of keys at the start of an input, for a caller in C.
+/// A set of keys of one size, or a committee, at the start of the input.
 ///
 /// Two keys of 20 bytes, which are `02` and twice 20 bytes, with three bytes after them have status
 /// 0, count 2, start 1 and 3 left.
 #[repr(C)]
 #[derive(Clone, Copy, Drop)]
 pub struct KeysView {
-    /// 0, or why there is no set.
+    /// OK, END_OF_INPUT, INVALID_VARINT, INVALID_LENGTH or NOT_STRICT.
     pub status: u32,
-    /// How many keys there are.
+    /// At OK: how many keys there are.
     pub count: u32,
-    /// The length that is out of range, where that is the status.
+    /// At INVALID_LENGTH: how many the input states.
     pub number: usize,
-    /// Where the first key begins. The next follows it.
+    /// At OK: the offset of the first key.
     pub start: usize,
-    /// How many bytes follow the set.
+    /// At OK: how many bytes of the input follow the last.
     pub left: usize,
 }
 
-/// Decodes a set of `least` to `most` keys of `size` bytes each at the start of the input. Nothing
-/// is allocated.
+/// Decodes a set of `least` to `most` keys of `size` bytes each at the start of the input: OK
+/// exactly where there is one, else the first fault (decoding error). Key i is the `size` bytes
+/// from input + start + i * size on; the keys are strictly increasing in the order of memcmp. Where
+/// `least` is greater than `most`, no number of keys is in range. At a size of 32 it is
+/// commonware_committee_read.
+///
+/// Every number is a size. At OK count * size doesn't wrap, since the input has as many bytes from
+/// `start` on. Keys of 0 bytes have no bytes in the input and are all the same key, so a set of
+/// them has at most one.
 #[inline(always)]
 #[unsafe(no_mangle)]
 pub extern "C" fn commonware_set_read(

@@ -10,9 +10,12 @@ use crate::written::{WrittenView, refused};
 use commonware_base::codec::{EncodeSize, UInt};
 
 /// Writes the value that a decision for a slot is to the start of `out`: the slot's length, the
-/// slot, and the decision, which members sign. Nothing is allocated.
-///
-/// The decision `aa` for the slot `07` is `01 07 aa`.
+/// slot and the decision. A slot is what an honest member signs at most once, as bytes of the
+/// protocol's choice: chain, committee, height, round and kind of vote, say. A height alone is too
+/// little where there are rounds. Members sign this value, and a certificate of it is written by
+/// commonware_certificate_write. At OK and ROOM the view's `size` is told, `count` never.
+/// INVALID_LENGTH for the first of the slot, the decision and the value that is past 4294967295.
+/// Never MEMORY.
 #[unsafe(no_mangle)]
 pub extern "C" fn commonware_value_write(
     slot: &[u8],

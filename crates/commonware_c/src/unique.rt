@@ -18,8 +18,13 @@ use commonware_ordered::Set;
 use commonware_views::ListView;
 use std::alloc::{AllocError, Global};
 
-/// Encodes the map of these pairs, as `commonware_map_write` does, where no key repeats. Else it
-/// returns the index of the first pair whose key an earlier pair has.
+/// Writes the map of these pairs as commonware_map_write does, where no key repeats: OK then, with
+/// all pairs. Where one does, nothing is written, and REPEATED_KEY comes with the least index of a
+/// pair whose key an earlier pair has. The status is the first of these: NO_SIZE, NOT_WHOLE,
+/// REPEATED_KEY or MEMORY, whichever is met first, INVALID_LENGTH where the pairs are more than
+/// 4294967295, ROOM. Where there is memory, it is REPEATED_KEY exactly where the keys have bytes,
+/// the pairs are whole and a key repeats. 10 + pairs_length bytes always suffice. Never MEMORY for
+/// no pairs, and never NOT_STRICT.
 #[unsafe(no_mangle)]
 pub extern "C" fn commonware_map_write_unique(
     alloc: Global,

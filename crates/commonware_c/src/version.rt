@@ -2,9 +2,14 @@
 ghost use Rattle.std.specs.Prelude.{◌≡◌};
 ghost use Rattle.commonware_c.specs.Version.{version_number};
 
-/// Returns the version of the library, 1.1.0, as one number: its major version times 1,000,000, its
-/// minor version times 1,000, and its patch. A program that was compiled for another major version
-/// must not call the other functions.
+/// The version of the library, 1000000 * major + 1000 * minor + patch. A program compares the major
+/// versions, once, before it calls anything else:
+///
+/// ```c
+/// if (commonware_version() / 1000000 != COMMONWARE_VERSION_MAJOR) {
+///     return 1; // it was compiled for another library
+/// }
+/// ```
 #[unsafe(no_mangle)]
 pub extern "C" fn commonware_version() -> u32
     ensures version { result ≡ version_number 1 1 0 }

@@ -14,7 +14,7 @@ use crate::weights::{quorum_of, total_of};
 use committee_certificates::CertificateAt;
 use committee_weights::weight_of_signers;
 
-/// A certificate that members who weigh a quorum signed, for a caller in C.
+/// A certificate that members who weigh a quorum signed.
 ///
 /// Of the weights 40, 30, 20 and 10, at a resilience of 3, `03 01 07 aa 03 00 01 02` has status 0,
 /// and its 3 signers weigh 90. The value is of 3 bytes at 1, with the slot of 1 byte at 2 and the
@@ -22,30 +22,34 @@ use committee_weights::weight_of_signers;
 #[repr(C)]
 #[derive(Clone, Copy, Drop)]
 pub struct WeightedCheckView {
-    /// 0, or why it is no certificate of a quorum.
+    /// OK, or why it is none.
     pub status: u32,
-    /// How many signers there are.
+    /// At OK: how many members signed.
     pub signers: u32,
-    /// The number of the status: how many bytes are left over, or which weight it is about.
+    /// At LEFT_OVER: how many bytes follow the certificate; else as commonware_weights_view has it.
     pub number: usize,
-    /// Where the value begins.
+    /// At OK: the offset of the value.
     pub value_start: usize,
-    /// How many bytes it has.
+    /// At OK: how many bytes it has.
     pub value_length: usize,
-    /// Where the slot begins, which is never at 0; 0 where the value has none.
+    /// At OK: the offset of the slot, never 0; 0 where the value has none.
     pub slot_start: usize,
-    /// How many bytes it has.
+    /// At OK, with a slot: how many bytes it has.
     pub slot_length: usize,
-    /// Where the decision begins.
+    /// At OK, with a slot: the offset of the decision.
     pub decision_start: usize,
-    /// How many bytes it has.
+    /// At OK, with a slot: how many bytes it has.
     pub decision_length: usize,
-    /// What the signers weigh together.
+    /// At OK: what the signers weigh together.
     pub weight: u64,
 }
 
-/// Judges the certificate that the input is, with nothing after it, in a committee of members with
-/// these weights at a resilience of `k`. Nothing is allocated, and no signature is looked at.
+/// Whether the input is exactly one certificate whose signers are members of a committee with these
+/// weights, and weigh at least a quorum at a resilience k: OK exactly then. Else the first of
+/// these: what commonware_weights_quorum says of the weights, a fault of the input (END_OF_INPUT,
+/// INVALID_VARINT, NOT_STRICT, LEFT_OVER), OUTSIDE, TOO_LIGHT. Never MEMORY.
+///
+/// Warning: no signature is looked at. Whoever doesn't verify them knows nothing of who signed.
 #[unsafe(no_mangle)]
 pub extern "C" fn commonware_weighted_check(
     k: u32,

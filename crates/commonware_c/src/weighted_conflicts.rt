@@ -18,28 +18,40 @@ use crate::weights::{quorum_of, total_of};
 use committee_certificates::SignersAt;
 use committee_weights::{weight_of_indices, weight_of_signers};
 
-/// The result for two certificates, for a caller in C.
+/// The result for two certificates, by weight.
 ///
 /// Of the weights 40, 30, 20 and 10, at a resilience of 3, `01 aa 02 00 01` and `01 bb 03 00 02 03`
 /// have status 0 and count 1: member 0 signed both values, who weighs 40.
 #[repr(C)]
 #[derive(Clone, Copy, Drop)]
 pub struct WeightedConflictView {
-    /// 0, or why no one is named.
+    /// As the call says.
     pub status: u32,
-    /// 1 or 2 where the status is about the first or the second input alone, else 0.
+    /// The input that the status is about, 1 or 2; 0 at OK, ROOM, SAME_VALUE and OTHER_SLOT, and
+    /// where it is about the weights or k.
     pub which: u32,
-    /// The number of the status: how many bytes are left over, or which weight it is about.
+    /// At LEFT_OVER: how many bytes follow the certificate; else as commonware_weights_view has it.
     pub number: usize,
-    /// How many members are named, or would be where the room is too small.
+    /// At OK and ROOM: how many members signed both.
     pub count: usize,
-    /// What those that are named weigh together.
+    /// At OK: what they weigh together.
     pub weight: u64,
 }
 
-/// Returns the members that signed both of two certificates for different values, in a committee of
-/// members with these weights at a resilience of `k`, with room for their indices. Nothing is
-/// allocated.
+/// The members that signed both of two certificates for different values, in a committee with these
+/// weights at a resilience k: their indices go to the start of `out`, in order. With f as
+/// commonware_weights_quorum has it they weigh at least (k - 2)f + 1, and where k is 3 or more, at
+/// least one of them is outside every set of members that weighs at most f. Each input is exactly
+/// one certificate. To sign two values is a fault only where both are for one slot, which
+/// commonware_weighted_equivocation asks: honest members sign many values, one a slot.
+///
+/// Warning: no signature is looked at. Whoever doesn't verify them first may accuse an innocent
+/// member.
+///
+/// The status is the first of these: what commonware_weights_quorum says of the weights, a fault of
+/// the first input (END_OF_INPUT, INVALID_VARINT, NOT_STRICT, LEFT_OVER), one of the second,
+/// SAME_VALUE, OUTSIDE of the first, of the second, TOO_LIGHT of the first, of the second, ROOM. As
+/// many indices as there are members always suffice. Never MEMORY.
 #[unsafe(no_mangle)]
 pub extern "C" fn commonware_weighted_conflict(
     k: u32,

@@ -16,9 +16,17 @@ use crate::weighted_conflicts::{
 };
 use committee_certificates::SignersAt;
 
-/// Returns the members that equivocated: those that signed both of two certificates for different
-/// decisions for one slot, in a committee of members with these weights at a resilience of `k`,
-/// with room for their indices. Nothing is allocated.
+/// The members that equivocated: those that signed both of two certificates for different decisions
+/// for one slot. All is as commonware_weighted_conflict has it, and no honest member is named where
+/// honest members sign at most one decision a slot.
+///
+/// Warning: no signature is looked at. Whoever doesn't verify them first may accuse an innocent
+/// member.
+///
+/// The status is the first of these: what commonware_weights_quorum says of the weights, a fault of
+/// the first input, one of the second, NO_SLOT of the first value, of the second, OTHER_SLOT,
+/// SAME_VALUE for one decision, OUTSIDE of the first, of the second, TOO_LIGHT of the first, of the
+/// second, ROOM. Never MEMORY.
 #[unsafe(no_mangle)]
 pub extern "C" fn commonware_weighted_equivocation(
     k: u32,

@@ -8,29 +8,41 @@ ghost use Rattle.commonware_c.specs.Weights.{AreNoWeights, AreNumbersOf, IsWeigh
 use crate::statuses::{INVALID_LENGTH, NO_MEMBERS, NO_MODEL, OK, WEIGHT_OVERFLOW, ZERO_WEIGHT};
 use committee_weights::{WeightsError, tolerated_weight, total_weight};
 
-/// What the weights of a committee allow, for a caller in C.
+/// What the weights of a committee's members allow, their stake or voting power.
 ///
 /// At a resilience of 3 the weights 40, 30, 20 and 10 have status 0, a total of 100, of which 33
 /// are tolerated, a quorum of 67 and a smaller quorum of 67.
 #[repr(C)]
 #[derive(Clone, Copy, Drop)]
 pub struct WeightsView {
-    /// 0, or why the numbers are no weights of a committee.
+    /// OK, NO_MODEL, NO_MEMBERS, INVALID_LENGTH, ZERO_WEIGHT or WEIGHT_OVERFLOW.
     pub status: u32,
-    /// The index of a weight, or how many weights there are, where the status says so.
+    /// At INVALID_LENGTH: how many weights there are; at ZERO_WEIGHT and WEIGHT_OVERFLOW: the index
+    /// of a weight.
     pub number: usize,
-    /// What all members weigh.
+    /// At OK: what all members weigh.
     pub total: u64,
-    /// What faulty members may weigh together.
+    /// At OK: f, what faulty members may weigh together.
     pub tolerated: u64,
-    /// What a quorum weighs.
+    /// At OK: what a quorum weighs, total - f.
     pub quorum: u64,
-    /// The least weight whose subsets share one more than may be faulty with each quorum.
+    /// At OK: 2f + 1.
     pub smaller_quorum: u64,
 }
 
-/// Returns what the weights of a committee allow at a resilience of `k`. Each weight is looked at
-/// once, and nothing is allocated.
+/// What the weights of a committee allow at a resilience k. Member i weighs weights[i]: an index is
+/// a place in the order of the keys.
+///
+/// f is (total - 1) / k, the greatest that is safe for all weights of this total: any two subsets
+/// of the members that weigh a quorum share members that weigh at least (k - 2)f + 1, and where k
+/// is 3 or more, a member outside every subset that weighs at most f. 2f + 1 is the least weight
+/// whose subsets share f + 1 with each quorum, for all weights of this total. At a k of 3 the
+/// quorum is the "more than two thirds" of the chains, 2 * total / 3 + 1, and no sum or product
+/// wraps.
+///
+/// The status is the first of these: NO_MODEL, NO_MEMBERS for no weights, INVALID_LENGTH for more
+/// than 4294967295, and of the first weight that is 0, or with which the sum is past 2^64 - 1,
+/// ZERO_WEIGHT or WEIGHT_OVERFLOW. Each weight is looked at once.
 #[unsafe(no_mangle)]
 pub extern "C" fn commonware_weights_quorum(k: u32, weights: &[u64]) -> WeightsView
     ensures accepted { result.status ≡ 0 → AreNumbersOf k weights.now result }

@@ -110,7 +110,7 @@ pub fn compare_all() {
         let view = ours(3, &weights, &input);
         let plain = plain_in_place(3, &weights, &input).unwrap();
         assert_eq!(Some(plain), plain_into_a_list(3, &weights, &input));
-        assert_eq!((view.check.status, view.check.signers), (0, plain.2));
+        assert_eq!((view.status, view.signers), (0, plain.2));
         assert_eq!(view.weight, plain.3);
         let rounds = 1 + 40_000 / n;
         let check = || {

@@ -228,16 +228,13 @@ pub fn weighted_check_encoded<'a>(
             input.len(),
         )
     };
-    match view.check.status {
+    match view.status {
         status::OK => Ok(WeightedChecked {
-            checked: Checked::of(input, &view.check),
+            checked: Checked::of(input, &view.into()),
             weight: view.weight,
         }),
         status::OUTSIDE => Err(WeightedCheckError::Outside),
         status::TOO_LIGHT => Err(WeightedCheckError::TooLight),
-        status => Err(WeightedCheckError::Input(Refusal::of(
-            status,
-            view.check.number,
-        ))),
+        status => Err(WeightedCheckError::Input(Refusal::of(status, view.number))),
     }
 }

@@ -59,15 +59,15 @@ impl WeightedConflictError {
 
     /// Returns the error of what the library says, or of a failed allocation where that is `None`.
     fn of(view: Option<raw::WeightedConflictView>) -> WeightedConflictError {
-        let Some(raw::WeightedConflictView { conflict, .. }) = view else {
+        let Some(view) = view else {
             return WeightedConflictError::Memory;
         };
-        match (conflict.status, conflict.which) {
+        match (view.status, view.which) {
             (status::SAME_VALUE, _) => WeightedConflictError::SameValue,
             (status::OUTSIDE, which) => WeightedConflictError::Outside(Which::of(which)),
             (status::TOO_LIGHT, which) => WeightedConflictError::TooLight(Which::of(which)),
             (status, which) => {
-                let refusal = Refusal::of(status, conflict.number);
+                let refusal = Refusal::of(status, view.number);
                 WeightedConflictError::Input(Which::of(which), refusal)
             }
         }

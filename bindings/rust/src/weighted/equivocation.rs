@@ -63,17 +63,17 @@ impl WeightedEquivocationError {
 
     /// Returns the error of what the library says, or of a failed allocation where that is `None`.
     fn of(view: Option<raw::WeightedConflictView>) -> WeightedEquivocationError {
-        let Some(raw::WeightedConflictView { conflict, .. }) = view else {
+        let Some(view) = view else {
             return WeightedEquivocationError::Memory;
         };
-        match (conflict.status, conflict.which) {
+        match (view.status, view.which) {
             (status::NO_SLOT, which) => WeightedEquivocationError::NoSlot(Which::of(which)),
             (status::OTHER_SLOT, _) => WeightedEquivocationError::OtherSlot,
             (status::SAME_VALUE, _) => WeightedEquivocationError::SameDecision,
             (status::OUTSIDE, which) => WeightedEquivocationError::Outside(Which::of(which)),
             (status::TOO_LIGHT, which) => WeightedEquivocationError::TooLight(Which::of(which)),
             (status, which) => {
-                let refusal = Refusal::of(status, conflict.number);
+                let refusal = Refusal::of(status, view.number);
                 WeightedEquivocationError::Input(Which::of(which), refusal)
             }
         }

@@ -40,7 +40,7 @@ pub struct Named {
 /// says of them, or `None` where an allocation failed. No memory is taken for inputs that name no
 /// one.
 fn named(
-    judge: raw::WeightedJudge,
+    judge: raw::WeightedConflictCall,
     model: FaultModel,
     weights: &Weights<'_>,
     [first, second]: [&[u8]; 2],
