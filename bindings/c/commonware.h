@@ -390,7 +390,8 @@ COMMONWARE_CHECKED commonware_bimap_view commonware_bimap_read(
  * pairs_length bytes always suffice. NO_SIZE exactly where `key_size` is 0; NOT_WHOLE exactly
  * where it is greater and the sum of both sizes, which never wraps, doesn't divide
  * `pairs_length`; INVALID_LENGTH where the distinct keys are more than 4294967295. Never MEMORY
- * for no pairs, and never NOT_STRICT. */
+ * where the pairs come in the order of their keys, each key once, as one pair and no pairs do:
+ * nothing is allocated then. Never NOT_STRICT. */
 COMMONWARE_CHECKED commonware_written_view commonware_map_write(
     size_t key_size, size_t value_size, const uint8_t *pairs, size_t pairs_length, uint8_t *out,
     size_t out_length);
@@ -401,7 +402,8 @@ COMMONWARE_CHECKED commonware_written_view commonware_map_write(
  * NOT_WHOLE, REPEATED_KEY or MEMORY, whichever is met first, INVALID_LENGTH where the pairs are
  * more than 4294967295, ROOM. Where there is memory, it is REPEATED_KEY exactly where the keys
  * have bytes, the pairs are whole and a key repeats. 10 + pairs_length bytes always suffice.
- * Never MEMORY for no pairs, and never NOT_STRICT. */
+ * Never MEMORY where the pairs come in the order of their keys, each key once, as one pair and
+ * no pairs do: nothing is allocated then. Never NOT_STRICT. */
 COMMONWARE_CHECKED commonware_written_view commonware_map_write_unique(
     size_t key_size, size_t value_size, const uint8_t *pairs, size_t pairs_length, uint8_t *out,
     size_t out_length);

@@ -686,12 +686,16 @@ static void test_memory(void) {
         CHECK(allowed == requests && (allowed > 0) == (call == 0 || (call > 8 && call < 12)));
         printf("call %d: each of %zu requests refused\n", call, allowed);
     }
-    /* Keys in order, each once, take no memory. */
+    /* Keys in order, each once, take no memory, nor do pairs of such keys. */
     uint8_t rising[3][32] = {{1}, {2}, {3}};
     requests = 0;
     for (size_t count = 0; count <= 3; count++) {
         CHECK(commonware_committee_write(rising[0], count, OF(committee)).status == COMMONWARE_OK);
         CHECK(commonware_set_write(32, rising[0], 32 * count, OF(committee)).status
+              == COMMONWARE_OK);
+        CHECK(commonware_map_write(20, 12, rising[0], 32 * count, OF(committee)).status
+              == COMMONWARE_OK);
+        CHECK(commonware_map_write_unique(20, 12, rising[0], 32 * count, OF(committee)).status
               == COMMONWARE_OK);
     }
     CHECK(requests == 0);

@@ -180,6 +180,9 @@ fn writing_a_map_returns_each_allocation_failure() {
     let pairs: Vec<u8> = (0..200u8).rev().flat_map(|i| [i; 28]).collect();
     let requests = refuse_each(&EncodeError::Memory, || MapView::encode(20, 8, &pairs));
     assert!(requests > 0);
+    let risen: Vec<u8> = (0..200u8).flat_map(|i| [i; 28]).collect();
+    let requests = refuse_each(&EncodeError::Memory, || MapView::encode(20, 8, &risen));
+    assert_eq!(requests, 0, "pairs of keys in order take no memory");
 }
 
 #[test]
@@ -187,6 +190,8 @@ fn writing_a_map_of_unique_keys_returns_each_allocation_failure() {
     let mut pairs: Vec<u8> = (0..200u8).rev().flat_map(|i| [i; 28]).collect();
     let encode = |pairs: &[u8]| MapView::encode_unique(20, 8, pairs);
     assert!(refuse_each(&EncodeError::Memory, || encode(&pairs)) > 0);
+    let risen: Vec<u8> = (0..200u8).flat_map(|i| [i; 28]).collect();
+    assert_eq!(refuse_each(&EncodeError::Memory, || encode(&risen)), 0);
     pairs.extend([7; 28]);
     let find = || match encode(&pairs) {
         Err(EncodeError::RepeatedKey {

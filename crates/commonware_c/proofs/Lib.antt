@@ -1,5 +1,6 @@
 pub mod Arrays
 pub mod Certified
+pub mod Columns
 pub mod Exact
 pub mod Fewer
 pub mod Made
@@ -10,6 +11,7 @@ pub mod Spliced
 pub mod ReadBack
 pub mod Repeats
 pub mod Rows
+pub mod RowsInOrder
 pub mod SignedBoth
 pub mod Weighed
 pub mod WrittenIndices

@@ -17,6 +17,10 @@ pair_of key_size row = (take key_size row, drop key_size row)
 abbrev pub referred : List (Bor (List ℕ) × Bor (List ℕ)) → List (List ℕ × List ℕ)
 referred pairs = map (λ p. (p.0.now, p.1.now)) pairs
 
+-- the rows are strictly increasing by their keys, so that no key repeats
+abbrev pub AreInKeyOrder : ℕ → List (List ℕ) → Type 0
+AreInKeyOrder key_size = IsStrict (λ row next. bytes_cmp (take key_size row) (take key_size next))
+
 -- the pairs are those of the rows in the order of their keys, of those with equal keys the first
 abbrev pub IsFirstOfEach : ℕ → List (List ℕ) → List (List ℕ × List ℕ) → Type 0
 IsFirstOfEach key_size rows =

@@ -4,10 +4,11 @@ ghost use Rattle.commonware_map.specs.Maps.{map_enc};
 ghost use Rattle.commonware_sequence.specs.FixedBytes.{own_bytes};
 ghost use Rattle.commonware_views.specs.Lists.{AreItemsOf};
 ghost use Rattle.commonware_views.specs.laws.ItemLaws.{AreLong};
-ghost use Rattle.commonware_c.specs.Pairs.{IsFirstOfEach, IsMapOf, referred};
+ghost use Rattle.commonware_c.specs.Pairs.{AreInKeyOrder, IsFirstOfEach, IsMapOf, referred};
 ghost use Rattle.commonware_c.specs.Splices.{spliced};
 
 use crate::rooms::{put_items, put_varint};
+use crate::rows_in_order::{are_in_key_order, write_rows_in_order};
 use crate::statuses::{INVALID_LENGTH, MEMORY, NO_SIZE, NOT_WHOLE, OK, ROOM};
 use crate::written::{WrittenView, refused};
 use commonware_base::codec::{EncodeSize, UInt};
@@ -21,8 +22,9 @@ use std::alloc::{AllocError, Global};
 /// and ROOM `count` is less than the number of pairs exactly where a key repeats. 10 + pairs_length
 /// bytes always suffice. NO_SIZE exactly where `key_size` is 0; NOT_WHOLE exactly where it is
 /// greater and the sum of both sizes, which never wraps, doesn't divide `pairs_length`;
-/// INVALID_LENGTH where the distinct keys are more than 4294967295. Never MEMORY for no pairs, and
-/// never NOT_STRICT.
+/// INVALID_LENGTH where the distinct keys are more than 4294967295. Never MEMORY where the pairs
+/// come in the order of their keys, each key once, as one pair and no pairs do: nothing is allocated
+/// then. Never NOT_STRICT.
 #[unsafe(no_mangle)]
 pub extern "C" fn commonware_map_write(
     alloc: Global,
@@ -57,6 +59,8 @@ pub extern "C" fn commonware_map_write(
         → (result.count ≡ 0) × (result.size ≡ 0) }
     ensures untouched { result.status ≢ 0 → out.new ≡ out.old }
     ensures nothing { length pairs.now ≡ 0 → result.status ≢ 5 }
+    ensures in_order { (rows : List (List ℕ)) → AreItemsOf (key_size + value_size) pairs.now rows
+        → AreInKeyOrder key_size rows → result.status ≢ 5 }
 {
     if key_size == 0 {
         return refused(NO_SIZE, 0);
@@ -126,7 +130,11 @@ fn write_rows(
         → (result.count ≡ 0) × (result.size ≡ 0) }
     ensures untouched { result.status ≢ 0 → out.new ≡ out.old }
     ensures nothing { length rows.now ≡ 0 → result.status ≢ 5 }
+    ensures in_order { AreInKeyOrder key_size rows.now → result.status ≢ 5 }
 {
+    if are_in_key_order(key_size, rows) {
+        return write_rows_in_order(key_size, value_size, rows, out);
+    }
     let Ok(map) = map_of(alloc, key_size, rows) else {
         return refused(MEMORY, 0);
     };

@@ -7,10 +7,11 @@ ghost use Rattle.commonware_ordered.specs.Strict.{IsStrict};
 ghost use Rattle.commonware_sequence.specs.FixedBytes.{bytes_cmp, own_bytes};
 ghost use Rattle.commonware_views.specs.Lists.{AreItemsOf};
 ghost use Rattle.commonware_views.specs.laws.ItemLaws.{AreLong};
-ghost use Rattle.commonware_c.specs.Pairs.{AreAllPairs, IsFirstRepeatedKey, IsMapOfAll, RepeatsKey, referred};
+ghost use Rattle.commonware_c.specs.Pairs.{AreAllPairs, AreInKeyOrder, IsFirstRepeatedKey, IsMapOfAll, RepeatsKey, referred};
 ghost use Rattle.commonware_c.specs.Splices.{spliced};
 
 use crate::pairs::{key_and_value, rows_of, write_map};
+use crate::rows_in_order::{are_in_key_order, write_rows_in_order};
 use crate::statuses::{MEMORY, NO_SIZE, NOT_WHOLE, REPEATED_KEY};
 use crate::written::{WrittenView, refused};
 use commonware_map::{Map, SortedEntries};
@@ -23,8 +24,9 @@ use std::alloc::{AllocError, Global};
 /// pair whose key an earlier pair has. The status is the first of these: NO_SIZE, NOT_WHOLE,
 /// REPEATED_KEY or MEMORY, whichever is met first, INVALID_LENGTH where the pairs are more than
 /// 4294967295, ROOM. Where there is memory, it is REPEATED_KEY exactly where the keys have bytes,
-/// the pairs are whole and a key repeats. 10 + pairs_length bytes always suffice. Never MEMORY for
-/// no pairs, and never NOT_STRICT.
+/// the pairs are whole and a key repeats. 10 + pairs_length bytes always suffice. Never MEMORY where
+/// the pairs come in the order of their keys, each key once, as one pair and no pairs do: nothing is
+/// allocated then. Never NOT_STRICT.
 #[unsafe(no_mangle)]
 pub extern "C" fn commonware_map_write_unique(
     alloc: Global,
@@ -66,6 +68,8 @@ pub extern "C" fn commonware_map_write_unique(
         → (result.count ≡ 0) × (result.size ≡ 0) }
     ensures untouched { result.status ≢ 0 → out.new ≡ out.old }
     ensures nothing { length pairs.now ≡ 0 → result.status ≢ 5 }
+    ensures in_order { (rows : List (List ℕ)) → AreItemsOf (key_size + value_size) pairs.now rows
+        → AreInKeyOrder key_size rows → result.status ≢ 5 }
 {
     if key_size == 0 {
         return refused(NO_SIZE, 0);
@@ -104,7 +108,11 @@ fn write_all_rows(
         → (result.count ≡ 0) × (result.size ≡ 0) }
     ensures untouched { result.status ≢ 0 → out.new ≡ out.old }
     ensures nothing { length rows.now ≡ 0 → result.status ≢ 5 }
+    ensures in_order { AreInKeyOrder key_size rows.now → result.status ≢ 5 }
 {
+    if are_in_key_order(key_size, rows) {
+        return write_rows_in_order(key_size, value_size, rows, out);
+    }
     match map_of_all(alloc, key_size, rows) {
         Ok(Ok(map)) => write_map(key_size, value_size, rows, &map, out),
         Ok(Err(index)) => refused(REPEATED_KEY, index),

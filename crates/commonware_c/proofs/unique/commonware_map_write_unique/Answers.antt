@@ -1,6 +1,6 @@
 use Rattle.std.proofs.Common.{◌+◌, ◌↔◌, ◌≡◌, ℕ, arith, subst}
 use Rattle.commonware_views.specs.laws.ItemLaws.{none_left_over, one_reading}
-use Rattle.commonware_c.specs.Pairs.{RepeatsKey}
+use Rattle.commonware_c.specs.Pairs.{AreInKeyOrder, RepeatsKey}
 use Rattle.commonware_c.proofs.Made.{no_items}
 use Rattle.commonware_c.proofs.unique.commonware_map_write_unique.Goals as goal
 
@@ -29,3 +29,9 @@ returns-in-Err-clause-exactly c = λ some enough rows are.
 pub returns-in-Ok-clause-nothing : goal.returns-in-Ok-clause-nothing
 returns-in-Ok-clause-nothing c = λ none.
     c.write_all_rows.ensures.nothing (no_items (c.args.key_size + c.args.value_size) (λ zero. c.if-key_size-eq0.false (omega (arith, zero))) c.args.pairs.now c.in-Ok.rows c.in-Ok.ensures.rows none)
+
+pub returns-in-Ok-clause-in_order : goal.returns-in-Ok-clause-in_order
+returns-in-Ok-clause-in_order c = λ rows are strict.
+    c.write_all_rows.ensures.in_order
+    (subst (AreInKeyOrder c.args.key_size)
+    (one_reading (c.args.key_size + c.args.value_size) c.args.pairs.now (λ zero. c.if-key_size-eq0.false (omega (arith, zero))) rows c.in-Ok.rows are c.in-Ok.ensures.rows) strict)

@@ -1,8 +1,9 @@
-use Rattle.std.proofs.Common.{◌≡◌, ◌∙◌, ◌≤◌, ◌^◌, length, arith, ap, sym, subst, inl, inr, Bor, List, ℕ}
+use Rattle.std.proofs.Common.{◌≡◌, ◌∙◌, ◌≤◌, ◌^◌, length, map, arith, ap, refl, sym, subst, inl, inr, Bor, List, ℕ}
 use Rattle.std.specs.Prelude.{MatchResult, Result}
 use Rattle.std.proofs.lemmas.List.{length-map}
-use Rattle.commonware_c.specs.Pairs.{AreAllPairs, IsFirstRepeatedKey, referred}
+use Rattle.commonware_c.specs.Pairs.{AreAllPairs, IsFirstRepeatedKey, pair_of, referred}
 use Rattle.commonware_c.proofs.Repeats.{as_many, each_first, map_of_all}
+use Rattle.commonware_c.proofs.RowsInOrder.{all_in_order}
 use Rattle.commonware_c.proofs.unique.write_all_rows.Goals as goal
 
 -- what is made of the rows
@@ -41,3 +42,34 @@ returns-in-Ok-Ok-clause-exactly c = λ _. (
 
 pub returns-in-Ok-Err-clause-repeated : goal.returns-in-Ok-Err-clause-repeated
 returns-in-Ok-Err-clause-repeated c = λ _. subst (IsFirstRepeatedKey c.args.key_size c.args.rows.now) (sym (ap (λ v. v.number) c.refused.ensures)) (subst (IsMade c.args.key_size c.args.rows.now) c.in-Ok-Err.field-0-is c.in-Ok-Err.ensures.made)
+
+pub returns-then-are_in_key_order-clause-written : goal.returns-then-are_in_key_order-clause-written
+returns-then-are_in_key_order-clause-written c = λ ok.
+    let ks = c.args.key_size in
+    let rows = c.args.rows.now in
+    let said = c.write_rows_in_order.ensures.written ok in
+    (map (pair_of ks) rows, map_of_all ks rows (map (pair_of ks) rows) (all_in_order ks rows (c.if-are_in_key_order.ensures.0 refl)) c.args.value_size _ _ said.0, said.1)
+
+pub returns-then-are_in_key_order-clause-room : goal.returns-then-are_in_key_order-clause-room
+returns-then-are_in_key_order-clause-room c = λ short.
+    let ks = c.args.key_size in
+    let rows = c.args.rows.now in
+    let said = c.write_rows_in_order.ensures.room short in
+    (map (pair_of ks) rows, map_of_all ks rows (map (pair_of ks) rows) (all_in_order ks rows (c.if-are_in_key_order.ensures.0 refl)) c.args.value_size _ _ said.0, said.1)
+
+pub returns-then-are_in_key_order-clause-long : goal.returns-then-are_in_key_order-clause-long
+returns-then-are_in_key_order-clause-long c = λ long.
+    let ks = c.args.key_size in
+    let rows = c.args.rows.now in
+    let said = c.write_rows_in_order.ensures.long long in
+    (map (pair_of ks) rows, all_in_order ks rows (c.if-are_in_key_order.ensures.0 refl), said.0, said.1)
+
+pub returns-then-are_in_key_order-clause-exactly : goal.returns-then-are_in_key_order-clause-exactly
+returns-then-are_in_key_order-clause-exactly c = λ _. (
+  λ same. absurd (elim c.write_rows_in_order.ensures.status [
+    | inl e ↦ omega (arith, same, e)
+    | inr (inl e) ↦ omega (arith, same, e)
+    | inr (inr e) ↦ omega (arith, same, e)
+  ]),
+  λ again. absurd ((all_in_order c.args.key_size c.args.rows.now (c.if-are_in_key_order.ensures.0 refl)).distinct again.0 again.1),
+)
