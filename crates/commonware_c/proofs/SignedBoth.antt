@@ -77,7 +77,9 @@ accused_of k n first second one_at two_at c both in_both =
         c.second_whole,
         (c.differ, c.first_quorum, c.second_quorum, in_both),
       );
+      shared = both-many quorums;
       many = omega (arith, both-many quorums, c.tolerance.least_shared);
+      leaves = both-leave quorums;
       outlast = λ three. both-leave quorums (omega (arith, c.tolerance.fits.fits, mul-le-mul_right c.faults three));
       most = members_fewer n c.one.1 both in_both.strict c.first_quorum.0 (λ x h. ((in_both.exactly x).0 h).0);
       most_first =

@@ -8,7 +8,7 @@ use Rattle.committee_certificates.specs.declared.in_place.SignersAt.{SignersAt}
 use Rattle.committee_certificates.proofs.Accountable.{each_guilty}
 use Rattle.committee_weights.specs.Members.{AreTooLight, AreWeightedQuorum}
 use Rattle.committee_weights.specs.declared.weights.error.WeightsError.TheVariants.{Empty, TooMany, Zero, Overflow}
-use Rattle.committee_weights.proofs.Both.{both-leave, both-members, both-weigh}
+use Rattle.committee_weights.proofs.Both.{both-leave, both-members, both-shared, both-weigh}
 use Rattle.committee_weights.proofs.Refusing.{accepted_not_refused}
 use Rattle.committee_weights.proofs.Safety.{weight_tolerance}
 use Rattle.committee_weights.proofs.Sharing.{some_weight}
@@ -64,6 +64,7 @@ accused_by_weight k ws first second one_at two_at c both in_both =
         (c.differ, c.first_quorum, c.second_quorum, in_both),
       );
       members = both-members two are quorums in_both;
+      shared = both-shared two are quorums in_both;
       weigh = both-weigh two are quorums in_both;
       outlast = both-leave two are quorums in_both;
       most = members_fewer (length ws) c.one.1 both in_both.strict c.first_quorum.0 (λ x h. ((in_both.exactly x).0 h).0);

@@ -37,13 +37,15 @@ AccuseByWeight k weights accused one two =
 
 -- The inputs are two certificates for different values, each signed by members that weigh a quorum at a resilience k,
 -- and the accused are the members that signed both. With f the greatest weight that is safe for all weights of this
--- total they weigh at least (k - 2)f + 1, and where k is 3 or more, at least one of them is outside every set of
--- members that weighs at most f; they are no more than the members, nor than the bytes of either input.
+-- total they weigh all but at most 2f, so at least (k - 2)f + 1, and where k is 3 or more, at least one of them is
+-- outside every set of members that weighs at most f; they are no more than the members, nor than the bytes of either
+-- input.
 pub record AreAccusedByWeight (k : ℕ) (weights first second accused : List ℕ) : Type 0 where
   pub model : IsWeightedModel k weights
   pub tolerance : IsWeightTolerance k (sum weights) (faulty_weight k (sum weights))
   pub both : AreTwo first second (AccuseByWeight k weights accused)
   pub members : AreMembers (length weights) accused
+  pub shared : sum weights ≤ 2 * faulty_weight k (sum weights) + weight_of weights accused
   pub weigh : (k - 2) * faulty_weight k (sum weights) + 1 ≤ weight_of weights accused
   pub outlast : 3 ≤ k → LeavesOneOutsideWeight weights (faulty_weight k (sum weights)) accused
   pub most : length accused ≤ length weights
