@@ -24,7 +24,14 @@ use Rattle.commonware_c.specs.Bimaps.{BeginsWithMap, IsSizedBiMapOf}
 use Rattle.commonware_views.specs.laws.ItemLaws.{AreLong, items_length}
 
 module _ (key_size value_size : ℕ) (range : Bounds ℕ) (s : List ℕ) where
-  -- the keys and the values are those of each map that the input begins with
+  -- the bytes are those of each map that the input begins with
+  pub one_encoding : (p q : List (List ℕ × List ℕ)) (r t : List ℕ) → IsSizedMapOf key_size value_size range s p r
+      → IsSizedMapOf key_size value_size range s q t → map_enc own_bytes own_bytes p ≡ map_enc own_bytes own_bytes q
+  one_encoding p q r t a b =
+      map_prefix_free own_bytes (IsOfSize key_size) bytes_cmp (fixed_prefix_free key_size) own_bytes (IsOfSize value_size)
+      (fixed_prefix_free value_size) p q r t a.writable b.writable (sym a.begins ∙ b.begins)
+
+  -- so the keys and the values are
   pub one_pairs : (p q : List (List ℕ × List ℕ)) (r t : List ℕ) → IsSizedMapOf key_size value_size range s p r
       → IsSizedMapOf key_size value_size range s q t → (keys_of p ≡ keys_of q) × (values_of p ≡ values_of q)
   one_pairs p q r t a b =
@@ -34,9 +41,7 @@ module _ (key_size value_size : ℕ) (range : Bounds ℕ) (s : List ℕ) where
       let value_free = fixed_prefix_free value_size in
       let keys_free = set_prefix_free own_bytes (IsOfSize key_size) bytes_cmp key_free in
       let values_free = list_prefix_free own_bytes (IsOfSize value_size) value_free in
-      let same : map_enc own_bytes own_bytes p ≡ map_enc own_bytes own_bytes q =
-      map_prefix_free own_bytes (IsOfSize key_size) bytes_cmp key_free own_bytes (IsOfSize value_size) value_free
-      p q r t a.writable b.writable (sym a.begins ∙ b.begins) in
+      let same = one_encoding p q r t a b in
       let laws = sequence_canonical (list_enc own_bytes) Keys keys_free (list_enc own_bytes) Values values_free
       (pointwise (pointwise nat_eq)) (pointwise (pointwise nat_eq))
       (set_canonical own_bytes (IsOfSize key_size) bytes_cmp key_free (pointwise nat_eq) nat_list_cmp_total texts_ties (fixed_canonical key_size))
@@ -75,7 +80,7 @@ module _ (key_size value_size : ℕ) (range : Bounds ℕ) (s : List ℕ) where
         (first, second, item, item, repeat.earlier, one, two, equal))
 
 -- items of a size have that length
-items_are_long : (size : ℕ) (items : List (List ℕ)) → AllByRecursion (IsOfSize size) items → AreLong size items
+pub items_are_long : (size : ℕ) (items : List (List ℕ)) → AllByRecursion (IsOfSize size) items → AreLong size items
 items_are_long size [] each = tt
 items_are_long size (x ∷ items) (here, each) = (here.count, items_are_long size items each)
 

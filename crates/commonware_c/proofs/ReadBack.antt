@@ -1,10 +1,10 @@
 -- What stands at the start of a room is what was written there, and nothing else.
-use Rattle.std.proofs.Common.{◌≡◌, ◌∙◌, ℕ, ◌+◌, ◌<◌, ◌≤◌, ◌^◌, List, [], ◌∷◌, ◌++◌, length, take, drop, map, append-nil, ap, sym, subst, arith}
+use Rattle.std.proofs.Common.{◌≡◌, ◌∙◌, ℕ, ◌+◌, ◌<◌, ◌^◌, ◌-◌, List, [], ◌∷◌, ◌++◌, length, take, drop, map, append-nil, append_assoc, length-append, ap, sym, subst, subst₂, arith}
 use Rattle.std.specs.Prelude.{nat_eq}
 use Rattle.std.specs.Cmp.Lexicographic.{bytes_decides, pointwise, pointwise_decides, same_text, texts_ties}
 use Rattle.std.specs.List.{AllByRecursion, flat_map}
 use Rattle.std.specs.Map.{keys_of, values_of}
-use Rattle.std.proofs.Math.Seq.{take-append_seam}
+use Rattle.std.proofs.Math.Seq.{drop-append_seam, take-append_seam}
 use Rattle.std.proofs.lemmas.Bool.{and_parts}
 use Rattle.std.proofs.lemmas.Cmp.{nat_list_cmp_total}
 use Rattle.std.proofs.lemmas.Map.Entries.{length-keys_of, length-values_of}
@@ -16,7 +16,6 @@ use Rattle.commonware_base.specs.Varint.{varint}
 use Rattle.commonware_base.specs.laws.ItemsLaws.{each_allowed}
 use Rattle.commonware_base.specs.laws.TextLaws.{bytes_right}
 use Rattle.commonware_map.specs.Maps.{map_enc}
-use Rattle.commonware_ordered.specs.Sets.{IsWritableSet}
 use Rattle.commonware_ordered.specs.Strict.{IsStrict}
 use Rattle.commonware_ordered.specs.laws.SetLaws.{set_canonical, set_prefix_free}
 use Rattle.commonware_sequence.specs.FixedBytes.{IsOfSize, bytes_cmp, own_bytes}
@@ -28,7 +27,7 @@ use Rattle.commonware_views.specs.laws.ItemLaws.{AreLong}
 use Rattle.committee_certificates.specs.Certificates.{IsWritableCertificate, certificate_enc}
 use Rattle.committee_certificates.specs.Slots.{IsFor}
 use Rattle.committee_certificates.specs.laws.CertificateLaws.{certificate_canonical, certificate_prefix_free}
-use Rattle.commonware_c.specs.Certificates.{IsCertificate, IsWhole, up_to}
+use Rattle.commonware_c.specs.Certificates.{AreTwo, IsCertificate, IsWhole, any_length, up_to}
 use Rattle.commonware_c.specs.Committees.{IsSetOf, between}
 use Rattle.commonware_c.specs.Pairs.{IsMapOf, pair_of}
 use Rattle.commonware_c.specs.Splices.{spliced}
@@ -92,6 +91,14 @@ one_certificate a b c d s p q x y one two =
     let parts = and_parts _ _ equal in
     (same_text p.0 q.0 (sym parts.0), same_text p.1 q.1 (sym parts.1))
 
+-- so what holds of the two certificates that two inputs are holds of each two that they are
+pub of_two : (first second : List ℕ) (c d : List ℕ × List ℕ) (P : List ℕ × List ℕ → List ℕ × List ℕ → Type 0)
+    → IsWhole first c → IsWhole second d → AreTwo first second P → P c d
+of_two first second c d P is is_too (one, two, found, found_too, holds) =
+    let same = one_certificate any_length any_length any_length any_length first one c [] [] found is in
+    let same_too = one_certificate any_length any_length any_length any_length second two d [] [] found_too is_too in
+    subst₂ P (λ j. (same.0 j, same.1 j)) (λ j. (same_too.0 j, same_too.1 j)) holds
+
 -- the first of bytes are bytes
 bytes_left : (x y : List ℕ) → AreBytes (x ++ y) → AreBytes x
 bytes_left [] y h = tt
@@ -148,6 +155,20 @@ one_set size a b s p q x y one two =
     let laws = set_canonical own_bytes (IsOfSize size) bytes_cmp free (pointwise nat_eq) nat_list_cmp_total texts_ties
     (fixed_canonical size) in
     (pointwise_decides bytes_decides p q).0 ((laws.equal_by_bytes p q one.writable two.writable).1 same)
+
+-- what is cut out of an input between its number of keys and what follows them is the keys
+pub keys_cut : (size : ℕ) (range : Bounds ℕ) (s : List ℕ) (items : List (List ℕ)) (rest : List ℕ) (start left : ℕ)
+    → IsKeySetOf size range s items rest → start ≡ length (varint (length items)) → left ≡ length rest
+    → take (length s - left - start) (drop start s) ≡ flat_map own_bytes items
+keys_cut size range s items rest start left is at after =
+    let front = varint (length items) in
+    let flat = flat_map own_bytes items in
+    let long : length s - left - length front ≡ length flat =
+    omega (arith, ap length is.begins, length-append (front ++ flat) rest, length-append front flat, after) in
+    ap (λ n. take (length s - left - n) (drop n s)) at
+    ∙ ap (take (length s - left - length front))
+    (ap (drop (length front)) (is.begins ∙ append_assoc front flat rest) ∙ drop-append_seam front (flat ++ rest))
+    ∙ ap (λ n. take n (flat ++ rest)) long ∙ take-append_seam flat rest
 
 -- a map that was written is one of up to as many pairs
 pub written_map : (ks vs : ℕ) (rows : List (List ℕ)) (pairs : List (List ℕ × List ℕ)) (count bytes : ℕ)

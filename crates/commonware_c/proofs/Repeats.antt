@@ -173,6 +173,18 @@ module _ (ks : ℕ) (rows : List (List ℕ)) (pairs : List (List ℕ × List ℕ
     bytes_most = is.bytes_most;
   }
 
+-- and the other way round
+pub map_of_firsts : (ks vs : ℕ) (rows : List (List ℕ)) (pairs : List (List ℕ × List ℕ)) (count bytes : ℕ)
+    → IsMapOfAll ks vs rows pairs count bytes → IsMapOf ks vs rows pairs count bytes
+map_of_firsts ks vs rows pairs count bytes is = record {
+  firsts = each_first ks rows pairs is.are_all;
+  count_is = is.count_is ∙ sym (as_many ks rows pairs is.are_all);
+  count_most = omega (arith, is.count_is);
+  count_short = is.count_short;
+  bytes_is = is.bytes_is;
+  bytes_most = is.bytes_most;
+}
+
 -- pairs of rows are there only where rows are
 pub some_rows : (ks : ℕ) (rows : List (List ℕ)) (i : ℕ) (es : List Referred) → AreFirst ks rows i es → 1 ≤ length es → 1 ≤ length rows
 some_rows ks [] zero es first some =

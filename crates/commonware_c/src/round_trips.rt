@@ -11,6 +11,10 @@ ghost use Rattle.committee_certificates.specs.Signers.{AreQuorum};
 ghost use Rattle.commonware_c.specs.Certificates.{IsModel};
 ghost use Rattle.commonware_c.specs.Pairs.{IsFirstOfEach};
 
+mod accused;
+mod keys;
+mod numbers;
+
 use crate::certificates::{CertificateView, commonware_certificate_read};
 use crate::checks::{CheckView, commonware_certificate_check};
 use crate::committees::commonware_committee_read;

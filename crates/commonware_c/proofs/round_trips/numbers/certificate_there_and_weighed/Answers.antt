@@ -1,0 +1,26 @@
+-- What is written is one certificate, and it is that one that is asked about.
+use Rattle.std.proofs.Common.{◌≡◌, inl, rules, subst, take}
+use Rattle.committee_certificates.specs.Certificates.{certificate_enc}
+use Rattle.committee_weights.specs.Members.{AreWeightedQuorum}
+use Rattle.commonware_c.proofs.Certified.{one_list}
+use Rattle.commonware_c.proofs.ReadBack.{cut_to, whole_certificate}
+use Rattle.commonware_c.proofs.round_trips.numbers.certificate_there_and_weighed.Goals as goal
+
+pub returns : goal.returns
+returns c =
+    let value = c.args.value.now in
+    let signers = c.args.signers.now in
+    let weights = c.args.weights.now in
+    let room = c.commonware_certificate_write-written.new.out in
+    let size = c.commonware_certificate_write-written.result.size in
+    let write = c.commonware_certificate_write-written.ensures in
+    let check = c.commonware_weighted_check.ensures in
+    let ok : c.commonware_certificate_write-written.result.status ≡ 0 = search rules in
+    let cut = cut_to (certificate_enc (value, signers)) c.args.room.now room size (write.written ok) (write.size (inl ok)).0 in
+    let whole = whole_certificate value signers (take size room) (write.exactly.0 ok).0 cut in (
+      λ e.
+          let told = check.accepted e in
+          let same = one_list (take size room) (value, signers) (told.value, told.signers) whole told.certified.1 in
+          (told.certified.0, subst (AreWeightedQuorum c.args.k weights) same told.certified.2),
+      λ w. check.exactly.1 ((value, signers), (w.0, whole, w.1)),
+    )
