@@ -9,7 +9,6 @@ use Rattle.commonware_base.specs.Source.{rest_of}
 use Rattle.commonware_base.specs.Varint.{varint}
 use Rattle.commonware_sequence.specs.FixedBytes.{own_bytes}
 use Rattle.commonware_views.specs.Lists.{StandBy}
-use Rattle.commonware_views.specs.Maps.{IsSizedMapOf}
 use Rattle.commonware_views.specs.laws.PlaceLaws.{items_stand, stand_on}
 use Rattle.commonware_c.specs.Committees.{between}
 use Rattle.commonware_c.proofs.OneMap.{items_bytes}
