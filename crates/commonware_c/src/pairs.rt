@@ -23,8 +23,8 @@ use std::alloc::{AllocError, Global};
 /// bytes always suffice. NO_SIZE exactly where `key_size` is 0; NOT_WHOLE exactly where it is
 /// greater and the sum of both sizes, which never wraps, doesn't divide `pairs_length`;
 /// INVALID_LENGTH where the distinct keys are more than 4294967295. Never MEMORY where the pairs
-/// come in the order of their keys, each key once, as one pair and no pairs do: nothing is allocated
-/// then. Never NOT_STRICT.
+/// come in the order of their keys, each key once, as one pair and no pairs do: nothing is
+/// allocated then. Never NOT_STRICT.
 #[unsafe(no_mangle)]
 pub extern "C" fn commonware_map_write(
     alloc: Global,

@@ -24,9 +24,9 @@ use std::alloc::{AllocError, Global};
 /// pair whose key an earlier pair has. The status is the first of these: NO_SIZE, NOT_WHOLE,
 /// REPEATED_KEY or MEMORY, whichever is met first, INVALID_LENGTH where the pairs are more than
 /// 4294967295, ROOM. Where there is memory, it is REPEATED_KEY exactly where the keys have bytes,
-/// the pairs are whole and a key repeats. 10 + pairs_length bytes always suffice. Never MEMORY where
-/// the pairs come in the order of their keys, each key once, as one pair and no pairs do: nothing is
-/// allocated then. Never NOT_STRICT.
+/// the pairs are whole and a key repeats. 10 + pairs_length bytes always suffice. Never MEMORY
+/// where the pairs come in the order of their keys, each key once, as one pair and no pairs do:
+/// nothing is allocated then. Never NOT_STRICT.
 #[unsafe(no_mangle)]
 pub extern "C" fn commonware_map_write_unique(
     alloc: Global,
