@@ -31,6 +31,7 @@ fn counted(rt: &impl Abort, alloc: Global) -> Result<(), Error> {
     let set = Set::try_from_array(alloc, [5u8, 1, 3])?;
     assert!(rt; set.position_counted(&3, &mut Uncounted) == Some(1));
     assert!(rt; set.contains_counted(&3, &mut Uncounted));
+    assert!(rt; set.len() == 3);
     assert!(rt; set.index_counted(&3, &mut Uncounted) == Some(Participant::new(1)));
     Ok(())
 }
