@@ -3,8 +3,9 @@
 import array
 import ctypes
 import operator
+from collections.abc import Mapping, Set
 from ctypes import c_char, c_void_p
-from typing import Any, Callable, Iterable, NamedTuple, Optional, Tuple, TypeVar, Union
+from typing import Any, Callable, Iterable, Iterator, NamedTuple, Optional, Tuple, TypeVar, Union
 
 from . import _calls, errors
 
@@ -92,7 +93,10 @@ def input_of(data: BytesLike) -> Input:
 
 
 def number_of(name: str, number: int, most: int) -> int:
-    """Returns an argument that is from 0 to `most`."""
+    """Returns an argument that is from 0 to `most`. A bool is a TypeError: where one stands for a number, the
+    arguments are mixed up."""
+    if isinstance(number, bool):
+        raise TypeError(f"{name} is a number, not a bool")
     index = operator.index(number)
     if not 0 <= index <= most:
         raise errors.OutOfRange(name, index, most)
@@ -131,14 +135,22 @@ def room_for(length: int) -> Tuple[Numbers, Tuple[Any, int]]:
     return room, pointed(room)
 
 
+def _listed(name: str, numbers: Iterable[int], most: int) -> Iterator[int]:
+    """Returns the numbers that an argument lists, in its order. What has numbers of another meaning, or in no order, is
+    a TypeError: the bytes of an encoding, a text, the keys of a mapping, the items of a set."""
+    if isinstance(numbers, (bytes, bytearray, memoryview, str, Mapping, Set)):
+        raise TypeError(f"a list of numbers is required, not {type(numbers).__name__!r}")
+    return (number_of(name, number, most) for number in numbers)
+
+
 def indices_of(name: str, numbers: Iterable[int]) -> Numbers:
     """Returns the indices that an argument lists."""
-    return made(array.array, "I", (number_of(name, number, U32_MAX) for number in numbers))
+    return made(array.array, "I", _listed(name, numbers, U32_MAX))
 
 
 def weights_of(numbers: Iterable[int]) -> Numbers:
     """Returns the weights that an argument lists."""
-    return made(array.array, "Q", (number_of("weight", number, U64_MAX) for number in numbers))
+    return made(array.array, "Q", _listed("weight", numbers, U64_MAX))
 
 
 _PLAIN = {

@@ -99,7 +99,8 @@ class Certificate:
         increasing.
 
         Raises `InvalidLength` for a value or signers past 4294967295, `NotStrict` with the index of the first
-        signer that isn't greater than the one before it, `OutOfRange` and `OutOfMemory`.
+        signer that isn't greater than the one before it, `OutOfRange` and `OutOfMemory`; and `TypeError` for signers
+        that are bytes, a text, a mapping or a set, which have numbers of another meaning, or in no order.
 
         >>> Certificate.encode(b"x", [4, 200])
         b'\x01x\x02\x04\xc8\x01'

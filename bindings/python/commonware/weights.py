@@ -41,7 +41,7 @@ class Weights(Sequence[int]):
 
     Raises the first of these: `NoMembers` where there are none, `InvalidLength` where they are more, and `ZeroWeight`
     or `WeightOverflow`, whose index comes first; and before these `OutOfRange`, where a number isn't one of 64 bits,
-    and `OutOfMemory`.
+    and `OutOfMemory`. A mapping, a set, bytes or a text is a `TypeError`: the weights of a mapping are its values.
 
     >>> from commonware import N3F1, Weights
     >>> weights = Weights([40, 30, 20, 10])

@@ -129,6 +129,26 @@ class Types(unittest.TestCase):
             except CommonwareError as error:
                 self.assertNotIsInstance(error, OutOfRange)
 
+    def test_lists_of_another_kind_are_refused(self):
+        others = [b"\3\7", bytearray(b"\3"), memoryview(b"\3"), "37"]
+        others += [{1000: 32}, {3: 7}.keys(), {3, 7}, frozenset([3])]
+        calls = [
+            lambda it: Certificate.encode(b"v", it),
+            lambda it: commonware.Weights(it),
+            lambda it: commonware.weighted_check(3, it, CERTIFICATE),
+            lambda it: commonware.weighted_conflict(3, it, CERTIFICATE, CERTIFICATE),
+            lambda it: commonware.weighted_equivocation(3, it, CERTIFICATE, CERTIFICATE),
+        ]
+        for call in calls:
+            for it in others:
+                with self.assertRaisesRegex(TypeError, "a list of numbers is required"):
+                    call(it)
+            with self.assertRaisesRegex(TypeError, "is a number, not a bool"):
+                call([True])
+        for call in (lambda: max_faults(True, 4), lambda: quorum(3, True), lambda: check(3, True, CERTIFICATE)):
+            with self.assertRaisesRegex(TypeError, "is a number, not a bool"):
+                call()
+
     def test_numbers_at_the_edges(self):
         most = 2**32 - 1
         self.assertEqual((max_faults(2, most), quorum(2, most), smaller_quorum(2, most)), (2**31 - 1, 2**31, most))
