@@ -6,14 +6,26 @@ import shutil
 import signal
 import subprocess
 import threading
+import time
 
 import proved
 from proved import PARTS, ROOT
 
 from .verdicts import LATE
 
-# The seconds after which a check is ended.
-SECONDS = 1200
+# The seconds of a processor after which a check is ended, and those of a clock, which go on where the machine is busy with others.
+SECONDS, MOST_SECONDS = 1200, 7200
+# How often that is looked at.
+STEP_SECONDS = 5
+
+
+def seconds_of(ran):
+    """Returns the seconds of a processor that a process has taken, or none where the system doesn't tell them."""
+    try:
+        told = pathlib.Path(f"/proc/{ran.pid}/stat").read_text().rpartition(")")[2].split()
+    except OSError:
+        return 0
+    return (int(told[11]) + int(told[12])) / os.sysconf("SC_CLK_TCK")
 
 
 class Checks:
@@ -32,6 +44,9 @@ class Checks:
         kept = self.folder / f"{words[0].split('/')[-1]}-{total.hexdigest()[:16]}"
         if not kept.is_dir():
             status, text = self.start(words, folder)
+            # One that a signal has ended says nothing.
+            if status < 0:
+                return status, text
             shutil.copytree(folder / "src", kept / "src")
             (kept / "status").write_text(str(status))
             (kept / "output").write_text(text)
@@ -45,16 +60,22 @@ class Checks:
                 return -signal.SIGTERM, "ended"
             ran = subprocess.Popen([*words, "--jobs", "1"], cwd=folder, start_new_session=True, **pipes)
             self.running.add(ran)
-        is_late = False
-        try:
-            text = ran.communicate(timeout=SECONDS)[0]
-        except subprocess.TimeoutExpired:
-            is_late = True
-            self.end(ran)
-            text = ran.communicate()[0] + f"\nended after {SECONDS} seconds".encode()
+        text, is_late = self.wait(ran)
         with self.lock:
             self.running.discard(ran)
         return LATE if is_late else ran.returncode, text.decode(errors="replace")
+
+    def wait(self, ran):
+        """Returns what a check says, and whether it met a time limit."""
+        begun = time.monotonic()
+        while True:
+            try:
+                return ran.communicate(timeout=STEP_SECONDS)[0], False
+            except subprocess.TimeoutExpired:
+                taken, gone = seconds_of(ran), time.monotonic() - begun
+            if taken > SECONDS or gone > MOST_SECONDS:
+                self.end(ran)
+                return ran.communicate()[0] + f"\nended after {gone:.0f} seconds".encode(), True
 
     def end(self, ran):
         """Ends a check and what it has started."""
