@@ -101,13 +101,22 @@ def one_line(text):
     return " ".join(text.split())
 
 
+def hold(found, pattern, text, what):
+    """Ends the run where a text has more or fewer of something than were read: what isn't read would be left out unseen."""
+    there = len(re.findall(pattern, text, re.MULTILINE))
+    if len(found) != there:
+        raise SystemExit(f"generate: of {there} {what} {len(found)} can be read: each has a form that is known, and a comment above")
+
+
 def views_of(text):
     """Returns the structs of a source that have C's layout."""
     found = []
     pattern = r"((?:^///[^\n]*\n)+)#\[repr\(C\)\]\n(?:#\[[^\n]*\n)*pub struct (\w+) \{\n(.*?)^\}"
     for doc, name, body in re.findall(pattern, text, re.MULTILINE | re.DOTALL):
         fields = re.findall(r"((?:^ +///[^\n]*\n)+) +pub (\w+): (\w+),", body, re.MULTILINE)
+        hold(fields, r"^    pub ", body, f"fields of {name}")
         found.append(View(name, prose(doc), [Field(it, kind, one_line(prose(said)), 0) for said, it, kind in fields]))
+    hold(found, r"^#\[repr\(C\)\]$", text, "structs with C's layout")
     return found
 
 
@@ -117,14 +126,14 @@ def arguments_of(name, kind):
         return []
     if kind in SIZES:
         return [Argument(name, kind)]
-    written, item = re.fullmatch(r"&(mut )?(.+)", kind).groups()
-    inner = re.fullmatch(r"\[(\w+)\]", item)
-    rows = re.fullmatch(r"\[\[u8; \d+\]\]", item)
-    if inner or rows:
-        length = Argument(f"{name}_{'count' if rows else 'length'}", "usize", of=name)
-        return [Argument(name, inner[1] if inner else "u8", True, bool(written)), length]
-    assert re.fullmatch(r"\[u8; \d+\]", item), f"no form in C is known of {kind}"
-    return [Argument(name, "u8", True, bool(written))]
+    shape = re.fullmatch(r"&(mut )?(?:\[(u8|u32|u64)\]|(\[\[u8; \d+\]\])|\[u8; \d+\])", kind)
+    if not shape:
+        raise SystemExit(f"generate: no form in other languages is known of {name}: {kind}")
+    written, inner, rows = shape.groups()
+    items = Argument(name, inner or "u8", True, bool(written))
+    if not inner and not rows:
+        return [items]
+    return [items, Argument(f"{name}_{'count' if rows else 'length'}", "usize", of=name)]
 
 
 def exports_of(text, views):
@@ -133,10 +142,15 @@ def exports_of(text, views):
     head = r'((?:^///[^\n]*\n)+)(?:#\[[^\n]*\n)*pub extern "C" fn (\w+)\(([^)]*)\)(?: -> (\w+))?(.*?)^\{'
     for doc, name, words, result, contract in re.findall(head, text, re.MULTILINE | re.DOTALL):
         kinds = re.findall(r"(\w+): ((?:&(?:mut )?)?(?:\[+[^\]]*\]+|\w+))", words)
+        hold(kinds, r"\w+: ", words, f"parameters of {name}")
+        if result not in views and result not in SIZES:
+            raise SystemExit(f"generate: {name} returns {result or 'nothing'}, which has no form in other languages")
         arguments = [it for part in kinds for it in arguments_of(*part)]
         clauses = re.findall(r"^    ensures (\w*) ?\{", contract, re.MULTILINE)
         allocates = any(kind == "Global" for _, kind in kinds)
+        hold(clauses, r"^    ensures ", contract, f"clauses of {name}")
         found.append(Export(name, prose(doc), arguments, views.get(result, result), clauses, allocates))
+    hold(found, r'extern "C" fn ', text, "functions for C")
     return found
 
 
@@ -147,6 +161,7 @@ def statuses_of(text):
         said = one_line(prose(doc))
         first = re.match(r"(.*?)\.(?: |$)", said)[1]
         found.append(Status(name, int(number), said, first[0].lower() + first[1:], "`number`" in said))
+    hold(found, r"^pub\(crate\) const ", text, "statuses")
     assert [it.number for it in found] == list(range(len(found))), "the statuses are numbered from 0 on"
     return found
 
