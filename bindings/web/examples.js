@@ -44,7 +44,7 @@ export const EXAMPLES = [
     },
     { name: "Ten members", fields: { bytes: `0a ${[..."0123456789"].map((it) => member(`${it}0`)).join(" ")}`, members: 10 }, at: "picture" },
     {
-        name: "Two slots accuse no one",
+        name: "Two slots: no offence by this rule",
         fields: { second: "08 06 76 69 65 77 20 38 42 03 01 02 03" },
         at: "both",
     },

@@ -7,6 +7,9 @@ import { barsOf, pictureOf, chipsOf } from "./pictures.js";
 
 const $ = (id) => document.getElementById(id);
 
+// What is said where two certificates show no offence by the one rule that is tried.
+const OTHER_RULES = "The signers may have broken another rule, such as by a vote against a lock (amnesia), or by surround votes.";
+
 /** Returns an element with attributes, and with texts and elements in it. */
 function made(tag, attributes = {}, ...parts) {
     const element = document.createElement(tag);
@@ -364,12 +367,12 @@ class Page {
             : `Those who signed both ${least}.`;
         try {
             const found = call("equivocation");
-            show($("both"), "bad", made("strong", {}, `Equivocation: ${named(found)} signed two different decisions for one slot.`), `If the signatures are genuine, none of them is honest. ${rest}`);
+            show($("both"), "bad", made("strong", {}, `Equivocation: ${named(found)} signed two different decisions for one slot.`), `If the signatures are genuine, and both certificates are of this committee, none of them is honest. ${rest}`);
         } catch (error) {
             if (error.name === "OtherSlot") {
-                show($("both"), "good", made("strong", {}, "Two different slots."), "An honest member signs at most one decision a slot. Between two slots this rule accuses no one, and clears no one.");
+                show($("both"), "", made("strong", {}, "Two different slots: this rule finds nothing."), OTHER_RULES);
             } else if (error.name === "SameValue") {
-                show($("both"), "good", made("strong", {}, "One decision for one slot."), "Two certificates for the same accuse no one.");
+                show($("both"), "", made("strong", {}, "One decision for one slot: this rule finds nothing."), OTHER_RULES);
             } else if (error.name === "NoSlot") {
                 const found = call("conflict");
                 show($("both"), "", made("strong", {}, `${named(found)} signed two different values.`), `These values have no slot, so this is a fault only where both are for one. ${rest}`);

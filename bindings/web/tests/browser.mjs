@@ -38,7 +38,7 @@ const SHOWN = [
     ["verdict", "Accepted: 3 pairs, in 86 bytes"],
     ["verdict", "Refused at byte 18: pairs 0 and 2 have the same value"],
     ["counterexample", "Were f = 4: two sets of 6 share 2, and (k - 2)f + 1 = 5 would be needed"],
-    ["both", "Two different slots."],
+    ["both", "Two different slots: this rule finds nothing."],
     ["both", "Equivocation: Members 0, 1, who weigh 70, signed two different decisions for one slot"],
 ];
 
@@ -144,6 +144,13 @@ async function tryFields(tab) {
     await tab.fill("first", "01 aa 03 00 01 02");
     await tab.fill("second", "01 bb 03 01 02 03");
     await expect(tab, "page: values without a slot", "both", "Members 1, 2 signed two different values.", "only where both are for one");
+    await tab.fill("first", "03 01 07 aa 03 00 01 02");
+    await tab.fill("second", "03 01 07 aa 03 01 02 03");
+    await expect(tab, "page: one decision", "both", "this rule finds nothing", "may have broken another rule");
+    await tab.fill("second", "03 01 08 bb 03 01 02 03");
+    await expect(tab, "page: two slots", "both", "this rule finds nothing", "may have broken another rule");
+    const state = await tab.value(`document.getElementById("both").className`);
+    note(state.trim() === "verdict", "page: no offence by this rule isn't shown as good", state);
     await tab.fill("second", "08 06 76 69 65 77 20 37 42 02 01 02");
     await tab.fill("first", "08 06 76 69 65 77 20 37 41 03 00 01 02");
     await expect(tab, "page: too few signers", "both", "No one is named: fewer signers than a quorum.");
