@@ -1,5 +1,5 @@
 -- Signers that are read one by one, and only counted.
-use Rattle.std.proofs.Common.{◌≡◌, ℕ, zero, suc, ◌+◌, ◌<◌, ◌≤◌, ◌^◌, Bool, true, List, [], ◌∷◌, ◌++◌, refl, sym, arith, subst, get_or, inl, inr, ◌↔◌, ◌∙◌}
+use Rattle.std.proofs.Common.{◌≡◌, ℕ, zero, suc, ◌+◌, ◌<◌, ◌≤◌, ◌^◌, Bool, true, List, [], ◌∷◌, ◌++◌, refl, sym, arith, subst, get_or, length, inl, inr, ◌↔◌, ◌∙◌}
 use Rattle.std.specs.Cmp.{nat_cmp_is}
 use Rattle.std.specs.List.{flat_map}
 use Rattle.std.specs.Ordering.{nat_cmp}
@@ -25,7 +25,7 @@ use Rattle.commonware_ordered.specs.Strict.{IsStrict}
 use Rattle.committee_certificates.specs.Certificates.{AreAllowedSigners, SignersFault}
 use Rattle.committee_certificates.specs.InPlace.{AreSignersAt}
 use Rattle.committee_certificates.specs.Signers.{AreMembers, HasOutsider}
-use Rattle.commonware_ordered.specs.laws.PositionLaws.{RisesFrom, rises_from_strict}
+use Rattle.commonware_ordered.specs.laws.PositionLaws.{RisesFrom, members_from_last, rises_from_strict}
 
 -- the number after the last one, or low where there is none
 abbrev pub end_of : ℕ → List ℕ → ℕ
@@ -183,3 +183,22 @@ outsider_from_not_members n (x ∷ xs) never = elim (cases_lt x n) [
       let o = outsider_from_not_members n xs (λ m. never (All-cons (λ i. i < n) x xs h m)) in
       (suc o.0, o.1, omega (arith, o.2), o.3, o.4)
 ]
+
+-- the last of strictly increasing indices decides whether all are members
+module _ (n last i : ℕ) (xs : List ℕ) (strict : IsStrict nat_cmp xs) (end : i + 1 ≡ length xs) (at : (d : ℕ) → last ≡ get_or xs i d) where
+  pub members_by_last : (last < n) ↔ AreMembers n xs
+  members_by_last = (
+    λ below. members_from_last n last i xs strict end (at last) below,
+    λ all. let here : get_or xs i last < n = all i last (omega (arith, end)) in omega (arith, here, at last),
+  )
+
+  pub outsider_by_last : (n ≤ last) ↔ HasOutsider n xs
+  outsider_by_last = (
+    λ above. (i, last, omega (arith, end), sym (at last), above),
+    λ o. elim (cases_lt last n) [
+      | inr above ↦ above
+      | inl below ↦
+          let here : get_or xs o.0 o.1 < n = members_by_last.0 below o.0 o.1 o.2 in
+          absurd (omega (arith, here, o.3, o.4))
+    ],
+  )

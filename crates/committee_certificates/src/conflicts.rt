@@ -1,5 +1,6 @@
 //! Accountability: the members that signed both of two certificates for different values.
-ghost use Rattle.std.specs.Prelude.{◌≡◌, ◌≢◌, ◌+◌, ◌*◌, ◌<◌, ◌≤◌, ◌⊎◌, ◌↔◌, ℕ, IfErr, IfOk, IsErrOf, IsFalse, IsTrue, OnErr, OnOk, length, pos};
+ghost use Rattle.std.specs.Prelude.{◌≡◌, ◌≢◌, ◌+◌, ◌*◌, ◌<◌, ◌≤◌, ◌⊎◌, ◌↔◌, ℕ, IfErr, IfOk, IsErrOf, OnOk, length, pos};
+ghost use Rattle.std.specs.Ordering.{nat_cmp};
 ghost use Rattle.committee_certificates.specs.declared.conflicts.ConflictError.TheVariants.{Memory, Outside, TooFew};
 ghost use Rattle.committee_certificates.specs.Signers.{AreInBoth, AreMembers, AreQuorum, AreTooFew};
 ghost use Rattle.committee_certificates.specs.Signers.{HasOutsider, LeavesOneOutside, OutnumberFaults};
@@ -9,7 +10,7 @@ ghost use Rattle.commonware_faults.specs.Subsets.{Greatest, Greatest3, Greatest5
 ghost use Rattle.commonware_ordered.specs.Strict.{IsStrict};
 
 use crate::certificate::Certificate;
-use crate::intersection::in_both;
+use crate::signers::{are_members, signers_of_both_counted};
 use commonware_base::Participant;
 use commonware_faults::Faults;
 use commonware_ordered::{Counter, Quorum, Set, Uncounted};
@@ -176,24 +177,20 @@ pub fn conflict_among_counted<A: Allocator, C: Counter>(
         (length first.now.signers) (length second.now.signers)
         (C.counted count.old) (C.counted count.new)) }
 {
-    let first_signers = first.signers.as_slice();
-    let second_signers = second.signers.as_slice();
     let quorum = members - faults as usize;
-    check_signers(members, quorum, first_signers, second_signers)?;
-    let both = in_both(alloc, first_signers, second_signers, count)?;
-    Ok(Set::from_strict(both))
+    check_signers(members, quorum, &first.signers, &second.signers)?;
+    let both = signers_of_both_counted(alloc, &first.signers, &second.signers, count)?;
+    Ok(both)
 }
 
-/// Refuses a signer of either list that is no member, and then a list shorter than a quorum. The
-/// committee has `members` members, and the signers are strictly increasing.
-fn check_signers(
+/// Refuses a signer of either set that is no member, and then a set smaller than a quorum. The
+/// committee has `members` members.
+fn check_signers<A: Allocator>(
     members: usize,
     quorum: usize,
-    first: &[Participant],
-    second: &[Participant],
+    first: &Set<Participant, A>,
+    second: &Set<Participant, A>,
 ) -> Result<(), ConflictError>
-    requires first_strict { IsStrict ⟦<Participant as Ord>⟧.cmp first.now }
-    requires second_strict { IsStrict ⟦<Participant as Ord>⟧.cmp second.now }
     ensures outside { IsErrOf result Outside
         ↔ (HasOutsider members first.now ⊎ HasOutsider members second.now) }
     ensures too_few { IsErrOf result TooFew
@@ -201,26 +198,16 @@ fn check_signers(
         × ((length first.now < quorum) ⊎ (length second.now < quorum))) }
     ensures members { OnOk result (AreMembers members first.now × AreMembers members second.now) }
     ensures enough { OnOk result ((quorum ≤ length first.now) × (quorum ≤ length second.now)) }
+    ensures strict { OnOk result ((IsStrict nat_cmp first.now) × (IsStrict nat_cmp second.now)) }
     ensures only { IfErr result (λ error. (error ≡ Outside) ⊎ (error ≡ TooFew)) }
 {
-    if has_outsider(members, first) || has_outsider(members, second) {
+    if !are_members(members, first) || !are_members(members, second) {
         return Err(ConflictError::Outside);
     }
+    let first = first.as_slice();
+    let second = second.as_slice();
     if first.len() < quorum || second.len() < quorum {
         return Err(ConflictError::TooFew);
     }
     Ok(())
-}
-
-/// Whether a signer is at or past the committee's length, which is the number of its members. The
-/// signers are strictly increasing, so the last one decides.
-pub(crate) fn has_outsider(members: usize, signers: &[Participant]) -> bool
-    requires { IsStrict ⟦<Participant as Ord>⟧.cmp signers.now }
-    ensures is_true { IsTrue result → HasOutsider members signers.now }
-    ensures is_false { IsFalse result → AreMembers members signers.now }
-{
-    match signers.last() {
-        Some(last) => usize::from(*last) >= members,
-        None => false,
-    }
 }

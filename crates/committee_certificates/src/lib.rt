@@ -13,6 +13,7 @@ mod in_place;
 mod intersection;
 mod quorums;
 mod shared;
+mod signers;
 mod slots;
 mod voters;
 mod votes;
@@ -28,6 +29,7 @@ pub use equivocations::{
 pub use in_place::{CertificateAt, SignersAt, find_certificate, find_signers};
 pub use quorums::{QuorumError, check_quorum, check_quorum_among};
 pub use shared::both_law;
+pub use signers::{are_members, signers_of_both_counted};
 pub use slots::slot_of;
 pub use voters::first_new;
 pub use votes::vote_law;

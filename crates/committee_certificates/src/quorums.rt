@@ -6,7 +6,7 @@ ghost use Rattle.committee_certificates.specs.Signers.{HasOutsider};
 ghost use Rattle.commonware_faults.specs.Counts.{IsCommitteeSize};
 
 use crate::certificate::Certificate;
-use crate::conflicts::has_outsider;
+use crate::signers::are_members;
 use commonware_faults::Faults;
 use commonware_ordered::{Quorum, Set};
 use std::alloc::Allocator;
@@ -57,11 +57,10 @@ pub fn check_quorum_among<A: Allocator>(
     ensures too_few { IsErrOf result TooFew ↔ (AreMembers members certificate.now.signers
         × AreTooFew (λ _. faults) members certificate.now.signers) }
 {
-    let signers = certificate.signers.as_slice();
-    if has_outsider(members, signers) {
+    if !are_members(members, &certificate.signers) {
         return Err(QuorumError::Outside);
     }
-    if signers.len() < members - faults as usize {
+    if certificate.signers.len() < members - faults as usize {
         return Err(QuorumError::TooFew);
     }
     Ok(())

@@ -5,6 +5,8 @@
 #[cfg(test)]
 mod accused;
 #[cfg(test)]
+mod both_signers;
+#[cfg(test)]
 mod certificates;
 #[cfg(test)]
 mod certificates_in_place;
