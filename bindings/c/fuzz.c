@@ -30,7 +30,7 @@ static void *room(size_t elements, size_t size) {
 }
 
 static void try_index(const uint8_t *members, uint32_t count, const uint8_t *key) {
-    const commonware_place_view view = commonware_committee_index(members, count, key);
+    const commonware_place_view view = commonware_committee_position(members, count, key);
     size_t place = 0;
     while (place < count && memcmp(members + 32 * place, key, 32) < 0) {
         place++;
@@ -65,9 +65,9 @@ static void try_committee(const uint8_t *input, size_t length, size_t least, siz
     const size_t size = length - rest.length;
     uint8_t *out = room(size, 1);
     commonware_written_view written =
-        commonware_committee_write(keys, 2 * (size_t)count, out, size - 1);
+        commonware_committee_encode_dedup(keys, 2 * (size_t)count, out, size - 1);
     REQUIRE(written.status == COMMONWARE_ROOM && written.size == size && out[0] == 0xee);
-    written = commonware_committee_write(keys, 2 * (size_t)count, out, size);
+    written = commonware_committee_encode_dedup(keys, 2 * (size_t)count, out, size);
     REQUIRE(written.status == COMMONWARE_OK && written.size == size && written.count == count);
     REQUIRE(memcmp(out, input, size) == 0 && out[size] == 0xee);
     free(keys);
@@ -86,7 +86,8 @@ static void try_keys(const uint8_t *keys, uint32_t count, size_t size, const uin
                 place++;
             }
             const bool is_there = place < count && memcmp(keys + place * size, key, size) == 0;
-            const commonware_place_view view = commonware_set_index(keys, count * size, key, size);
+            const commonware_place_view view =
+                commonware_set_position(keys, count * size, key, size);
             REQUIRE(view.status == (is_there ? COMMONWARE_OK : COMMONWARE_ABSENT));
             REQUIRE(view.index == place);
         }
@@ -95,18 +96,19 @@ static void try_keys(const uint8_t *keys, uint32_t count, size_t size, const uin
 }
 
 /* From the last to the first, and then all again, which are written as they stand in the input. */
-static void try_set_write(const uint8_t *keys, uint32_t count, size_t size, const uint8_t *set,
-                          size_t length) {
+static void try_set_encode_dedup(const uint8_t *keys, uint32_t count, size_t size,
+                                 const uint8_t *set, size_t length) {
     const size_t bytes = count * size;
     uint8_t *given = room(2 * bytes, 1), *out = room(length, 1);
     for (uint32_t i = 0; i < count; i++) {
         memcpy(given + (count - 1 - i) * size, keys + i * size, size);
     }
     memcpy(given + bytes, keys, bytes);
-    commonware_written_view view = commonware_set_write(size, given, 2 * bytes, out, length - 1);
+    commonware_written_view view =
+        commonware_set_encode_dedup(size, given, 2 * bytes, out, length - 1);
     REQUIRE(view.status == COMMONWARE_ROOM && view.size == length && view.count == count);
     REQUIRE(view.number == 0 && out[0] == 0xee);
-    view = commonware_set_write(size, given, 2 * bytes, out, length);
+    view = commonware_set_encode_dedup(size, given, 2 * bytes, out, length);
     REQUIRE(view.status == COMMONWARE_OK && view.size == length && view.count == count);
     REQUIRE(view.number == 0 && memcmp(out, set, length) == 0 && out[length] == 0xee);
     free(given);
@@ -133,7 +135,7 @@ static void try_set(size_t size, const uint8_t *input, size_t length, size_t lea
     }
     if (size > 0 && size <= length) {
         try_keys(keys, count, size, input);
-        try_set_write(keys, count, size, input, length - rest.length);
+        try_set_encode_dedup(keys, count, size, input, length - rest.length);
     }
 }
 
@@ -227,7 +229,7 @@ static void try_list(size_t size, const uint8_t *input, size_t length) {
     if (size > length) {
         return;
     }
-    const commonware_place_view view = commonware_set_index(input, length, input, size);
+    const commonware_place_view view = commonware_set_position(input, length, input, size);
     if (size == 0) {
         REQUIRE(view.status == COMMONWARE_NO_SIZE && view.index == 0);
     } else if (length % size > 0) {
@@ -271,7 +273,7 @@ static void try_written(struct rows rows, commonware_written_view view, const ui
         commonware_map_read(rows.key_size, rows.value_size, out, view.size, count, count);
     REQUIRE(map.status == COMMONWARE_OK && map.left == 0);
     for (size_t i = 0; i < rows.count; i++) {
-        const commonware_place_view place = commonware_set_index(
+        const commonware_place_view place = commonware_set_position(
             out + map.keys, count * rows.key_size, row_at(rows, i), rows.key_size);
         REQUIRE(place.status == COMMONWARE_OK);
         const uint8_t *value = row_at(rows, first_with_key(rows, i)) + rows.key_size;
@@ -296,11 +298,11 @@ static void try_rows(size_t key_size, size_t value_size, const uint8_t *input, s
         repeat = is_first ? repeat : i - 1;
     }
     uint8_t *out = room(most, 1);
-    try_written(rows, commonware_map_write(key_size, value_size, input, length, out, most), out,
-                distinct);
+    try_written(rows, commonware_map_encode_dedup(key_size, value_size, input, length, out, most),
+                out, distinct);
     memset(out, 0xee, most);
     const commonware_written_view view =
-        commonware_map_write_unique(key_size, value_size, input, length, out, most);
+        commonware_map_encode(key_size, value_size, input, length, out, most);
     if (repeat == rows.count) {
         try_written(rows, view, out, rows.count);
     } else {
@@ -347,11 +349,11 @@ static void try_certificate(const uint8_t *input, size_t length, size_t most_byt
         REQUIRE(memcmp(signers, parts.signers, 4 * (size_t)parts.count) == 0);
         const size_t size = length - rest.length;
         uint8_t *out = room(size, 1);
-        commonware_written_view written = commonware_certificate_write(
+        commonware_written_view written = commonware_certificate_encode(
             parts.value, parts.value_length, signers, parts.count, out, size - 1);
         REQUIRE(written.status == COMMONWARE_ROOM && written.size == size && out[0] == 0xee);
-        written = commonware_certificate_write(
-            parts.value, parts.value_length, signers, parts.count, out, size);
+        written = commonware_certificate_encode(parts.value, parts.value_length, signers,
+                                                parts.count, out, size);
         REQUIRE(written.status == COMMONWARE_OK && written.size == size);
         REQUIRE(memcmp(out, input, size) == 0 && out[size] == 0xee);
         free(out);
@@ -378,7 +380,7 @@ static void try_indices(const uint8_t *input, size_t length, size_t value_length
         place++;
     }
     const commonware_written_view view =
-        commonware_certificate_write(input, value_length, signers, count, out, most);
+        commonware_certificate_encode(input, value_length, signers, count, out, most);
     if (place < count) {
         REQUIRE(view.status == COMMONWARE_NOT_STRICT && view.number == place && out[0] == 0xee);
     } else {
@@ -569,8 +571,7 @@ static commonware_weighted_check_view call_check(struct committee it, const uint
     if (it.weights != NULL) {
         return commonware_weighted_check(it.k, it.weights, it.members, input, length);
     }
-    const commonware_check_view counted =
-        commonware_certificate_check(it.k, it.members, input, length);
+    const commonware_check_view counted = commonware_check(it.k, it.members, input, length);
     /* The fields of that view come first. */
     commonware_weighted_check_view view = {.weight = counted.signers};
     memcpy(&view, &counted, sizeof counted);

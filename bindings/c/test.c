@@ -118,7 +118,8 @@ static void test_committee(void) {
         memset(keys[i], (int)(7 * i % 4), 32);
     }
     uint8_t bytes[COMMONWARE_COMMITTEE_SIZE(5)];
-    const commonware_written_view written = commonware_committee_write(&keys[0][0], 5, OF(bytes));
+    const commonware_written_view written =
+        commonware_committee_encode_dedup(&keys[0][0], 5, OF(bytes));
     CHECK(written.status == COMMONWARE_OK && written.count == 4 && written.size == 1 + 4 * 32);
     CHECK(bytes[0] == 4 && bytes[1] == 0 && bytes[33] == 1 && bytes[97] == 3 && bytes[128] == 3);
 
@@ -153,11 +154,12 @@ static void test_committee(void) {
 
     uint8_t room[128];
     memset(room, 0xee, sizeof room);
-    const commonware_written_view refused = commonware_committee_write(&keys[0][0], 5, OF(room));
+    const commonware_written_view refused =
+        commonware_committee_encode_dedup(&keys[0][0], 5, OF(room));
     CHECK(refused.status == COMMONWARE_ROOM && refused.size == 129 && refused.count == 4);
     CHECK(room[0] == 0xee && memcmp(room, room + 1, sizeof room - 1) == 0);
-    CHECK(commonware_committee_write(&keys[0][0], 5, NULL, 0).status == COMMONWARE_ROOM);
-    const commonware_written_view none = commonware_committee_write(NULL, 0, OF(room));
+    CHECK(commonware_committee_encode_dedup(&keys[0][0], 5, NULL, 0).status == COMMONWARE_ROOM);
+    const commonware_written_view none = commonware_committee_encode_dedup(NULL, 0, OF(room));
     CHECK(none.status == COMMONWARE_OK && none.size == 1 && room[0] == 0 && room[1] == 0xee);
 }
 
@@ -167,10 +169,10 @@ static void test_index(void) {
     const uint32_t statuses[5] = {12, 0, 0, 12, 12};
     const size_t indices[5] = {0, 1, 2, 1, 3};
     for (size_t i = 0; i < 5; i++) {
-        const commonware_place_view view = commonware_committee_index(&keys[0][0], 3, sought[i]);
+        const commonware_place_view view = commonware_committee_position(&keys[0][0], 3, sought[i]);
         CHECK(view.status == statuses[i] && view.index == indices[i]);
     }
-    const commonware_place_view none = commonware_committee_index(NULL, 0, sought[0]);
+    const commonware_place_view none = commonware_committee_position(NULL, 0, sought[0]);
     CHECK(none.status == COMMONWARE_ABSENT && none.index == 0);
 }
 
@@ -247,7 +249,7 @@ static void test_set_extremes(void) {
     }
 }
 
-static void test_set_index(void) {
+static void test_set_position(void) {
     uint8_t keys[3 * 96 + 1], key[96];
     for (size_t i = 0; i < SIZES; i++) {
         const size_t size = sizes[i];
@@ -261,52 +263,59 @@ static void test_set_index(void) {
             const size_t less = (size_t)((last > 0x22) + (last > 0x33) + (last > 0x44));
             const bool is_there = last == 0x22 || last == 0x33 || last == 0x44;
             const uint32_t status = is_there ? COMMONWARE_OK : COMMONWARE_ABSENT;
-            CHECK(is_place(commonware_set_index(keys, 3 * size, key, size), status, less));
+            CHECK(is_place(commonware_set_position(keys, 3 * size, key, size), status, less));
         }
-        CHECK(is_place(commonware_set_index(NULL, 0, key, size), COMMONWARE_ABSENT, 0));
-        CHECK(is_place(commonware_set_index(keys, size, key, size), COMMONWARE_ABSENT, 1));
+        CHECK(is_place(commonware_set_position(NULL, 0, key, size), COMMONWARE_ABSENT, 0));
+        CHECK(is_place(commonware_set_position(keys, size, key, size), COMMONWARE_ABSENT, 1));
         for (size_t length = 0; size > 1 && length <= 3 * size; length++) {
-            const commonware_place_view view = commonware_set_index(keys, length, keys, size);
+            const commonware_place_view view = commonware_set_position(keys, length, keys, size);
             const bool is_whole = length % size == 0;
             const uint32_t status = length == 0 ? COMMONWARE_ABSENT : COMMONWARE_OK;
             CHECK(is_place(view, is_whole ? status : COMMONWARE_NOT_WHOLE, 0));
         }
-        CHECK(is_place(commonware_set_index(keys, 3 * size, key, 0), COMMONWARE_NO_SIZE, 0));
+        CHECK(is_place(commonware_set_position(keys, 3 * size, key, 0), COMMONWARE_NO_SIZE, 0));
     }
-    CHECK(is_place(commonware_set_index(keys, 96, NULL, 0), COMMONWARE_NO_SIZE, 0));
-    CHECK(is_place(commonware_set_index(NULL, 0, NULL, 0), COMMONWARE_NO_SIZE, 0));
+    CHECK(is_place(commonware_set_position(keys, 96, NULL, 0), COMMONWARE_NO_SIZE, 0));
+    CHECK(is_place(commonware_set_position(NULL, 0, NULL, 0), COMMONWARE_NO_SIZE, 0));
     /* Out of order: the index of the key, or a gap. */
     const uint8_t mixed[] = {5, 1, 9}, five[] = {5}, seven[] = {7};
-    commonware_place_view view = commonware_set_index(OF(mixed), OF(five));
+    commonware_place_view view = commonware_set_position(OF(mixed), OF(five));
     CHECK(is_place(view, COMMONWARE_OK, 0) || is_place(view, COMMONWARE_ABSENT, 2));
-    view = commonware_set_index(OF(mixed), OF(seven));
+    view = commonware_set_position(OF(mixed), OF(seven));
     CHECK(is_place(view, COMMONWARE_ABSENT, 2));
 }
 
 /* Keys of three bytes in any order, each once or more; the room as it was where nothing is
  * written. */
-static void test_set_write(void) {
+static void test_set_encode_dedup(void) {
     const uint8_t keys[] = {5, 0, 2, 5, 0, 1, 5, 0, 2, 4, 9, 9};
     const uint8_t set[] = {3, 4, 9, 9, 5, 0, 1, 5, 0, 2, 0xee, 0xee};
     uint8_t out[12];
     memset(out, 0xee, sizeof out);
     const uint8_t untouched[12] = {0xee, 0xee, 0xee, 0xee, 0xee, 0xee,
                                    0xee, 0xee, 0xee, 0xee, 0xee, 0xee};
-    CHECK(is_written(commonware_set_write(3, OF(keys), out, 9), COMMONWARE_ROOM, 3, 0, 10));
-    CHECK(is_written(commonware_set_write(3, OF(keys), NULL, 0), COMMONWARE_ROOM, 3, 0, 10));
-    CHECK(is_written(commonware_set_write(0, OF(keys), OF(out)), COMMONWARE_NO_SIZE, 0, 0, 0));
-    CHECK(is_written(commonware_set_write(0, NULL, 0, OF(out)), COMMONWARE_NO_SIZE, 0, 0, 0));
-    CHECK(is_written(commonware_set_write(5, OF(keys), OF(out)), COMMONWARE_NOT_WHOLE, 0, 2, 0));
-    CHECK(is_written(commonware_set_write(13, OF(keys), OF(out)), COMMONWARE_NOT_WHOLE, 0, 12, 0));
-    CHECK(is_written(commonware_set_write(SIZE_MAX, OF(keys), OF(out)), COMMONWARE_NOT_WHOLE, 0, 12,
+    CHECK(is_written(commonware_set_encode_dedup(3, OF(keys), out, 9), COMMONWARE_ROOM, 3, 0, 10));
+    CHECK(is_written(commonware_set_encode_dedup(3, OF(keys), NULL, 0), COMMONWARE_ROOM, 3, 0, 10));
+    CHECK(
+        is_written(commonware_set_encode_dedup(0, OF(keys), OF(out)), COMMONWARE_NO_SIZE, 0, 0, 0));
+    CHECK(
+        is_written(commonware_set_encode_dedup(0, NULL, 0, OF(out)), COMMONWARE_NO_SIZE, 0, 0, 0));
+    CHECK(is_written(commonware_set_encode_dedup(5, OF(keys), OF(out)), COMMONWARE_NOT_WHOLE, 0, 2,
                      0));
+    CHECK(is_written(commonware_set_encode_dedup(13, OF(keys), OF(out)), COMMONWARE_NOT_WHOLE, 0,
+                     12, 0));
+    CHECK(is_written(commonware_set_encode_dedup(SIZE_MAX, OF(keys), OF(out)), COMMONWARE_NOT_WHOLE,
+                     0, 12, 0));
     CHECK(memcmp(out, untouched, sizeof out) == 0);
-    CHECK(is_written(commonware_set_write(3, OF(keys), OF(out)), COMMONWARE_OK, 3, 0, 10));
+    CHECK(is_written(commonware_set_encode_dedup(3, OF(keys), OF(out)), COMMONWARE_OK, 3, 0, 10));
     CHECK(memcmp(out, set, sizeof out) == 0);
-    CHECK(is_written(commonware_set_write(3, out + 1, 9, out + 11, 1), COMMONWARE_ROOM, 3, 0, 10));
-    CHECK(is_written(commonware_set_write(SIZE_MAX, NULL, 0, OF(out)), COMMONWARE_OK, 0, 0, 1));
+    CHECK(is_written(commonware_set_encode_dedup(3, out + 1, 9, out + 11, 1), COMMONWARE_ROOM, 3, 0,
+                     10));
+    CHECK(is_written(commonware_set_encode_dedup(SIZE_MAX, NULL, 0, OF(out)), COMMONWARE_OK, 0, 0,
+                     1));
     CHECK(out[0] == 0 && memcmp(out + 1, set + 1, sizeof out - 1) == 0);
-    CHECK(is_written(commonware_set_write(12, OF(keys), OF(out)), COMMONWARE_ROOM, 1, 0, 13));
+    CHECK(
+        is_written(commonware_set_encode_dedup(12, OF(keys), OF(out)), COMMONWARE_ROOM, 1, 0, 13));
 }
 
 static void test_map(void) {
@@ -323,7 +332,7 @@ static void test_map(void) {
         uint8_t key[96];
         memcpy(key, bytes + 1 + size, size);
         const commonware_place_view place =
-            commonware_set_index(bytes + view.keys, view.count * size, key, size);
+            commonware_set_position(bytes + view.keys, view.count * size, key, size);
         CHECK(is_place(place, COMMONWARE_OK, 1));
         CHECK(bytes[view.values + place.index * 8] == 8);
         for (size_t end = 0; end < length; end++) {
@@ -370,56 +379,58 @@ static void test_map(void) {
 }
 
 /* Pairs of a key of two bytes and a value of one, the second with the key of the first. */
-static void test_map_write(void) {
+static void test_map_encode_dedup(void) {
     const uint8_t pairs[] = {5, 2, 10, 5, 2, 20, 5, 1, 30, 4, 9, 40};
     const uint8_t map[] = {3, 4, 9, 5, 1, 5, 2, 3, 40, 30, 10, 0xee};
     uint8_t out[12], untouched[12];
     memset(out, 0xee, sizeof out);
     memset(untouched, 0xee, sizeof untouched);
-    CHECK(is_written(commonware_map_write(2, 1, OF(pairs), out, 10), COMMONWARE_ROOM, 3, 0, 11));
-    CHECK(is_written(commonware_map_write(2, 1, OF(pairs), NULL, 0), COMMONWARE_ROOM, 3, 0, 11));
-    CHECK(is_written(commonware_map_write(0, 3, OF(pairs), OF(out)), COMMONWARE_NO_SIZE, 0, 0, 0));
-    CHECK(
-        is_written(commonware_map_write(4, 1, OF(pairs), OF(out)), COMMONWARE_NOT_WHOLE, 0, 2, 0));
-    CHECK(is_written(commonware_map_write(SIZE_MAX, 2, OF(pairs), OF(out)), COMMONWARE_NOT_WHOLE, 0,
-                     12, 0));
-    CHECK(is_written(commonware_map_write(1, SIZE_MAX, OF(pairs), OF(out)), COMMONWARE_NOT_WHOLE, 0,
-                     12, 0));
+    CHECK(is_written(commonware_map_encode_dedup(2, 1, OF(pairs), out, 10), COMMONWARE_ROOM, 3, 0,
+                     11));
+    CHECK(is_written(commonware_map_encode_dedup(2, 1, OF(pairs), NULL, 0), COMMONWARE_ROOM, 3, 0,
+                     11));
+    CHECK(is_written(commonware_map_encode_dedup(0, 3, OF(pairs), OF(out)), COMMONWARE_NO_SIZE, 0,
+                     0, 0));
+    CHECK(is_written(commonware_map_encode_dedup(4, 1, OF(pairs), OF(out)), COMMONWARE_NOT_WHOLE, 0,
+                     2, 0));
+    CHECK(is_written(commonware_map_encode_dedup(SIZE_MAX, 2, OF(pairs), OF(out)),
+                     COMMONWARE_NOT_WHOLE, 0, 12, 0));
+    CHECK(is_written(commonware_map_encode_dedup(1, SIZE_MAX, OF(pairs), OF(out)),
+                     COMMONWARE_NOT_WHOLE, 0, 12, 0));
     CHECK(memcmp(out, untouched, sizeof out) == 0);
-    CHECK(is_written(commonware_map_write(2, 1, OF(pairs), OF(out)), COMMONWARE_OK, 3, 0, 11));
+    CHECK(
+        is_written(commonware_map_encode_dedup(2, 1, OF(pairs), OF(out)), COMMONWARE_OK, 3, 0, 11));
     CHECK(memcmp(out, map, sizeof out) == 0);
-    CHECK(is_written(commonware_map_write(SIZE_MAX, 2, NULL, 0, OF(out)), COMMONWARE_OK, 0, 0, 2));
+    CHECK(is_written(commonware_map_encode_dedup(SIZE_MAX, 2, NULL, 0, OF(out)), COMMONWARE_OK, 0,
+                     0, 2));
     CHECK(out[0] == 0 && out[1] == 0 && memcmp(out + 2, map + 2, sizeof out - 2) == 0);
-    CHECK(is_written(commonware_map_write(3, 0, OF(pairs), NULL, 0), COMMONWARE_ROOM, 4, 0, 14));
+    CHECK(is_written(commonware_map_encode_dedup(3, 0, OF(pairs), NULL, 0), COMMONWARE_ROOM, 4, 0,
+                     14));
 }
 
 /* Such pairs of which the fourth has the key of the second, and the last that of the first. */
-static void test_map_write_unique(void) {
+static void test_map_encode(void) {
     const uint8_t pairs[] = {5, 2, 10, 5, 1, 30, 4, 9, 40, 5, 1, 30, 5, 2, 20};
     const uint8_t map[] = {3, 4, 9, 5, 1, 5, 2, 3, 40, 30, 10, 0xee};
     uint8_t out[12], untouched[12];
     memset(out, 0xee, sizeof out);
     memset(untouched, 0xee, sizeof untouched);
-    CHECK(is_written(commonware_map_write_unique(2, 1, OF(pairs), OF(out)), COMMONWARE_REPEATED_KEY,
-                     0, 3, 0));
-    CHECK(is_written(commonware_map_write_unique(1, 2, OF(pairs), OF(out)), COMMONWARE_REPEATED_KEY,
-                     0, 1, 0));
-    CHECK(is_written(commonware_map_write_unique(2, 1, OF(pairs), NULL, 0), COMMONWARE_REPEATED_KEY,
-                     0, 3, 0));
-    CHECK(is_written(commonware_map_write_unique(2, 1, pairs, 14, OF(out)), COMMONWARE_NOT_WHOLE, 0,
-                     2, 0));
-    CHECK(is_written(commonware_map_write_unique(0, 3, OF(pairs), OF(out)), COMMONWARE_NO_SIZE, 0,
-                     0, 0));
-    CHECK(is_written(commonware_map_write_unique(2, 1, pairs, 9, out, 10), COMMONWARE_ROOM, 3, 0,
-                     11));
+    CHECK(is_written(commonware_map_encode(2, 1, OF(pairs), OF(out)), COMMONWARE_REPEATED_KEY, 0, 3,
+                     0));
+    CHECK(is_written(commonware_map_encode(1, 2, OF(pairs), OF(out)), COMMONWARE_REPEATED_KEY, 0, 1,
+                     0));
+    CHECK(is_written(commonware_map_encode(2, 1, OF(pairs), NULL, 0), COMMONWARE_REPEATED_KEY, 0, 3,
+                     0));
+    CHECK(
+        is_written(commonware_map_encode(2, 1, pairs, 14, OF(out)), COMMONWARE_NOT_WHOLE, 0, 2, 0));
+    CHECK(is_written(commonware_map_encode(0, 3, OF(pairs), OF(out)), COMMONWARE_NO_SIZE, 0, 0, 0));
+    CHECK(is_written(commonware_map_encode(2, 1, pairs, 9, out, 10), COMMONWARE_ROOM, 3, 0, 11));
     CHECK(memcmp(out, untouched, sizeof out) == 0);
-    CHECK(
-        is_written(commonware_map_write_unique(2, 1, pairs, 9, out, 11), COMMONWARE_OK, 3, 0, 11));
+    CHECK(is_written(commonware_map_encode(2, 1, pairs, 9, out, 11), COMMONWARE_OK, 3, 0, 11));
     CHECK(memcmp(out, map, sizeof out) == 0);
-    CHECK(is_written(commonware_map_write_unique(3, 0, pairs, 12, NULL, 0), COMMONWARE_REPEATED_KEY,
-                     0, 3, 0));
-    CHECK(
-        is_written(commonware_map_write_unique(2, 1, NULL, 0, NULL, 0), COMMONWARE_ROOM, 0, 0, 2));
+    CHECK(is_written(commonware_map_encode(3, 0, pairs, 12, NULL, 0), COMMONWARE_REPEATED_KEY, 0, 3,
+                     0));
+    CHECK(is_written(commonware_map_encode(2, 1, NULL, 0, NULL, 0), COMMONWARE_ROOM, 0, 0, 2));
 }
 
 static void test_certificate(void) {
@@ -447,20 +458,20 @@ static void test_certificate(void) {
     uint8_t bytes[COMMONWARE_CERTIFICATE_SIZE(1, 3)];
     memset(bytes, 0xee, sizeof bytes);
     commonware_written_view written =
-        commonware_certificate_write(first + 1, 1, OF(twice), OF(bytes));
+        commonware_certificate_encode(first + 1, 1, OF(twice), OF(bytes));
     CHECK(written.status == COMMONWARE_NOT_STRICT && written.number == 2 && bytes[0] == 0xee);
-    written = commonware_certificate_write(first + 1, 1, OF(indices), bytes, 5);
+    written = commonware_certificate_encode(first + 1, 1, OF(indices), bytes, 5);
     CHECK(written.status == COMMONWARE_ROOM && written.size == 6 && bytes[0] == 0xee);
-    written = commonware_certificate_write(first + 1, 1, OF(indices), OF(bytes));
+    written = commonware_certificate_encode(first + 1, 1, OF(indices), OF(bytes));
     CHECK(written.status == COMMONWARE_OK && written.size == 6 && written.count == 3);
     CHECK(memcmp(bytes, first, 6) == 0 && bytes[6] == 0xee);
-    written = commonware_certificate_write(first + 1, 1, OF(large), OF(bytes));
+    written = commonware_certificate_encode(first + 1, 1, OF(large), OF(bytes));
     const uint8_t encoded[] = {1, 0xaa, 3, 127, 128, 1, 255, 255, 255, 255, 15};
     CHECK(written.status == COMMONWARE_OK && written.size == sizeof encoded);
     CHECK(memcmp(bytes, encoded, sizeof encoded) == 0);
-    written = commonware_certificate_write(NULL, 0, NULL, 0, OF(bytes));
+    written = commonware_certificate_encode(NULL, 0, NULL, 0, OF(bytes));
     CHECK(written.status == COMMONWARE_OK && written.size == 2 && bytes[0] == 0 && bytes[1] == 0);
-    CHECK(commonware_certificate_write(NULL, 0, NULL, 0, NULL, 0).status == COMMONWARE_ROOM);
+    CHECK(commonware_certificate_encode(NULL, 0, NULL, 0, NULL, 0).status == COMMONWARE_ROOM);
 }
 
 static void test_conflict(void) {
@@ -500,30 +511,30 @@ static void test_conflict(void) {
 static void test_slots(void) {
     const uint8_t slot[] = {7, 1}, a[] = {0xaa}, value[] = {2, 7, 1, 0xaa};
     uint8_t bytes[8] = {0xee, 0xee, 0xee, 0xee, 0xee};
-    commonware_written_view written = commonware_value_write(OF(slot), OF(a), bytes, 3);
+    commonware_written_view written = commonware_slot_value(OF(slot), OF(a), bytes, 3);
     CHECK(written.status == COMMONWARE_ROOM && written.size == 4 && bytes[0] == 0xee);
-    CHECK(commonware_value_write(OF(slot), OF(a), NULL, 0).status == COMMONWARE_ROOM);
-    written = commonware_value_write(OF(slot), OF(a), OF(bytes));
+    CHECK(commonware_slot_value(OF(slot), OF(a), NULL, 0).status == COMMONWARE_ROOM);
+    written = commonware_slot_value(OF(slot), OF(a), OF(bytes));
     CHECK(written.status == COMMONWARE_OK && written.size == 4 && written.count == 0);
     CHECK(memcmp(bytes, value, 4) == 0 && bytes[4] == 0xee);
-    CHECK(commonware_value_write(NULL, 0, NULL, 0, bytes, 1).size == 1 && bytes[0] == 0);
+    CHECK(commonware_slot_value(NULL, 0, NULL, 0, bytes, 1).size == 1 && bytes[0] == 0);
 
     /* Slot 7 1, decisions aa and bb; slot 7 2, decision bb; and no slot. */
     const uint8_t one[] = {4, 2, 7, 1, 0xaa, 3, 0, 1, 2}, two[] = {4, 2, 7, 1, 0xbb, 3, 1, 2, 3};
     const uint8_t later[] = {4, 2, 7, 2, 0xbb, 3, 0, 1, 2}, none[] = {2, 2, 7, 3, 0, 1, 2};
-    commonware_check_view seen = commonware_certificate_check(3, 4, OF(one));
+    commonware_check_view seen = commonware_check(3, 4, OF(one));
     CHECK(seen.status == COMMONWARE_OK && seen.signers == 3 && seen.number == 0);
     CHECK(seen.value_start == 1 && seen.value_length == 4);
     CHECK(seen.slot_start == 2 && seen.slot_length == 2);
     CHECK(seen.decision_start == 4 && seen.decision_length == 1);
-    seen = commonware_certificate_check(3, 4, OF(none));
+    seen = commonware_check(3, 4, OF(none));
     CHECK(seen.status == COMMONWARE_OK && seen.slot_start == 0 && seen.decision_start == 0);
-    seen = commonware_certificate_check(5, 4, OF(one));
+    seen = commonware_check(5, 4, OF(one));
     CHECK(seen.status == COMMONWARE_TOO_FEW && seen.signers == 0 && seen.value_start == 0);
-    CHECK(commonware_certificate_check(3, 2, OF(one)).status == COMMONWARE_OUTSIDE);
-    CHECK(commonware_certificate_check(1, 0, OF(one)).status == COMMONWARE_NO_MODEL);
-    CHECK(commonware_certificate_check(2, 0, NULL, 0).status == COMMONWARE_NO_MEMBERS);
-    CHECK(commonware_certificate_check(2, 1, NULL, 0).status == COMMONWARE_END_OF_INPUT);
+    CHECK(commonware_check(3, 2, OF(one)).status == COMMONWARE_OUTSIDE);
+    CHECK(commonware_check(1, 0, OF(one)).status == COMMONWARE_NO_MODEL);
+    CHECK(commonware_check(2, 0, NULL, 0).status == COMMONWARE_NO_MEMBERS);
+    CHECK(commonware_check(2, 1, NULL, 0).status == COMMONWARE_END_OF_INPUT);
 
     uint32_t out[4] = {9, 9, 9, 9};
     commonware_conflict_view view = commonware_equivocation(3, 4, OF(one), OF(two), OF(out));
@@ -553,10 +564,11 @@ static void write_keys(uint32_t count) {
         keys[i][31] = (uint8_t)i;
     }
     const size_t size = (count < 128 ? 1 : 2) + 32 * (size_t)count;
-    commonware_written_view written = commonware_committee_write(keys[0], count, bytes, size);
+    commonware_written_view written =
+        commonware_committee_encode_dedup(keys[0], count, bytes, size);
     CHECK(written.status == COMMONWARE_OK && written.count == count && written.size == size);
     CHECK(memcmp(bytes + size - 32 * (size_t)count, keys, 32 * (size_t)count) == 0);
-    written = commonware_committee_write(keys[0], count, bytes, size - 1);
+    written = commonware_committee_encode_dedup(keys[0], count, bytes, size - 1);
     CHECK(written.status == COMMONWARE_ROOM && written.count == count && written.size == size);
 }
 
@@ -589,7 +601,7 @@ static void read_pairs(uint32_t count) {
     for (size_t i = 0; i < count; i++) {
         const uint8_t *const key = bytes + head + 20 * i;
         const commonware_place_view place =
-            commonware_set_index(bytes + head, 20 * (size_t)count, key, 20);
+            commonware_set_position(bytes + head, 20 * (size_t)count, key, 20);
         CHECK(is_place(place, COMMONWARE_OK, i));
         CHECK(bytes[map.values + 3 * place.index + 2] == (uint8_t)(i + 7));
     }
@@ -611,9 +623,9 @@ static void use_signers(uint32_t count) {
     for (uint8_t i = 0; i < 2; i++) {
         value[399] = i;
         commonware_written_view written =
-            commonware_certificate_write(OF(value), signers, count, bytes[i], size - 1);
+            commonware_certificate_encode(OF(value), signers, count, bytes[i], size - 1);
         CHECK(written.status == COMMONWARE_ROOM && written.count == count && written.size == size);
-        written = commonware_certificate_write(OF(value), signers, count, bytes[i], size);
+        written = commonware_certificate_encode(OF(value), signers, count, bytes[i], size);
         CHECK(written.status == COMMONWARE_OK && written.count == count && written.size == size);
     }
     for (uint32_t less = 0; less < 2 && less <= count; less++) {
@@ -655,25 +667,24 @@ static void test_memory(void) {
             memset(committee, 0xee, sizeof committee);
             committee[0] = 0;
             const uint32_t status =
-                call == 0   ? commonware_committee_write(keys[0], 5, OF(committee)).status
+                call == 0   ? commonware_committee_encode_dedup(keys[0], 5, OF(committee)).status
                 : call == 1 ? commonware_certificate_read(OF(first), 32, 256, OF(out)).status
                 : call == 2 ? commonware_conflict(3, 4, OF(first), OF(second), OF(out)).status
                 : call == 3 ? commonware_committee_read(OF(committee), 0, 256).status
-                : call == 4 ? commonware_committee_index(keys[0], 5, keys[2]).status
-                : call == 5 ? commonware_certificate_write(NULL, 0, NULL, 0, OF(committee)).status
+                : call == 4 ? commonware_committee_position(keys[0], 5, keys[2]).status
+                : call == 5 ? commonware_certificate_encode(NULL, 0, NULL, 0, OF(committee)).status
                 : call == 6 ? commonware_set_read(20, OF(committee), 0, 256).status
                 : call == 7 ? commonware_map_read(20, 8, OF(empty), 0, 256).status
-                : call == 8 ? commonware_set_index(keys[0], 32, keys[0], 32).status
-                : call == 9 ? commonware_set_write(32, keys[0], 160, OF(committee)).status
+                : call == 8 ? commonware_set_position(keys[0], 32, keys[0], 32).status
+                : call == 9 ? commonware_set_encode_dedup(32, keys[0], 160, OF(committee)).status
                 : call == 10
-                    ? commonware_map_write(20, 12, keys[0], 160, OF(committee)).status
-                : call == 11
-                    ? commonware_map_write_unique(20, 12, keys[0], 160, OF(committee)).status
+                    ? commonware_map_encode_dedup(20, 12, keys[0], 160, OF(committee)).status
+                : call == 11 ? commonware_map_encode(20, 12, keys[0], 160, OF(committee)).status
                 : call == 12 ? commonware_weights_quorum(3, OF(weights)).status
-                : call == 13 ? commonware_weighted_check(2, OF(weights), OF(first)).status
-                             : commonware_weighted_conflict(2, OF(weights), OF(first), OF(second),
-                                                            OF(out))
-                                   .status;
+                : call == 13
+                    ? commonware_weighted_check(2, OF(weights), OF(first)).status
+                    : commonware_weighted_conflict(2, OF(weights), OF(first), OF(second), OF(out))
+                          .status;
             CHECK(live == 0);
             if (status == COMMONWARE_OK) {
                 break;
@@ -690,13 +701,14 @@ static void test_memory(void) {
     uint8_t rising[3][32] = {{1}, {2}, {3}};
     requests = 0;
     for (size_t count = 0; count <= 3; count++) {
-        CHECK(commonware_committee_write(rising[0], count, OF(committee)).status == COMMONWARE_OK);
-        CHECK(commonware_set_write(32, rising[0], 32 * count, OF(committee)).status
-              == COMMONWARE_OK);
-        CHECK(commonware_map_write(20, 12, rising[0], 32 * count, OF(committee)).status
-              == COMMONWARE_OK);
-        CHECK(commonware_map_write_unique(20, 12, rising[0], 32 * count, OF(committee)).status
-              == COMMONWARE_OK);
+        CHECK(commonware_committee_encode_dedup(rising[0], count, OF(committee)).status ==
+              COMMONWARE_OK);
+        CHECK(commonware_set_encode_dedup(32, rising[0], 32 * count, OF(committee)).status ==
+              COMMONWARE_OK);
+        CHECK(commonware_map_encode_dedup(20, 12, rising[0], 32 * count, OF(committee)).status ==
+              COMMONWARE_OK);
+        CHECK(commonware_map_encode(20, 12, rising[0], 32 * count, OF(committee)).status ==
+              COMMONWARE_OK);
     }
     CHECK(requests == 0);
     allowed = SIZE_MAX;
@@ -719,11 +731,11 @@ int main(void) {
     RUN(test_index);
     RUN(test_set);
     RUN(test_set_extremes);
-    RUN(test_set_index);
-    RUN(test_set_write);
+    RUN(test_set_position);
+    RUN(test_set_encode_dedup);
     RUN(test_map);
-    RUN(test_map_write);
-    RUN(test_map_write_unique);
+    RUN(test_map_encode_dedup);
+    RUN(test_map_encode);
     RUN(test_certificate);
     RUN(test_conflict);
     RUN(test_slots);

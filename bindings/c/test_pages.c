@@ -20,7 +20,7 @@ static void try_keys_before(uint8_t *stop, size_t size) {
     CHECK(is_map(view, COMMONWARE_OK, 2, 0, 1, 2 + 2 * size, 0));
     put_two(stop - 2 * size, size);
     const uint8_t *const key = stop - size;
-    CHECK(is_place(commonware_set_index(key - size, 2 * size, key, size), COMMONWARE_OK, 1));
+    CHECK(is_place(commonware_set_position(key - size, 2 * size, key, size), COMMONWARE_OK, 1));
 }
 
 static void test_keys(void) {
@@ -41,7 +41,7 @@ static void test_committee(void) {
         const uint32_t status = commonware_committee_read(input, length, 0, 9).status;
         CHECK(status == (length < sizeof committee ? COMMONWARE_END_OF_INPUT : COMMONWARE_OK));
     }
-    CHECK(commonware_committee_index(stop - 96, 3, stop - 32).index == 2);
+    CHECK(commonware_committee_position(stop - 96, 3, stop - 32).index == 2);
 }
 
 static void test_certificate(void) {
@@ -54,11 +54,11 @@ static void test_certificate(void) {
         CHECK(status == (length < sizeof first ? COMMONWARE_END_OF_INPUT : COMMONWARE_OK));
     }
     uint8_t *const out = before_end(6);
-    CHECK(commonware_certificate_write(first + 1, 1, room, 3, out, 6).status == COMMONWARE_OK);
+    CHECK(commonware_certificate_encode(first + 1, 1, room, 3, out, 6).status == COMMONWARE_OK);
     CHECK(memcmp(out, first, 6) == 0);
     uint8_t *const value = before_end(4);
     const uint8_t slot[] = {7, 1}, decision[] = {0xaa}, wanted[] = {2, 7, 1, 0xaa};
-    CHECK(commonware_value_write(OF(slot), OF(decision), value, 4).status == COMMONWARE_OK);
+    CHECK(commonware_slot_value(OF(slot), OF(decision), value, 4).status == COMMONWARE_OK);
     CHECK(memcmp(value, wanted, 4) == 0);
 }
 
@@ -85,14 +85,14 @@ static commonware_written_view write_set(
     size_t key_size, size_t value_size, const uint8_t *items, size_t items_length, uint8_t *out,
     size_t out_length) {
     (void)value_size;
-    return commonware_set_write(key_size, items, items_length, out, out_length);
+    return commonware_set_encode_dedup(key_size, items, items_length, out, out_length);
 }
 
 static commonware_written_view write_committee(
     size_t key_size, size_t value_size, const uint8_t *items, size_t items_length, uint8_t *out,
     size_t out_length) {
     (void)value_size;
-    return commonware_committee_write(items, items_length / key_size, out, out_length);
+    return commonware_committee_encode_dedup(items, items_length / key_size, out, out_length);
 }
 
 /* Items of two sizes, what is written of them, and how many items that has. */
@@ -158,9 +158,9 @@ static void try_map_rooms(size_t size, size_t value_size) {
         memset(pairs + i * pair + size, 7 + i, value_size);
     }
     struct task task = {size, value_size, pairs, 3 * pair, map, 2 + 2 * pair, 2};
-    try_rooms(commonware_map_write, task, 0);
+    try_rooms(commonware_map_encode_dedup, task, 0);
     task.items_length = 2 * pair;
-    try_rooms(commonware_map_write_unique, task, 0);
+    try_rooms(commonware_map_encode, task, 0);
 }
 
 /* 300 keys of 33 bytes that fall, whose number takes two bytes. */
@@ -176,8 +176,8 @@ static void try_many_rooms(void) {
     struct task task = {33, 0, keys, sizeof keys, map, 2 + sizeof keys, 300};
     try_rooms(write_set, task, task.size - 40);
     task.size = sizeof map;
-    try_rooms(commonware_map_write, task, task.size - 40);
-    try_rooms(commonware_map_write_unique, task, task.size - 40);
+    try_rooms(commonware_map_encode_dedup, task, task.size - 40);
+    try_rooms(commonware_map_encode, task, task.size - 40);
 }
 
 /* Rooms that end before one that can't be written. */
@@ -201,12 +201,12 @@ static void test_long(void) {
         return;
     }
     uint8_t out[3] = {9, 9, 9};
-    commonware_written_view written = commonware_certificate_write(zeros, limit, NULL, 0, OF(out));
+    commonware_written_view written = commonware_certificate_encode(zeros, limit, NULL, 0, OF(out));
     CHECK(written.status == COMMONWARE_INVALID_LENGTH && written.number == limit && out[0] == 9);
     const uint32_t *const indices = (const uint32_t *)(const void *)zeros;
-    written = commonware_certificate_write(zeros, 0, indices, limit, OF(out));
+    written = commonware_certificate_encode(zeros, 0, indices, limit, OF(out));
     CHECK(written.status == COMMONWARE_INVALID_LENGTH && written.number == limit && out[0] == 9);
-    written = commonware_certificate_write(zeros, limit - 1, NULL, 0, OF(out));
+    written = commonware_certificate_encode(zeros, limit - 1, NULL, 0, OF(out));
     CHECK(written.status == COMMONWARE_ROOM && written.size == limit + 5 && out[0] == 9);
     const commonware_committee_view view = commonware_committee_read(zeros, 2 * limit, 0, SIZE_MAX);
     CHECK(view.status == COMMONWARE_OK && view.count == 0 && view.left == 2 * limit - 1);
@@ -216,10 +216,13 @@ static void test_long(void) {
     CHECK(is_map(map, COMMONWARE_OK, 0, 0, 1, 2, 2 * limit - 2));
     /* 2^30 keys of 16 zeros. */
     const uint8_t one[16] = {[15] = 1};
-    CHECK(is_place(commonware_set_index(zeros, 4 * limit, OF(one)), COMMONWARE_ABSENT, limit / 4));
-    CHECK(is_place(commonware_set_index(zeros, 4 * limit - 1, OF(one)), COMMONWARE_NOT_WHOLE, 0));
-    CHECK(commonware_set_index(zeros, 4 * limit, zeros, 16).status == COMMONWARE_OK);
-    CHECK(is_place(commonware_set_index(zeros, limit + 1, zeros, limit), COMMONWARE_NOT_WHOLE, 0));
+    CHECK(
+        is_place(commonware_set_position(zeros, 4 * limit, OF(one)), COMMONWARE_ABSENT, limit / 4));
+    CHECK(
+        is_place(commonware_set_position(zeros, 4 * limit - 1, OF(one)), COMMONWARE_NOT_WHOLE, 0));
+    CHECK(commonware_set_position(zeros, 4 * limit, zeros, 16).status == COMMONWARE_OK);
+    CHECK(
+        is_place(commonware_set_position(zeros, limit + 1, zeros, limit), COMMONWARE_NOT_WHOLE, 0));
     CHECK(munmap(zeros, 4 * limit) == 0);
 }
 

@@ -54,8 +54,8 @@ static void put_pairs(enum order keys, enum order values) {
 
 static void *nothing(void *argument) { return argument; }
 
-static void *map_write(void *argument) {
-    const commonware_written_view view = commonware_map_write(
+static void *map_encode_dedup(void *argument) {
+    const commonware_written_view view = commonware_map_encode_dedup(
         KEY, VALUE, pairs, count * (KEY + VALUE), written, sizeof written);
     CHECK(view.status == COMMONWARE_OK);
     length = view.size;
@@ -63,15 +63,16 @@ static void *map_write(void *argument) {
 }
 
 static void *unique_write(void *argument) {
-    const uint32_t status = commonware_map_write_unique(KEY, VALUE, pairs, count * (KEY + VALUE),
-                                                        written, sizeof written)
-                                .status;
+    const uint32_t status =
+        commonware_map_encode(KEY, VALUE, pairs, count * (KEY + VALUE), written, sizeof written)
+            .status;
     CHECK(status == COMMONWARE_OK || status == COMMONWARE_REPEATED_KEY);
     return argument;
 }
 
-static void *set_write(void *argument) {
-    CHECK(commonware_set_write(KEY + VALUE, pairs, count * (KEY + VALUE), written, sizeof written)
+static void *set_encode_dedup(void *argument) {
+    CHECK(commonware_set_encode_dedup(KEY + VALUE, pairs, count * (KEY + VALUE), written,
+                                      sizeof written)
               .status == COMMONWARE_OK);
     return argument;
 }
@@ -86,7 +87,7 @@ static void *bimap_read(void *argument) {
 static void *conflict(void *argument) {
     uint32_t both[4];
     CHECK(commonware_conflict(3, 4, OF(first), OF(second), OF(both)).status == COMMONWARE_OK);
-    CHECK(commonware_certificate_check(3, 4, OF(first)).status == COMMONWARE_OK);
+    CHECK(commonware_check(3, 4, OF(first)).status == COMMONWARE_OK);
     const uint64_t weights[] = {40, 30, 20, 10};
     CHECK(commonware_weighted_check(3, OF(weights), OF(first)).status == COMMONWARE_OK);
     CHECK(commonware_weighted_conflict(2, OF(weights), OF(first), OF(second), OF(both)).status ==
@@ -117,7 +118,8 @@ static size_t written_by(void *(*call)(void *)) {
 
 /* Returns how much the deepest call takes of these pairs, beside a thread that makes none. */
 static size_t deepest(enum order keys, enum order values, size_t pairs_count) {
-    void *(*const calls[])(void *) = {map_write, bimap_read, unique_write, set_write, conflict};
+    void *(*const calls[])(void *) = {map_encode_dedup, bimap_read, unique_write, set_encode_dedup,
+                                      conflict};
     const size_t without = written_by(nothing);
     size_t most = 0;
     count = pairs_count;

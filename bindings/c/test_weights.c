@@ -262,7 +262,7 @@ static void test_many(void) {
     }
     for (uint8_t i = 0; i < 2; i++) {
         const uint8_t value[] = {1, 7, i};
-        sizes_of[i] = commonware_certificate_write(OF(value), OF(signers), OF(bytes[i])).size;
+        sizes_of[i] = commonware_certificate_encode(OF(value), OF(signers), OF(bytes[i])).size;
     }
     CHECK(are_numbers(commonware_weights_quorum(3, OF(weights)), COMMONWARE_OK, 0, 2450035000,
                       816678333));

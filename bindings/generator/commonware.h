@@ -30,11 +30,11 @@
  * Stack. 16 KiB suffice for each call, by the frames of the built library and by how deep a sort of
  * fewer than 2^32 items recurses, which isn't proved. Tests with 70,000 pairs take 6,320 bytes.
  *
- * Memory. commonware_committee_write, commonware_set_write, commonware_map_write and
- * commonware_map_write_unique allocate, and free all of it before they return; the others allocate
- * nothing, and never return COMMONWARE_MEMORY. The archive holds a heap over malloc, realloc and
- * free. A program with an allocator of its own defines these three instead, with C linkage and all
- * of them, and the linker takes them:
+ * Memory. commonware_committee_encode_dedup, commonware_set_encode_dedup,
+ * commonware_map_encode_dedup and commonware_map_encode allocate, and free all of it before they
+ * return; the others allocate nothing, and never return COMMONWARE_MEMORY. The archive holds a heap
+ * over malloc, realloc and free. A program with an allocator of its own defines these three
+ * instead, with C linkage and all of them, and the linker takes them:
  *
  *     struct tried { bool ok; unsigned char *block; };
  *     struct tried commonware_alloc(size_t size, size_t align);

@@ -258,20 +258,20 @@ func callSetRead(size int, input []byte, least, most int) keysView {
 	return keysViewOf(C.commonware_set_read(C.size_t(size), bytePointer(input), C.size_t(len(input)), C.size_t(least), C.size_t(most)))
 }
 
-func callSetIndex(keys, key []byte) placeView {
-	return placeViewOf(C.commonware_set_index(bytePointer(keys), C.size_t(len(keys)), bytePointer(key), C.size_t(len(key))))
+func callSetPosition(keys, key []byte) placeView {
+	return placeViewOf(C.commonware_set_position(bytePointer(keys), C.size_t(len(keys)), bytePointer(key), C.size_t(len(key))))
 }
 
-func callCommitteeIndex(members, key []byte) placeView {
-	return placeViewOf(C.commonware_committee_index(bytePointer(members), C.size_t(len(members)/MemberSize), bytePointer(key)))
+func callCommitteePosition(members, key []byte) placeView {
+	return placeViewOf(C.commonware_committee_position(bytePointer(members), C.size_t(len(members)/MemberSize), bytePointer(key)))
 }
 
-func callSetWrite(size int, keys, out []byte) writtenView {
-	return writtenViewOf(C.commonware_set_write(C.size_t(size), bytePointer(keys), C.size_t(len(keys)), bytePointer(out), C.size_t(len(out))))
+func callSetEncodeDedup(size int, keys, out []byte) writtenView {
+	return writtenViewOf(C.commonware_set_encode_dedup(C.size_t(size), bytePointer(keys), C.size_t(len(keys)), bytePointer(out), C.size_t(len(out))))
 }
 
-func callCommitteeWrite(members, out []byte) writtenView {
-	return writtenViewOf(C.commonware_committee_write(bytePointer(members), C.size_t(len(members)/MemberSize), bytePointer(out), C.size_t(len(out))))
+func callCommitteeEncodeDedup(members, out []byte) writtenView {
+	return writtenViewOf(C.commonware_committee_encode_dedup(bytePointer(members), C.size_t(len(members)/MemberSize), bytePointer(out), C.size_t(len(out))))
 }
 
 func callMapRead(keySize, valueSize int, input []byte, least, most int) pairsView {
@@ -284,13 +284,13 @@ func callBimapRead(keySize, valueSize int, input []byte, least, most int, room [
 		C.size_t(most), indexPointer(room), C.size_t(len(room))))
 }
 
-func callMapWrite(keySize, valueSize int, pairs, out []byte) writtenView {
-	return writtenViewOf(C.commonware_map_write(C.size_t(keySize), C.size_t(valueSize), bytePointer(pairs), C.size_t(len(pairs)), bytePointer(out),
+func callMapEncodeDedup(keySize, valueSize int, pairs, out []byte) writtenView {
+	return writtenViewOf(C.commonware_map_encode_dedup(C.size_t(keySize), C.size_t(valueSize), bytePointer(pairs), C.size_t(len(pairs)), bytePointer(out),
 		C.size_t(len(out))))
 }
 
-func callMapWriteUnique(keySize, valueSize int, pairs, out []byte) writtenView {
-	return writtenViewOf(C.commonware_map_write_unique(C.size_t(keySize), C.size_t(valueSize), bytePointer(pairs), C.size_t(len(pairs)), bytePointer(out),
+func callMapEncode(keySize, valueSize int, pairs, out []byte) writtenView {
+	return writtenViewOf(C.commonware_map_encode(C.size_t(keySize), C.size_t(valueSize), bytePointer(pairs), C.size_t(len(pairs)), bytePointer(out),
 		C.size_t(len(out))))
 }
 
@@ -299,18 +299,18 @@ func callCertificateRead(input []byte, mostBytes, mostSigners int, out []uint32)
 		indexPointer(out), C.size_t(len(out))))
 }
 
-func callCertificateWrite(value []byte, signers []uint32, out []byte) writtenView {
-	return writtenViewOf(C.commonware_certificate_write(bytePointer(value), C.size_t(len(value)), indexPointer(signers), C.size_t(len(signers)),
+func callCertificateEncode(value []byte, signers []uint32, out []byte) writtenView {
+	return writtenViewOf(C.commonware_certificate_encode(bytePointer(value), C.size_t(len(value)), indexPointer(signers), C.size_t(len(signers)),
 		bytePointer(out), C.size_t(len(out))))
 }
 
-func callValueWrite(slot, decision, out []byte) writtenView {
-	return writtenViewOf(C.commonware_value_write(bytePointer(slot), C.size_t(len(slot)), bytePointer(decision), C.size_t(len(decision)),
+func callSlotValue(slot, decision, out []byte) writtenView {
+	return writtenViewOf(C.commonware_slot_value(bytePointer(slot), C.size_t(len(slot)), bytePointer(decision), C.size_t(len(decision)),
 		bytePointer(out), C.size_t(len(out))))
 }
 
-func callCertificateCheck(k, members uint32, input []byte) checkView {
-	return checkViewOf(C.commonware_certificate_check(C.uint32_t(k), C.uint32_t(members), bytePointer(input), C.size_t(len(input))))
+func callCheck(k, members uint32, input []byte) checkView {
+	return checkViewOf(C.commonware_check(C.uint32_t(k), C.uint32_t(members), bytePointer(input), C.size_t(len(input))))
 }
 
 func callConflict(k, members uint32, first, second []byte, out []uint32) conflictView {

@@ -52,7 +52,7 @@ func DecodeCertificate(input []byte) (Certificate, error) {
 // [NotStrictError] with the index of the first signer that isn't greater than the one before it.
 func (c Certificate) Encode() ([]byte, error) {
 	room := make([]byte, 10+len(c.Value)+5*len(c.Signers))
-	return written(callCertificateWrite(c.Value, c.Signers, room), room)
+	return written(callCertificateEncode(c.Value, c.Signers, room), room)
 }
 
 // Slot returns the slot and the decision that the value is, as [SplitValue] does.
@@ -65,7 +65,7 @@ func (c Certificate) Slot() (slot, decision []byte, isThere bool) {
 // value past 4294967295.
 func SlotValue(slot, decision []byte) ([]byte, error) {
 	room := make([]byte, 5+len(slot)+len(decision))
-	return written(callValueWrite(slot, decision, room), room)
+	return written(callSlotValue(slot, decision, room), room)
 }
 
 // SplitValue returns the slot and the decision that a value is, and true; or false where it is no decision for a slot.
@@ -75,7 +75,7 @@ func SplitValue(value []byte) (slot, decision []byte, isThere bool) {
 	if err != nil {
 		return nil, nil, false
 	}
-	view := callCertificateCheck(2, 1, input)
+	view := callCheck(2, 1, input)
 	if view.slotStart == 0 {
 		return nil, nil, false
 	}
@@ -103,7 +103,7 @@ type Checked struct {
 // Else the error is the first of these: [ErrNoModel], [ErrNoMembers], a fault of the input ([ErrEndOfInput],
 // [ErrInvalidVarint], [ErrNotStrict], [LeftOverError]), [ErrOutside], [ErrTooFew].
 func Check(model FaultModel, members uint32, input []byte) (Checked, error) {
-	return checkedOf(callCertificateCheck(uint32(model), members, input), input)
+	return checkedOf(callCheck(uint32(model), members, input), input)
 }
 
 // checkedOf returns what was found in an input, where it is a certificate of a quorum.

@@ -52,7 +52,7 @@ func DecodeCommittee(input []byte) (Committee, error) {
 // repeat. The errors are [InvalidLengthError] where the keys are more than 4294967295, and [ErrOutOfMemory].
 func EncodeCommittee(keys []Member) ([]byte, error) {
 	room := make([]byte, 5+MemberSize*len(keys))
-	return written(callCommitteeWrite(flat(keys), room), room)
+	return written(callCommitteeEncodeDedup(flat(keys), room), room)
 }
 
 // Len returns how many members there are.
@@ -74,7 +74,7 @@ func (c Committee) Members() []Member {
 
 // IndexOf returns the index of a member and true, or false where there is no such, in O(log n) comparisons.
 func (c Committee) IndexOf(key Member) (int, bool) {
-	place := callCommitteeIndex(c.members.bytes, key[:])
+	place := callCommitteePosition(c.members.bytes, key[:])
 	if place.status != statusOK {
 		return 0, false
 	}

@@ -57,7 +57,7 @@ func EncodeMap(keySize, valueSize int, pairs []byte) ([]byte, error) {
 		return nil, ErrNegative
 	}
 	room := make([]byte, 10+len(pairs))
-	return written(callMapWrite(keySize, valueSize, pairs, room), room)
+	return written(callMapEncodeDedup(keySize, valueSize, pairs, room), room)
 }
 
 // EncodeUniqueMap encodes the map of these pairs as [EncodeMap] does, where no key repeats. The errors are
@@ -67,7 +67,7 @@ func EncodeUniqueMap(keySize, valueSize int, pairs []byte) ([]byte, error) {
 		return nil, ErrNegative
 	}
 	room := make([]byte, 10+len(pairs))
-	return written(callMapWriteUnique(keySize, valueSize, pairs, room), room)
+	return written(callMapEncode(keySize, valueSize, pairs, room), room)
 }
 
 // Len returns how many pairs there are.

@@ -98,7 +98,7 @@ func EncodeSet(size int, keys []byte) ([]byte, error) {
 		return nil, ErrNegative
 	}
 	room := make([]byte, 5+len(keys))
-	return written(callSetWrite(size, keys, room), room)
+	return written(callSetEncodeDedup(size, keys, room), room)
 }
 
 // Size returns how many bytes a key has.
@@ -135,7 +135,7 @@ func (s Set) IndexOf(key []byte) (int, bool) {
 	if len(key) == 0 {
 		return 0, s.Len() > 0
 	}
-	place := callSetIndex(s.Bytes(), key)
+	place := callSetPosition(s.Bytes(), key)
 	if place.status != statusOK {
 		return 0, false
 	}

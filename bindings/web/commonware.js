@@ -189,7 +189,7 @@ export class Commonware {
     /** Encodes the committee of these members, which may come in any order and repeat. */
     encodeCommittee(members) {
         const list = membersOf(members);
-        return this.#written("committee_write", [list], 5 + list.bytes.length);
+        return this.#written("committee_encode_dedup", [list], 5 + list.bytes.length);
     }
 
     /** Returns the index of a member, or null where the key is none, as one of another size never is. The members have
@@ -200,7 +200,7 @@ export class Commonware {
         if (sought.length !== MEMBER_SIZE) {
             return null;
         }
-        return this.#place("committee_index", [list, new Counted(sought, null)]);
+        return this.#place("committee_position", [list, new Counted(sought, null)]);
     }
 
     /** Decodes a set of keys of `size` bytes at the start of the input; `left` is what follows it. */
@@ -222,7 +222,7 @@ export class Commonware {
     /** Encodes the set of these keys of `size` bytes, which may come in any order and repeat. */
     encodeSet(size, keys) {
         const args = [sizeOf("size", size), joined("a key", keys, size)];
-        return this.#written("set_write", args, 5 + args[1].length);
+        return this.#written("set_encode_dedup", args, 5 + args[1].length);
     }
 
     /** Returns the index of a key among keys of one size, or null where it isn't there, as one of another size never
@@ -241,7 +241,7 @@ export class Commonware {
         if (list && size === 0) {
             return list.length > 0 ? 0 : null;
         }
-        return this.#place("set_index", [bytes, sought]);
+        return this.#place("set_position", [bytes, sought]);
     }
 
     /** Decodes a map of keys and values of these sizes at the start of the input; `left` is what follows it. */
@@ -260,12 +260,12 @@ export class Commonware {
 
     /** Encodes the map of these pairs, `[key, value]` each, in any order. Of pairs with equal keys the first stays. */
     encodeMap(keySize, valueSize, pairs) {
-        return this.#map("map_write", keySize, valueSize, pairs);
+        return this.#map("map_encode_dedup", keySize, valueSize, pairs);
     }
 
     /** Encodes the map of these pairs, no two of which may have one key: RepeatedKey where two do. */
     encodeUniqueMap(keySize, valueSize, pairs) {
-        return this.#map("map_write_unique", keySize, valueSize, pairs);
+        return this.#map("map_encode", keySize, valueSize, pairs);
     }
 
     #map(name, keySize, valueSize, pairs) {
@@ -315,14 +315,14 @@ export class Commonware {
     encodeCertificate(value, signers) {
         const indices = signersOf(signers);
         const bytes = bytesOf("value", value);
-        return this.#plain("certificate_write", [bytes, indices], 10 + bytes.length + 5 * indices.length);
+        return this.#plain("certificate_encode", [bytes, indices], 10 + bytes.length + 5 * indices.length);
     }
 
     /** Encodes the value that a decision for a slot is. A slot is what an honest member signs at most once: chain,
      * committee, height, round and kind of vote, say. Members sign this value. */
     encodeValue(slot, decision) {
         const parts = [bytesOf("slot", slot), bytesOf("decision", decision)];
-        return this.#plain("value_write", parts, 5 + parts[0].length + parts[1].length);
+        return this.#plain("slot_value", parts, 5 + parts[0].length + parts[1].length);
     }
 
     /** Judges whether a quorum of a committee of `members` signed a certificate: returns how many signed, the value,
@@ -330,7 +330,7 @@ export class Commonware {
     checkQuorum(k, members, certificate) {
         const bytes = bytesOf("certificate", certificate);
         const args = [numberOf("k", k), numberOf("members", members), bytes];
-        return checkedOf(bytes, checked(this.#native.call("certificate_check", args)));
+        return checkedOf(bytes, checked(this.#native.call("check", args)));
     }
 
     /** Returns the indices of the members that signed both of two certificates for different values. No signature

@@ -25,9 +25,9 @@ static uint32_t decode(int call, size_t size, size_t value, const uint8_t *input
     default:
         /* The first `size` bytes are sought among the keys that follow them. */
         if (length < size) {
-            return commonware_set_index(input, 0, input, length).status;
+            return commonware_set_position(input, 0, input, length).status;
         }
-        return commonware_set_index(input + size, (length - size) / size * size, input, size)
+        return commonware_set_position(input + size, (length - size) / size * size, input, size)
             .status;
     }
 }

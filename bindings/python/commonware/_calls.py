@@ -156,10 +156,25 @@ quorum = declare("quorum", c_uint32, c_uint32, c_uint32)
 smaller_quorum = declare("smaller_quorum", c_uint32, c_uint32, c_uint32)
 committee_read = declare("committee_read", KeysView, c_void_p, c_size_t, c_size_t, c_size_t)
 set_read = declare("set_read", KeysView, c_size_t, c_void_p, c_size_t, c_size_t, c_size_t)
-set_index = declare("set_index", PlaceView, c_void_p, c_size_t, c_void_p, c_size_t)
-committee_index = declare("committee_index", PlaceView, c_void_p, c_size_t, c_void_p)
-set_write = declare("set_write", WrittenView, c_size_t, c_void_p, c_size_t, c_void_p, c_size_t)
-committee_write = declare("committee_write", WrittenView, c_void_p, c_size_t, c_void_p, c_size_t)
+set_position = declare("set_position", PlaceView, c_void_p, c_size_t, c_void_p, c_size_t)
+committee_position = declare("committee_position", PlaceView, c_void_p, c_size_t, c_void_p)
+set_encode_dedup = declare(
+    "set_encode_dedup",
+    WrittenView,
+    c_size_t,
+    c_void_p,
+    c_size_t,
+    c_void_p,
+    c_size_t,
+)
+committee_encode_dedup = declare(
+    "committee_encode_dedup",
+    WrittenView,
+    c_void_p,
+    c_size_t,
+    c_void_p,
+    c_size_t,
+)
 map_read = declare(
     "map_read",
     PairsView,
@@ -182,8 +197,8 @@ bimap_read = declare(
     c_void_p,
     c_size_t,
 )
-map_write = declare(
-    "map_write",
+map_encode_dedup = declare(
+    "map_encode_dedup",
     WrittenView,
     c_size_t,
     c_size_t,
@@ -192,8 +207,8 @@ map_write = declare(
     c_void_p,
     c_size_t,
 )
-map_write_unique = declare(
-    "map_write_unique",
+map_encode = declare(
+    "map_encode",
     WrittenView,
     c_size_t,
     c_size_t,
@@ -212,8 +227,8 @@ certificate_read = declare(
     c_void_p,
     c_size_t,
 )
-certificate_write = declare(
-    "certificate_write",
+certificate_encode = declare(
+    "certificate_encode",
     WrittenView,
     c_void_p,
     c_size_t,
@@ -222,8 +237,8 @@ certificate_write = declare(
     c_void_p,
     c_size_t,
 )
-value_write = declare(
-    "value_write",
+slot_value = declare(
+    "slot_value",
     WrittenView,
     c_void_p,
     c_size_t,
@@ -232,7 +247,7 @@ value_write = declare(
     c_void_p,
     c_size_t,
 )
-certificate_check = declare("certificate_check", CheckView, c_uint32, c_uint32, c_void_p, c_size_t)
+check = declare("check", CheckView, c_uint32, c_uint32, c_void_p, c_size_t)
 conflict = declare(
     "conflict",
     ConflictView,

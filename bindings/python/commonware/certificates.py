@@ -111,7 +111,7 @@ class Certificate:
         given = input_of(value)
         indices = _native.indices_of("signer", signers)
         most = 10 + len(given.data) + 5 * len(indices)
-        return written(_calls.certificate_write, most, *given.arguments, *_native.pointed(indices))
+        return written(_calls.certificate_encode, most, *given.arguments, *_native.pointed(indices))
 
     @property
     def value(self) -> bytes:
@@ -210,7 +210,7 @@ def check(k: int, members: _Members, certificate: _Given) -> Checked:
     commonware.errors.TooFew: fewer signers than a quorum
     """
     given = _certificate_of(certificate)
-    view = _calls.certificate_check(k_of(k), _count_of(members), *given.arguments)
+    view = _calls.check(k_of(k), _count_of(members), *given.arguments)
     check_status(view.status, view.number)
     return found_in(given, view)
 
@@ -306,4 +306,4 @@ def slot_value(slot: BytesLike, decision: BytesLike) -> bytes:
     """
     given, decided = input_of(slot), input_of(decision)
     most = 5 + len(given.data) + len(decided.data)
-    return written(_calls.value_write, most, *given.arguments, *decided.arguments)
+    return written(_calls.slot_value, most, *given.arguments, *decided.arguments)

@@ -212,7 +212,7 @@ class MapView(_Pairs):
         >>> MapView.encode(1, 2, {b"b": b"c2", b"a": b"c1"}), MapView.encode(1, 2, b"bc2ac1bc3")
         (b'\x02ab\x02c1c2', b'\x02ab\x02c1c2')
         """
-        return _encoded(_calls.map_write, key_size, value_size, pairs)
+        return _encoded(_calls.map_encode_dedup, key_size, value_size, pairs)
 
     @staticmethod
     def encode_unique(key_size: int, value_size: int, pairs: _Given) -> bytes:
@@ -225,7 +225,7 @@ class MapView(_Pairs):
         Traceback (most recent call last):
         commonware.errors.RepeatedKey: pair 2 has the key of an earlier one
         """
-        return _encoded(_calls.map_write_unique, key_size, value_size, pairs)
+        return _encoded(_calls.map_encode, key_size, value_size, pairs)
 
 
 class BiMapView(_Pairs):

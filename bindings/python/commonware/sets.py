@@ -165,7 +165,7 @@ class SetView(_KeySequence):
         """
         size = number_of("size", size, SIZE_MAX)
         given = input_of(one_after_another(size, keys))
-        return written(_calls.set_write, 5 + len(given.data), size, *given.arguments)
+        return written(_calls.set_encode_dedup, 5 + len(given.data), size, *given.arguments)
 
     def index_of(self, key: BytesLike) -> Optional[int]:
         r"""Returns the index of a key, or None where it isn't there, as one of another size never is, in
@@ -181,7 +181,7 @@ class SetView(_KeySequence):
         if self.size == 0:
             return 0 if len(self) > 0 else None
         keys = input_of(self._items.data)
-        place = _calls.set_index(*keys.arguments, *given.arguments)
+        place = _calls.set_position(*keys.arguments, *given.arguments)
         return place.index if place.status == OK else None
 
     def __reduce__(self) -> Tuple[Any, ...]:
@@ -266,7 +266,7 @@ class Committee(_KeySequence):
         length, over = divmod(len(given.data), MEMBER_SIZE)
         if over > 0:
             raise errors.NotWhole(over)
-        return written(_calls.committee_write, 5 + len(given.data), given.pointer, length)
+        return written(_calls.committee_encode_dedup, 5 + len(given.data), given.pointer, length)
 
     def index_of(self, key: BytesLike) -> Optional[int]:
         """Returns the index of a member, or None where there is no such, as one of another size never is, in
@@ -280,7 +280,7 @@ class Committee(_KeySequence):
         if len(given.data) != MEMBER_SIZE:
             return None
         members = input_of(self._items.data)
-        place = _calls.committee_index(members.pointer, len(self), given.pointer)
+        place = _calls.committee_position(members.pointer, len(self), given.pointer)
         return place.index if place.status == OK else None
 
     def max_faults(self, k: int) -> int:

@@ -155,7 +155,7 @@ impl<'a> Certificate<'a> {
         let mut out = zeros(10 + value.len() + 5 * signers.len()).ok_or(EncodeError::Memory)?;
         // SAFETY: each pointer and the length after it are those of one slice; `out` is a new one.
         let view = unsafe {
-            raw::commonware_certificate_write(
+            raw::commonware_certificate_encode(
                 value.as_ptr(),
                 value.len(),
                 signers.as_ptr(),

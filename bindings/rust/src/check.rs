@@ -216,9 +216,7 @@ pub fn check_encoded(
     input: &[u8],
 ) -> Result<Checked<'_>, CheckError> {
     // SAFETY: the pointer and the length are those of one slice, which is borrowed for the call.
-    let view = unsafe {
-        raw::commonware_certificate_check(model.k(), members, input.as_ptr(), input.len())
-    };
+    let view = unsafe { raw::commonware_check(model.k(), members, input.as_ptr(), input.len()) };
     match view.status {
         status::OK => Ok(Checked::of(input, &view)),
         status::NO_MEMBERS => Err(CheckError::NoMembers),

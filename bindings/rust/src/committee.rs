@@ -119,7 +119,7 @@ impl<'a> Committee<'a> {
         let members = keys.as_flattened().as_ptr();
         // SAFETY: each pointer and the length after it are those of one slice; `out` is a new one.
         let view = unsafe {
-            raw::commonware_committee_write(members, keys.len(), out.as_mut_ptr(), out.len())
+            raw::commonware_committee_encode_dedup(members, keys.len(), out.as_mut_ptr(), out.len())
         };
         if view.status != status::OK {
             return Err(EncodeError::of(view.status, view.number));
@@ -221,7 +221,7 @@ impl<'a> Committee<'a> {
     pub fn position(&self, key: &Member) -> Option<usize> {
         let members = self.key_bytes().as_ptr();
         // SAFETY: the members are as many as the length says, and the key is one.
-        let view = unsafe { raw::commonware_committee_index(members, self.len(), key.as_ptr()) };
+        let view = unsafe { raw::commonware_committee_position(members, self.len(), key.as_ptr()) };
         (view.status == status::OK).then_some(view.index)
     }
 

@@ -211,7 +211,7 @@ pub fn slot_value(slot: &[u8], decision: &[u8]) -> Result<Vec<u8>, EncodeError> 
     let mut out = zeros(5 + slot.len() + decision.len()).ok_or(EncodeError::Memory)?;
     // SAFETY: each pointer and the length after it are those of one slice; `out` is a new one.
     let view = unsafe {
-        raw::commonware_value_write(
+        raw::commonware_slot_value(
             slot.as_ptr(),
             slot.len(),
             decision.as_ptr(),

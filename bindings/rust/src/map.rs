@@ -120,7 +120,12 @@ impl<'a> MapView<'a> {
         value_size: usize,
         pairs: &[u8],
     ) -> Result<Vec<u8>, EncodeError> {
-        encoded(raw::commonware_map_write, key_size, value_size, pairs)
+        encoded(
+            raw::commonware_map_encode_dedup,
+            key_size,
+            value_size,
+            pairs,
+        )
     }
 
     /// Encodes the map of these pairs as [`MapView::encode`] does, where no key repeats.
@@ -143,7 +148,7 @@ impl<'a> MapView<'a> {
         value_size: usize,
         pairs: &[u8],
     ) -> Result<Vec<u8>, EncodeError> {
-        let write = raw::commonware_map_write_unique;
+        let write = raw::commonware_map_encode;
         encoded(write, key_size, value_size, pairs)
     }
 
@@ -353,7 +358,7 @@ impl<'a> MapView<'a> {
 
 /// Returns what a call writes of these pairs.
 fn encoded(
-    write: raw::MapWriteCall,
+    write: raw::MapEncodeDedupCall,
     key_size: usize,
     value_size: usize,
     pairs: &[u8],

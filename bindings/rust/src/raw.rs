@@ -233,9 +233,9 @@ const _: () = {
     assert!(size_of::<WeightedConflictView>() == 32);
 };
 
-/// Each of these: `commonware_map_write`, `commonware_map_write_unique`.
+/// Each of these: `commonware_map_encode_dedup`, `commonware_map_encode`.
 #[allow(dead_code)]
-pub type MapWriteCall =
+pub type MapEncodeDedupCall =
     unsafe extern "C" fn(usize, usize, *const u8, usize, *mut u8, usize) -> WrittenView;
 
 /// Each of these: `commonware_conflict`, `commonware_equivocation`.
@@ -283,25 +283,25 @@ unsafe extern "C" {
         least: usize,
         most: usize,
     ) -> KeysView;
-    pub fn commonware_set_index(
+    pub fn commonware_set_position(
         keys: *const u8,
         keys_length: usize,
         key: *const u8,
         key_length: usize,
     ) -> PlaceView;
-    pub fn commonware_committee_index(
+    pub fn commonware_committee_position(
         members: *const u8,
         members_count: usize,
         key: *const u8,
     ) -> PlaceView;
-    pub fn commonware_set_write(
+    pub fn commonware_set_encode_dedup(
         size: usize,
         keys: *const u8,
         keys_length: usize,
         out: *mut u8,
         out_length: usize,
     ) -> WrittenView;
-    pub fn commonware_committee_write(
+    pub fn commonware_committee_encode_dedup(
         members: *const u8,
         members_count: usize,
         out: *mut u8,
@@ -325,7 +325,7 @@ unsafe extern "C" {
         room: *mut u32,
         room_length: usize,
     ) -> BimapView;
-    pub fn commonware_map_write(
+    pub fn commonware_map_encode_dedup(
         key_size: usize,
         value_size: usize,
         pairs: *const u8,
@@ -333,7 +333,7 @@ unsafe extern "C" {
         out: *mut u8,
         out_length: usize,
     ) -> WrittenView;
-    pub fn commonware_map_write_unique(
+    pub fn commonware_map_encode(
         key_size: usize,
         value_size: usize,
         pairs: *const u8,
@@ -349,7 +349,7 @@ unsafe extern "C" {
         out: *mut u32,
         out_length: usize,
     ) -> CertificateView;
-    pub fn commonware_certificate_write(
+    pub fn commonware_certificate_encode(
         value: *const u8,
         value_length: usize,
         signers: *const u32,
@@ -357,7 +357,7 @@ unsafe extern "C" {
         out: *mut u8,
         out_length: usize,
     ) -> WrittenView;
-    pub fn commonware_value_write(
+    pub fn commonware_slot_value(
         slot: *const u8,
         slot_length: usize,
         decision: *const u8,
@@ -365,7 +365,7 @@ unsafe extern "C" {
         out: *mut u8,
         out_length: usize,
     ) -> WrittenView;
-    pub fn commonware_certificate_check(
+    pub fn commonware_check(
         k: u32,
         members: u32,
         input: *const u8,

@@ -105,7 +105,7 @@ impl<'a> SetView<'a> {
         // SAFETY: each pointer and the length after it are those of one slice; `out` is a new one.
         let view = unsafe {
             let (room, length) = (out.as_mut_ptr(), out.len());
-            raw::commonware_set_write(key_size, keys.as_ptr(), keys.len(), room, length)
+            raw::commonware_set_encode_dedup(key_size, keys.as_ptr(), keys.len(), room, length)
         };
         if view.status != status::OK {
             return Err(EncodeError::of(view.status, view.number));
@@ -285,7 +285,7 @@ impl<'a> SetView<'a> {
 fn position_in(keys: &[u8], key: &[u8]) -> Option<usize> {
     // SAFETY: each pointer and the length after it are those of one slice.
     let view =
-        unsafe { raw::commonware_set_index(keys.as_ptr(), keys.len(), key.as_ptr(), key.len()) };
+        unsafe { raw::commonware_set_position(keys.as_ptr(), keys.len(), key.as_ptr(), key.len()) };
     (view.status == status::OK).then_some(view.index)
 }
 

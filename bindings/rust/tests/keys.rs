@@ -179,10 +179,10 @@ fn status_of(refusal: &Refusal) -> (u32, usize) {
     }
 }
 
-fn set_index(keys: &[u8], key: &[u8]) -> (u32, usize) {
+fn set_position(keys: &[u8], key: &[u8]) -> (u32, usize) {
     // SAFETY: each pointer and the length after it are those of one slice.
     let view =
-        unsafe { raw::commonware_set_index(keys.as_ptr(), keys.len(), key.as_ptr(), key.len()) };
+        unsafe { raw::commonware_set_position(keys.as_ptr(), keys.len(), key.as_ptr(), key.len()) };
     (view.status, view.index)
 }
 
@@ -346,7 +346,7 @@ fn keys_are_found_as_by_a_walk() {
             let walked = keys.iter().position(|it| *it == key);
             assert_eq!(set.position(&key), walked, "{keys:02x?} {key:02x?}");
             assert_eq!(set.contains(&key), walked.is_some());
-            let place = set_index(set.key_bytes(), &key);
+            let place = set_position(set.key_bytes(), &key);
             if key.len() != size {
                 seen.note("another size");
             } else if size == 0 {
@@ -379,7 +379,7 @@ fn any_bytes_have_an_index_a_gap_or_a_reason() {
             bytes.truncate(random.below(bytes.len() + 1));
         }
         let (buffer, start) = behind_some(&mut random, &bytes);
-        let (status, index) = set_index(&buffer[start..], &key);
+        let (status, index) = set_position(&buffer[start..], &key);
         let case = || format!("{bytes:02x?} {key:02x?}");
         if key.is_empty() {
             assert_eq!((status, index), (NO_SIZE, 0), "{}", case());
@@ -486,9 +486,9 @@ fn each_byte_decides_which_key_is_less() {
                     let mut map = wrong;
                     map.extend([2, 7, 7]);
                     assert_eq!(try_map((size, 1), &map, 0, 9), "strict", "{size} {at}");
-                    let alone = set_index(&less, &greater);
+                    let alone = set_position(&less, &greater);
                     assert_eq!(alone, (ABSENT, 1), "{size} {at}");
-                    assert_eq!(set_index(&greater, &less), (ABSENT, 0), "{size} {at}");
+                    assert_eq!(set_position(&greater, &less), (ABSENT, 0), "{size} {at}");
                 }
             }
         }

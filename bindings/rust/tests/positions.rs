@@ -129,14 +129,15 @@ fn neighbours_out_of_order_are_seen_at_each_index() {
 }
 
 /// Returns the status and the index of a key.
-fn set_index(keys: &[u8], key: &[u8]) -> (u32, usize) {
+fn set_position(keys: &[u8], key: &[u8]) -> (u32, usize) {
     // SAFETY: each pointer and the length after it are those of one slice.
     let view =
-        unsafe { raw::commonware_set_index(keys.as_ptr(), keys.len(), key.as_ptr(), key.len()) };
+        unsafe { raw::commonware_set_position(keys.as_ptr(), keys.len(), key.as_ptr(), key.len()) };
     if key.len() == MEMBER_SIZE && keys.len().is_multiple_of(MEMBER_SIZE) {
         let members = keys.len() / MEMBER_SIZE;
         // SAFETY: the members are as many as the length says, and the key is one.
-        let same = unsafe { raw::commonware_committee_index(keys.as_ptr(), members, key.as_ptr()) };
+        let same =
+            unsafe { raw::commonware_committee_position(keys.as_ptr(), members, key.as_ptr()) };
         assert_eq!((same.status, same.index), (view.status, view.index));
     }
     (view.status, view.index)
@@ -148,10 +149,10 @@ fn gaps_are_told(size: usize, run: usize, count: usize) {
     let keys = &buffer[PREFIX.len()..];
     for (index, key) in keys.chunks(size).enumerate() {
         let case = (size, run, count, index);
-        assert_eq!(set_index(keys, key), (OK, index), "{case:?}");
+        assert_eq!(set_position(keys, key), (OK, index), "{case:?}");
         for (number, gap) in [(2 * index, index), (2 * index + 2, index + 1)] {
             let other = item(size, run, index, number);
-            assert_eq!(set_index(keys, &other), (ABSENT, gap), "{case:?}");
+            assert_eq!(set_position(keys, &other), (ABSENT, gap), "{case:?}");
         }
     }
 }

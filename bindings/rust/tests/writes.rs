@@ -25,11 +25,11 @@ const REPEATED_KEY: u32 = 19;
 const UNTOUCHED: u8 = 0xee;
 
 /// Returns the status, the count, the number and the size.
-fn set_write(size: usize, keys: &[u8], out: &mut [u8]) -> (u32, usize, usize, usize) {
+fn set_encode_dedup(size: usize, keys: &[u8], out: &mut [u8]) -> (u32, usize, usize, usize) {
     // SAFETY: each pointer and the length after it are those of one slice.
     let view = unsafe {
         let (room, length) = (out.as_mut_ptr(), out.len());
-        raw::commonware_set_write(size, keys.as_ptr(), keys.len(), room, length)
+        raw::commonware_set_encode_dedup(size, keys.as_ptr(), keys.len(), room, length)
     };
     (view.status, view.count, view.number, view.size)
 }
@@ -81,7 +81,7 @@ fn some_room(random: &mut Random, wanted: usize) -> usize {
 /// Compares one call with the naive one, and returns what came of it.
 fn try_write(size: usize, keys: &[u8], room: usize) -> &'static str {
     let mut out = vec![UNTOUCHED; room];
-    let told = set_write(size, keys, &mut out);
+    let told = set_encode_dedup(size, keys, &mut out);
     if size == 0 {
         assert_eq!(told, (NO_SIZE, 0, 0, 0));
         assert!(out.iter().all(|byte| *byte == UNTOUCHED));
@@ -153,19 +153,19 @@ type Encode = fn(usize, usize, &[u8]) -> Result<Vec<u8>, EncodeError>;
 
 /// A way to write a map: the call of the library, and that of the crate.
 struct MapWriter {
-    call: raw::MapWriteCall,
+    call: raw::MapEncodeDedupCall,
     encode: Encode,
 }
 
 /// Of equal keys the first stays.
 const FIRSTS: MapWriter = MapWriter {
-    call: raw::commonware_map_write,
+    call: raw::commonware_map_encode_dedup,
     encode: MapView::encode,
 };
 
 /// Equal keys are refused.
 const UNIQUE: MapWriter = MapWriter {
-    call: raw::commonware_map_write_unique,
+    call: raw::commonware_map_encode,
     encode: MapView::encode_unique,
 };
 
@@ -200,7 +200,7 @@ fn naive_map(sizes: (usize, usize), pairs: &[u8]) -> (Vec<u8>, usize) {
 }
 
 /// Compares one call with the naive one, and returns what came of it.
-fn try_map_write(
+fn try_map_encode_dedup(
     writer: &MapWriter,
     sizes: (usize, usize),
     pairs: &[u8],
@@ -258,7 +258,7 @@ fn maps_are_written_as_by_a_stable_sort() {
             }
         }
         let room = some_room(&mut random, 10 + pairs.len());
-        seen.note(try_map_write(&FIRSTS, sizes, &pairs, room));
+        seen.note(try_map_encode_dedup(&FIRSTS, sizes, &pairs, room));
     }
     seen.assert_each(4, cases() / 100);
 }
@@ -289,9 +289,12 @@ fn many_keys_and_pairs_that_repeat_are_written() {
                 .flat_map(|(key, i)| [key, &i.to_be_bytes()].concat())
                 .collect();
             let (map, _) = naive_map((20, 4), &pairs);
-            assert_eq!(try_map_write(&FIRSTS, (20, 4), &pairs, map.len()), "ok");
             assert_eq!(
-                try_map_write(&FIRSTS, (20, 4), &pairs, map.len() - 1),
+                try_map_encode_dedup(&FIRSTS, (20, 4), &pairs, map.len()),
+                "ok"
+            );
+            assert_eq!(
+                try_map_encode_dedup(&FIRSTS, (20, 4), &pairs, map.len() - 1),
                 "room"
             );
             assert_eq!(try_unique((20, 4), &pairs, map.len()), "repeat");
@@ -311,12 +314,21 @@ fn sizes_of_pairs_whose_sum_wraps_have_a_result() {
         (1 << 32, 1),
         (1, (1 << 32) + 1),
     ] {
-        assert_eq!(try_map_write(&FIRSTS, sizes, &[1, 2], 9), "not whole");
-        assert_eq!(try_map_write(&FIRSTS, sizes, &[], 9), "ok");
-        assert_eq!(try_map_write(&FIRSTS, sizes, &[], 1), "room");
+        assert_eq!(
+            try_map_encode_dedup(&FIRSTS, sizes, &[1, 2], 9),
+            "not whole"
+        );
+        assert_eq!(try_map_encode_dedup(&FIRSTS, sizes, &[], 9), "ok");
+        assert_eq!(try_map_encode_dedup(&FIRSTS, sizes, &[], 1), "room");
     }
-    assert_eq!(try_map_write(&FIRSTS, (1, 0), &[3, 1, 2, 1], 9), "ok");
-    assert_eq!(try_map_write(&FIRSTS, (0, usize::MAX), &[], 9), "no size");
+    assert_eq!(
+        try_map_encode_dedup(&FIRSTS, (1, 0), &[3, 1, 2, 1], 9),
+        "ok"
+    );
+    assert_eq!(
+        try_map_encode_dedup(&FIRSTS, (0, usize::MAX), &[], 9),
+        "no size"
+    );
 }
 
 /// Returns the index of the first pair whose key an earlier pair has, after that of the earlier
@@ -334,7 +346,7 @@ fn naive_repeat(sizes: (usize, usize), pairs: &[u8]) -> Option<(usize, usize)> {
 /// Compares one call with the naive one, and returns what came of it.
 fn try_unique(sizes: (usize, usize), pairs: &[u8], room: usize) -> &'static str {
     let Some((first, second)) = naive_repeat(sizes, pairs) else {
-        return try_map_write(&UNIQUE, sizes, pairs, room);
+        return try_map_encode_dedup(&UNIQUE, sizes, pairs, room);
     };
     let mut out = vec![UNTOUCHED; room];
     let told = UNIQUE.write(sizes, pairs, &mut out);

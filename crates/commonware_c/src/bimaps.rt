@@ -52,8 +52,8 @@ pub struct BimapView {
 /// with `room_length` 0 returns ROOM with how many indices it takes, or OK for no pairs. It takes
 /// O(n log n) comparisons. Never MEMORY.
 ///
-/// There is no call that writes a bimap: it is what commonware_map_write_unique writes, and this
-/// call says whether two values are the same.
+/// There is no call that writes a bimap: it is what commonware_map_encode writes, and this call
+/// says whether two values are the same.
 #[unsafe(no_mangle)]
 pub extern "C" fn commonware_bimap_read(
     key_size: usize,

@@ -44,7 +44,7 @@ pub struct CheckView {
 ///
 /// Warning: no signature is looked at. Whoever doesn't verify them knows nothing of who signed.
 #[unsafe(no_mangle)]
-pub extern "C" fn commonware_certificate_check(k: u32, members: u32, input: &[u8]) -> CheckView
+pub extern "C" fn commonware_check(k: u32, members: u32, input: &[u8]) -> CheckView
     ensures accepted { result.status ≡ 0 → IsToldOf k members input.now result }
     ensures refused { result.status ≢ 0
         → IsUncertified k members input.now result.status result.number }

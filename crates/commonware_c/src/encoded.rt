@@ -19,7 +19,7 @@ use commonware_base::codec::{EncodeSize, UInt};
 /// signer that isn't greater than the one before it, ROOM.
 /// COMMONWARE_CERTIFICATE_SIZE(value_length, signers_length) bytes always suffice. Never MEMORY.
 #[unsafe(no_mangle)]
-pub extern "C" fn commonware_certificate_write(
+pub extern "C" fn commonware_certificate_encode(
     value: &[u8],
     signers: &[u32],
     out: &mut [u8],

@@ -47,7 +47,7 @@ fn is_less(items: &ListView<'_>, index: usize) -> bool
     bytes_order(last, item).is_lt()
 }
 
-/// Encodes the set of these items, as `commonware_set_write` does: they are their own set.
+/// Encodes the set of these items, as `commonware_set_encode_dedup` does: they are their own set.
 pub(crate) fn write_in_order(size: usize, items: &ListView<'_>, out: &mut [u8]) -> WrittenView
     requires long { AreLong size items.now }
     requires strict { IsStrict bytes_cmp items.now }

@@ -43,7 +43,7 @@ pub struct PairsView {
 /// The value of a key is found by the index of the key:
 ///
 /// ```c
-/// at = commonware_set_index(input + view.keys, view.count * key_size, key, key_size);
+/// at = commonware_set_position(input + view.keys, view.count * key_size, key, key_size);
 /// value = input + view.values + at.index * value_size; // where at.status is COMMONWARE_OK
 /// ```
 ///

@@ -26,7 +26,7 @@ use std::alloc::{AllocError, Global};
 /// come in the order of their keys, each key once, as one pair and no pairs do: nothing is
 /// allocated then. Never NOT_STRICT.
 #[unsafe(no_mangle)]
-pub extern "C" fn commonware_map_write(
+pub extern "C" fn commonware_map_encode_dedup(
     alloc: Global,
     key_size: usize,
     value_size: usize,
@@ -105,7 +105,7 @@ fn whole_rows(size: usize, pairs: &[u8]) -> Result<ListView<'_>, usize>
     }
 }
 
-/// Encodes the map of these rows, as `commonware_map_write` does.
+/// Encodes the map of these rows, as `commonware_map_encode_dedup` does.
 fn write_rows(
     alloc: Global,
     key_size: usize,
@@ -141,8 +141,8 @@ fn write_rows(
     write_map(key_size, value_size, rows, &map, out)
 }
 
-/// Encodes a map of the first pairs of these rows, one for each key, as `commonware_map_write`
-/// does. Nothing is allocated.
+/// Encodes a map of the first pairs of these rows, one for each key, as
+/// `commonware_map_encode_dedup` does. Nothing is allocated.
 pub(crate) fn write_map(
     key_size: usize,
     value_size: usize,

@@ -15,7 +15,7 @@ use commonware_views::{ListView, NotWhole};
 #[repr(C)]
 #[derive(Clone, Copy, Drop)]
 pub struct PlaceView {
-    /// OK or ABSENT; of commonware_set_index also NO_SIZE and NOT_WHOLE.
+    /// OK or ABSENT; of commonware_set_position also NO_SIZE and NOT_WHOLE.
     pub status: u32,
     /// At OK: that of the key; at ABSENT: that of the first greater one, or the number of keys.
     pub index: usize,
@@ -26,15 +26,15 @@ pub struct PlaceView {
 /// found with a size_t `size` it is
 ///
 /// ```c
-/// commonware_set_index(input + view.start, view.count * size, key, size)
+/// commonware_set_position(input + view.start, view.count * size, key, size)
 /// ```
 ///
 /// NO_SIZE exactly where `key_length` is 0, since it can't be told how many keys of no bytes there
 /// are: a set of such keys has the key exactly where view.count is 1. NOT_WHOLE exactly where
 /// `key_length` is greater than 0 and doesn't divide `keys_length`. In a list that isn't in order,
-/// OK and ABSENT are as commonware_committee_index has them.
+/// OK and ABSENT are as commonware_committee_position has them.
 #[unsafe(no_mangle)]
-pub extern "C" fn commonware_set_index(keys: &[u8], key: &[u8]) -> PlaceView
+pub extern "C" fn commonware_set_position(keys: &[u8], key: &[u8]) -> PlaceView
     ensures found { result.status ≡ 0 → (items : List (List ℕ))
         × AreItemsOf (length key.now) keys.now items
         × (slice_get items result.index ≡ Some key.now) }
@@ -70,7 +70,7 @@ fn no_place(status: u32) -> PlaceView
 /// comes with the index of the key, and ABSENT with an index where the key is greater than the one
 /// before and less than the one there.
 #[unsafe(no_mangle)]
-pub extern "C" fn commonware_committee_index(members: &[[u8; 32]], key: &[u8; 32]) -> PlaceView
+pub extern "C" fn commonware_committee_position(members: &[[u8; 32]], key: &[u8; 32]) -> PlaceView
     ensures found { result.status ≡ 0 → (result.index < length members.now)
         × HoldsAt (λ member. member ≡ key.now) members.now result.index }
     ensures absent { result.status ≢ 0 → (result.status ≡ 12)

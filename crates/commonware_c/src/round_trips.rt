@@ -16,16 +16,16 @@ mod keys;
 mod numbers;
 
 use crate::certificates::{CertificateView, commonware_certificate_read};
-use crate::checks::{CheckView, commonware_certificate_check};
+use crate::checks::{CheckView, commonware_check};
 use crate::committees::commonware_committee_read;
-use crate::encoded::commonware_certificate_write;
+use crate::encoded::commonware_certificate_encode;
 use crate::maps::{PairsView, commonware_map_read};
 use crate::numbers::{commonware_max_faults, commonware_quorum};
-use crate::pairs::commonware_map_write;
+use crate::pairs::commonware_map_encode_dedup;
 use crate::sets::{KeysView, commonware_set_read};
-use crate::slots::commonware_value_write;
+use crate::slots::commonware_slot_value;
 use crate::statuses::OK;
-use crate::written::{commonware_committee_write, commonware_set_write};
+use crate::written::{commonware_committee_encode_dedup, commonware_set_encode_dedup};
 use committee_certificates::slot_of;
 use commonware_base::codec::Source;
 use std::alloc::Global;
@@ -45,7 +45,7 @@ fn certificate_there_and_back(
         × (view.signers ≡ length signers.now)
         × (out.new ≡ signers.now ++ drop (length signers.now) out.old)) }
 {
-    let written = commonware_certificate_write(value, signers, room);
+    let written = commonware_certificate_encode(value, signers, room);
     if written.status != OK {
         return None;
     }
@@ -66,11 +66,11 @@ fn certificate_there_and_checked(
         × ((f : ℕ) × IsFaultTolerance k members f
         × AreQuorum (λ _. f) members signers.now))) }
 {
-    let written = commonware_certificate_write(value, signers, room);
+    let written = commonware_certificate_encode(value, signers, room);
     if written.status != OK {
         return None;
     }
-    let view = commonware_certificate_check(k, members, &room[..written.size]);
+    let view = commonware_check(k, members, &room[..written.size]);
     Some(view)
 }
 
@@ -79,7 +79,7 @@ fn certificate_there_and_checked(
 fn value_there_and_back(slot: &[u8], decision: &[u8], room: &mut [u8]) -> Option<bool>
     ensures { IfSome result (λ same. IsTrue same) }
 {
-    let written = commonware_value_write(slot, decision, room);
+    let written = commonware_slot_value(slot, decision, room);
     if written.status != OK {
         return None;
     }
@@ -100,7 +100,7 @@ fn committee_there_and_back(
         × IsDedup (pointwise nat_eq) bytes_cmp members.now set
         × (view.count ≡ length set) × StandBy 32 room.new view.start set)) }
 {
-    let written = commonware_committee_write(alloc, members, room);
+    let written = commonware_committee_encode_dedup(alloc, members, room);
     if written.status != OK {
         return None;
     }
@@ -125,7 +125,7 @@ fn set_there_and_back(alloc: Global, size: usize, keys: &[u8], room: &mut [u8]) 
         × AreItemsOf size keys.now items × IsDedup (pointwise nat_eq) bytes_cmp items set
         × (view.count ≡ length set) × StandBy size room.new view.start set)) }
 {
-    let written = commonware_set_write(alloc, size, keys, room);
+    let written = commonware_set_encode_dedup(alloc, size, keys, room);
     if written.status != OK {
         return None;
     }
@@ -150,7 +150,7 @@ fn map_there_and_back(
         × StandBy key_size room.new view.keys (keys_of written)
         × StandBy value_size room.new view.values (values_of written))) }
 {
-    let written = commonware_map_write(alloc, key_size, value_size, pairs, room);
+    let written = commonware_map_encode_dedup(alloc, key_size, value_size, pairs, room);
     if written.status != OK {
         return None;
     }

@@ -50,7 +50,7 @@ fn is_key_less(key_size: usize, rows: &ListView<'_>, index: usize) -> bool
     bytes_order(key, next).is_lt()
 }
 
-/// Encodes the map of these rows, as `commonware_map_write` does: they are its pairs.
+/// Encodes the map of these rows, as `commonware_map_encode_dedup` does: they are its pairs.
 pub(crate) fn write_rows_in_order(
     key_size: usize,
     value_size: usize,

@@ -13,15 +13,11 @@ use commonware_base::codec::{EncodeSize, UInt};
 /// slot and the decision. A slot is what an honest member signs at most once, as bytes of the
 /// protocol's choice: chain, committee, height, round and kind of vote, say. A height alone is too
 /// little where there are rounds. Members sign this value, and a certificate of it is written by
-/// commonware_certificate_write. At OK and ROOM the view's `size` is told, `count` never.
+/// commonware_certificate_encode. At OK and ROOM the view's `size` is told, `count` never.
 /// INVALID_LENGTH for the first of the slot, the decision and the value that is past 4294967295.
 /// Never MEMORY.
 #[unsafe(no_mangle)]
-pub extern "C" fn commonware_value_write(
-    slot: &[u8],
-    decision: &[u8],
-    out: &mut [u8],
-) -> WrittenView
+pub extern "C" fn commonware_slot_value(slot: &[u8], decision: &[u8], out: &mut [u8]) -> WrittenView
     ensures written { result.status ≡ 0
         → out.new ≡ spliced 0 (union_text slot.now decision.now) out.old }
     ensures size { (result.status ≡ 0) ⊎ (result.status ≡ 11)

@@ -19,16 +19,16 @@ use commonware_ordered::Set;
 use commonware_views::ListView;
 use std::alloc::{AllocError, Global};
 
-/// Writes the map of these pairs as commonware_map_write does, where no key repeats: OK then, with
-/// all pairs. Where one does, nothing is written, and REPEATED_KEY comes with the least index of a
-/// pair whose key an earlier pair has. The status is the first of these: NO_SIZE, NOT_WHOLE,
-/// REPEATED_KEY or MEMORY, whichever is met first, INVALID_LENGTH where the pairs are more than
-/// 4294967295, ROOM. Where there is memory, it is REPEATED_KEY exactly where the keys have bytes,
-/// the pairs are whole and a key repeats. 10 + pairs_length bytes always suffice. Never MEMORY
-/// where the pairs come in the order of their keys, each key once, as one pair and no pairs do:
-/// nothing is allocated then. Never NOT_STRICT.
+/// Writes the map of these pairs as commonware_map_encode_dedup does, where no key repeats: OK
+/// then, with all pairs. Where one does, nothing is written, and REPEATED_KEY comes with the least
+/// index of a pair whose key an earlier pair has. The status is the first of these: NO_SIZE,
+/// NOT_WHOLE, REPEATED_KEY or MEMORY, whichever is met first, INVALID_LENGTH where the pairs are
+/// more than 4294967295, ROOM. Where there is memory, it is REPEATED_KEY exactly where the keys
+/// have bytes, the pairs are whole and a key repeats. 10 + pairs_length bytes always suffice. Never
+/// MEMORY where the pairs come in the order of their keys, each key once, as one pair and no pairs
+/// do: nothing is allocated then. Never NOT_STRICT.
 #[unsafe(no_mangle)]
-pub extern "C" fn commonware_map_write_unique(
+pub extern "C" fn commonware_map_encode(
     alloc: Global,
     key_size: usize,
     value_size: usize,
@@ -80,7 +80,7 @@ pub extern "C" fn commonware_map_write_unique(
     }
 }
 
-/// Encodes the map of these rows, as `commonware_map_write_unique` does.
+/// Encodes the map of these rows, as `commonware_map_encode` does.
 fn write_all_rows(
     alloc: Global,
     key_size: usize,

@@ -6,7 +6,7 @@ ghost use Rattle.committee_weights.specs.Members.{weight_of};
 ghost use Rattle.commonware_c.specs.Certificates.{IsWhole};
 
 use crate::conflicts::commonware_conflict;
-use crate::encoded::commonware_certificate_write;
+use crate::encoded::commonware_certificate_encode;
 use crate::equivocations::commonware_equivocation;
 use crate::statuses::OK;
 use crate::weighted_conflicts::commonware_weighted_conflict;
@@ -25,7 +25,7 @@ fn certificate_in<'a>(signed: &Signed<'_>, room: &'a mut [u8]) -> Option<&'a [u8
     ensures { IfSome result (λ bytes.
         IsWhole bytes.now (signed.now.value.now, signed.now.signers.now)) }
 {
-    let written = commonware_certificate_write(signed.value, signed.signers, room);
+    let written = commonware_certificate_encode(signed.value, signed.signers, room);
     if written.status != OK {
         return None;
     }

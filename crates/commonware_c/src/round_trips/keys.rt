@@ -10,11 +10,11 @@ ghost use Rattle.commonware_c.specs.Pairs.{AreAllPairs, IsFirstOfEach};
 
 use crate::bimaps::{BimapView, commonware_bimap_read};
 use crate::maps::{PairsView, commonware_map_read};
-use crate::pairs::commonware_map_write;
-use crate::places::{PlaceView, commonware_committee_index, commonware_set_index};
+use crate::pairs::commonware_map_encode_dedup;
+use crate::places::{PlaceView, commonware_committee_position, commonware_set_position};
 use crate::sets::commonware_set_read;
 use crate::statuses::OK;
-use crate::unique::commonware_map_write_unique;
+use crate::unique::commonware_map_encode;
 use commonware_base::codec::Source;
 use commonware_views::ListView;
 use std::alloc::Global;
@@ -41,7 +41,7 @@ fn own_place(
     let Some(key) = items.get(position) else {
         return None;
     };
-    Some(commonware_set_index(keys, key))
+    Some(commonware_set_position(keys, key))
 }
 
 /// Looks the member at a position of a committee up: it is at this position.
@@ -50,7 +50,7 @@ fn own_index(members: &[[u8; 32]], position: usize) -> PlaceView
     requires within { position < length members.now }
     ensures { (result.status ≡ 0) × (result.index ≡ position) }
 {
-    commonware_committee_index(members, &members[position])
+    commonware_committee_position(members, &members[position])
 }
 
 /// Writes the map of these pairs to the room, and reads a bimap there: it is one exactly where no
@@ -69,7 +69,7 @@ fn map_there_and_bimap_back(
         × ((view.status ≡ 0)
         ↔ (AreDistinct (values_of written) × (length written ≤ length order.old)))) }
 {
-    let written = commonware_map_write(alloc, key_size, value_size, pairs, room);
+    let written = commonware_map_encode_dedup(alloc, key_size, value_size, pairs, room);
     if written.status != OK {
         return None;
     }
@@ -96,7 +96,7 @@ fn unique_map_there_and_back(
         × StandBy key_size room.new view.keys (keys_of written)
         × StandBy value_size room.new view.values (values_of written))) }
 {
-    let written = commonware_map_write_unique(alloc, key_size, value_size, pairs, room);
+    let written = commonware_map_encode(alloc, key_size, value_size, pairs, room);
     if written.status != OK {
         return None;
     }

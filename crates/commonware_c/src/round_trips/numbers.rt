@@ -6,7 +6,7 @@ ghost use Rattle.committee_weights.specs.Members.{AreWeightedQuorum};
 ghost use Rattle.commonware_c.specs.Version.{version_number};
 ghost use Rattle.commonware_c.specs.Weights.{IsWeightedModel};
 
-use crate::encoded::commonware_certificate_write;
+use crate::encoded::commonware_certificate_encode;
 use crate::numbers::commonware_smaller_quorum;
 use crate::statuses::OK;
 use crate::version::commonware_version;
@@ -51,7 +51,7 @@ fn certificate_there_and_weighed(
     ensures { IfSome result (λ view. (view.status ≡ 0) ↔ (IsWeightedModel k weights.now
         × AreWeightedQuorum k weights.now signers.now)) }
 {
-    let written = commonware_certificate_write(value, signers, room);
+    let written = commonware_certificate_encode(value, signers, room);
     if written.status != OK {
         return None;
     }

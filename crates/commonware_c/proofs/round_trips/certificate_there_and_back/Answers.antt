@@ -9,10 +9,10 @@ returns-clause-back c =
     let value = c.args.value.now in
     let signers = c.args.signers.now in
     let old = c.args.room.now in
-    let room = c.commonware_certificate_write-written.new.out in
-    let write = c.commonware_certificate_write-written.ensures in
+    let room = c.commonware_certificate_encode-written.new.out in
+    let write = c.commonware_certificate_encode-written.ensures in
     let read = c.commonware_certificate_read-view.ensures in
-    let ok : c.commonware_certificate_write-written.result.status ≡ 0 = search rules in
+    let ok : c.commonware_certificate_encode-written.result.status ≡ 0 = search rules in
     let rest = drop (length (certificate_enc (value, signers))) old in
     let written = written_certificate value signers room rest (write.exactly.0 ok).0
     (begins_with (certificate_enc (value, signers)) old room (write.written ok)) in

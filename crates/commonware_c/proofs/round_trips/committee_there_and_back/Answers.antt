@@ -12,11 +12,11 @@ use Rattle.commonware_c.proofs.round_trips.committee_there_and_back.Goals as goa
 pub returns : goal.returns
 returns c =
     let members = c.args.members.now in
-    let room = c.commonware_committee_write-written.new.out in
-    let view = c.commonware_committee_write-written.result in
+    let room = c.commonware_committee_encode_dedup-written.new.out in
+    let view = c.commonware_committee_encode_dedup-written.result in
     let read = c.commonware_committee_read-view.ensures in
     let ok : view.status ≡ 0 = search rules in
-    let w = c.commonware_committee_write-written.ensures.written ok in
+    let w = c.commonware_committee_encode_dedup-written.ensures.written ok in
     let rest = drop (length (list_enc own_bytes w.0)) c.args.room.now in
     let bytes = subst AreBytes c.new.ensures.bytes c.position.ensures.are_bytes in
     let range = between 0 view.count in

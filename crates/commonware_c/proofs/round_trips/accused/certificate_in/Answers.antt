@@ -8,9 +8,9 @@ pub returns : goal.returns
 returns c =
     let value = c.args.signed.now.value.now in
     let signers = c.args.signed.now.signers.now in
-    let room = c.commonware_certificate_write-written.new.out in
-    let view = c.commonware_certificate_write-written.result in
-    let write = c.commonware_certificate_write-written.ensures in
+    let room = c.commonware_certificate_encode-written.new.out in
+    let view = c.commonware_certificate_encode-written.result in
+    let write = c.commonware_certificate_encode-written.ensures in
     let ok : view.status ≡ 0 = search rules in
     whole_certificate value signers (take view.size room) (write.exactly.0 ok).0
     (cut_to (certificate_enc (value, signers)) c.args.room.now room view.size (write.written ok) (write.size (inl ok)).0)

@@ -11,8 +11,8 @@ returns c =
     let members = c.args.members.now in
     let position = c.args.position in
     let key = get_or members position [] in
-    let index = c.commonware_committee_index.result.index in
-    let place = c.commonware_committee_index.ensures in
+    let index = c.commonware_committee_position.result.index in
+    let place = c.commonware_committee_position.ensures in
     let status = (place.exactly c.requires.strict).1 (position, c.requires.within, get_or_default members position key [] c.requires.within) in
     let found = place.found status in (
       status,

@@ -14,11 +14,11 @@ pub returns : goal.returns
 returns c =
     let ks = c.args.key_size in
     let vs = c.args.value_size in
-    let room = c.commonware_map_write_unique-written.new.out in
-    let view = c.commonware_map_write_unique-written.result in
+    let room = c.commonware_map_encode-written.new.out in
+    let view = c.commonware_map_encode-written.result in
     let read = c.commonware_map_read.ensures in
     let ok : view.status ≡ 0 = search rules in
-    let w = c.commonware_map_write_unique-written.ensures.written ok in
+    let w = c.commonware_map_encode-written.ensures.written ok in
     let rest = drop (length (map_enc own_bytes own_bytes w.1)) c.args.room.now in
     let bytes = subst AreBytes c.new.ensures.bytes c.position.ensures.are_bytes in
     let range = between 0 view.count in

@@ -11,11 +11,11 @@ returns c =
     let value = c.args.value.now in
     let signers = c.args.signers.now in
     let weights = c.args.weights.now in
-    let room = c.commonware_certificate_write-written.new.out in
-    let size = c.commonware_certificate_write-written.result.size in
-    let write = c.commonware_certificate_write-written.ensures in
+    let room = c.commonware_certificate_encode-written.new.out in
+    let size = c.commonware_certificate_encode-written.result.size in
+    let write = c.commonware_certificate_encode-written.ensures in
     let check = c.commonware_weighted_check.ensures in
-    let ok : c.commonware_certificate_write-written.result.status ≡ 0 = search rules in
+    let ok : c.commonware_certificate_encode-written.result.status ≡ 0 = search rules in
     let cut = cut_to (certificate_enc (value, signers)) c.args.room.now room size (write.written ok) (write.size (inl ok)).0 in
     let whole = whole_certificate value signers (take size room) (write.exactly.0 ok).0 cut in (
       λ e.

@@ -6,7 +6,7 @@ use Rattle.commonware_ordered.specs.Strict.{IsStrict}
 use Rattle.commonware_sequence.specs.FixedBytes.{bytes_cmp}
 use Rattle.commonware_views.specs.Lists.{IsGapFor}
 use Rattle.commonware_c.proofs.Arrays.{items_are_arrays}
-use Rattle.commonware_c.proofs.places.commonware_committee_index.Goals as goal
+use Rattle.commonware_c.proofs.places.commonware_committee_position.Goals as goal
 
 -- 32 is not 0
 some : ◌≡◌ {A = ℕ} 32 0 → ⊥

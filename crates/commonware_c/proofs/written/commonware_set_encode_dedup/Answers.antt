@@ -3,7 +3,7 @@ use Rattle.commonware_views.specs.laws.ItemLaws.{none_left_over, one_reading}
 use Rattle.commonware_ordered.specs.Strict.{IsStrict}
 use Rattle.commonware_sequence.specs.FixedBytes.{bytes_cmp}
 use Rattle.commonware_c.proofs.Made.{no_items}
-use Rattle.commonware_c.proofs.written.commonware_set_write.Goals as goal
+use Rattle.commonware_c.proofs.written.commonware_set_encode_dedup.Goals as goal
 
 pub returns-in-Ok-clause-not_whole : goal.returns-in-Ok-clause-not_whole
 returns-in-Ok-clause-not_whole c =

@@ -2,7 +2,7 @@ use Rattle.std.proofs.Common.{◌+◌, arith, subst}
 use Rattle.commonware_views.specs.laws.ItemLaws.{none_left_over, one_reading}
 use Rattle.commonware_c.specs.Pairs.{AreInKeyOrder}
 use Rattle.commonware_c.proofs.Made.{no_items}
-use Rattle.commonware_c.proofs.pairs.commonware_map_write.Goals as goal
+use Rattle.commonware_c.proofs.pairs.commonware_map_encode_dedup.Goals as goal
 
 pub returns-in-Ok-clause-not_whole : goal.returns-in-Ok-clause-not_whole
 returns-in-Ok-clause-not_whole c =

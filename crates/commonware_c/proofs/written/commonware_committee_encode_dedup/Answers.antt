@@ -5,7 +5,7 @@ use Rattle.commonware_ordered.specs.Dedup.{IsDedup}
 use Rattle.commonware_sequence.specs.FixedBytes.{bytes_cmp}
 use Rattle.commonware_c.specs.Committees.{IsSetOf}
 use Rattle.commonware_c.proofs.Arrays.{items_are_arrays}
-use Rattle.commonware_c.proofs.written.commonware_committee_write.Goals as goal
+use Rattle.commonware_c.proofs.written.commonware_committee_encode_dedup.Goals as goal
 
 -- 32 is not 0
 some : ◌≡◌ {A = ℕ} 32 0 → ⊥

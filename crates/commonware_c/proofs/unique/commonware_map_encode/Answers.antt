@@ -2,7 +2,7 @@ use Rattle.std.proofs.Common.{◌+◌, ◌↔◌, ◌≡◌, ℕ, arith, subst}
 use Rattle.commonware_views.specs.laws.ItemLaws.{none_left_over, one_reading}
 use Rattle.commonware_c.specs.Pairs.{AreInKeyOrder, RepeatsKey}
 use Rattle.commonware_c.proofs.Made.{no_items}
-use Rattle.commonware_c.proofs.unique.commonware_map_write_unique.Goals as goal
+use Rattle.commonware_c.proofs.unique.commonware_map_encode.Goals as goal
 
 pub returns-in-Ok-clause-exactly : goal.returns-in-Ok-clause-exactly
 returns-in-Ok-clause-exactly c = λ some enough rows are.

@@ -1,6 +1,6 @@
 use Rattle.std.proofs.Common.{ap, ◌∙◌, sym}
 use Rattle.commonware_c.proofs.Certified.{not_certified, slot_at, value_at}
-use Rattle.commonware_c.proofs.checks.commonware_certificate_check.Goals as goal
+use Rattle.commonware_c.proofs.checks.commonware_check.Goals as goal
 
 pub returns-in-Ok-clause-accepted : goal.returns-in-Ok-clause-accepted
 returns-in-Ok-clause-accepted c = λ _.

@@ -4,7 +4,7 @@ use Rattle.commonware_ordered.specs.Strict.{IsStrict}
 use Rattle.commonware_sequence.specs.FixedBytes.{bytes_cmp}
 use Rattle.commonware_views.specs.Lists.{IsNotWhole}
 use Rattle.commonware_views.specs.laws.ItemLaws.{none_left_over, one_reading}
-use Rattle.commonware_c.proofs.places.commonware_set_index.Goals as goal
+use Rattle.commonware_c.proofs.places.commonware_set_position.Goals as goal
 
 pub returns-in-Ok-clause-exactly : goal.returns-in-Ok-clause-exactly
 returns-in-Ok-clause-exactly c = λ some items are strict.
