@@ -41,14 +41,14 @@ void commonware_dealloc(unsigned char *block) {
     free(block);
 }
 
-#if COMMONWARE_VERSION != 1001000 || COMMONWARE_VERSION_MAJOR != 1
+#if COMMONWARE_VERSION != 2000000 || COMMONWARE_VERSION_MAJOR != 2
 #error "commonware.h has another version than these tests"
 #endif
 
-/* The version is 1.1.0, of the header and of the library. */
+/* The version is 2.0.0, of the header and of the library. */
 static void test_version(void) {
-    CHECK(commonware_version() == 1001000);
-    CHECK(COMMONWARE_VERSION == 1001000 && COMMONWARE_VERSION_MAJOR == 1);
+    CHECK(commonware_version() == 2000000);
+    CHECK(COMMONWARE_VERSION == 2000000 && COMMONWARE_VERSION_MAJOR == 2);
     CHECK(COMMONWARE_VERSION_MINOR == 1 && COMMONWARE_VERSION_PATCH == 0);
 }
 

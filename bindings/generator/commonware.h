@@ -66,8 +66,8 @@ extern "C" {
 #endif
 
 /* The version of this header, by its parts and as one number, each for #if too. */
-#define COMMONWARE_VERSION_MAJOR 1
-#define COMMONWARE_VERSION_MINOR 1
+#define COMMONWARE_VERSION_MAJOR 2
+#define COMMONWARE_VERSION_MINOR 0
 #define COMMONWARE_VERSION_PATCH 0
 #define COMMONWARE_VERSION                                                  \
     (1000000 * COMMONWARE_VERSION_MAJOR + 1000 * COMMONWARE_VERSION_MINOR + \

@@ -14,7 +14,7 @@ import (
 	"sync"
 	"testing"
 
-	. "commonware.example/commonware"
+	. "commonware.example/commonware/v2"
 )
 
 func TestNegativeNumbers(t *testing.T) {

@@ -5,7 +5,7 @@ import (
 	"errors"
 	"fmt"
 
-	"commonware.example/commonware"
+	"commonware.example/commonware/v2"
 )
 
 // What the examples build is right, so that their errors are left out where they say nothing.

@@ -1,3 +1,3 @@
-module commonware.example/commonware
+module commonware.example/commonware/v2
 
 go 1.19

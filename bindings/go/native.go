@@ -3,10 +3,8 @@ package commonware
 // #cgo CFLAGS: -I${SRCDIR}/../c
 // #cgo LDFLAGS: -L${SRCDIR}/../prebuilt/x86_64-linux -l:libcommonware.a
 // #include "commonware.h"
-// #if COMMONWARE_VERSION_MAJOR != 1
-// #error "commonware.h has another major version than 1, which this module needs"
-// #elif COMMONWARE_VERSION_MINOR < 1
-// #error "commonware.h has an earlier version than 1.1, which this module needs"
+// #if COMMONWARE_VERSION_MAJOR != 2
+// #error "commonware.h has another major version than 2, which this module needs"
 // #endif
 import "C"
 

@@ -5,7 +5,7 @@ import (
 	"errors"
 	"sort"
 
-	. "commonware.example/commonware"
+	. "commonware.example/commonware/v2"
 )
 
 // The encodings and the results once more, in plain Go and item by item: what the package is compared with. It is

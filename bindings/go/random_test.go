@@ -11,7 +11,7 @@ import (
 	"strconv"
 	"testing"
 
-	. "commonware.example/commonware"
+	. "commonware.example/commonware/v2"
 )
 
 // cases returns how many random cases each group of calls is tried with.

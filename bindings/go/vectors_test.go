@@ -12,7 +12,7 @@ import (
 	"strings"
 	"testing"
 
-	. "commonware.example/commonware"
+	. "commonware.example/commonware/v2"
 )
 
 // The vectors at the repository's root that are about what the library has: their answers were worked out by hand.

@@ -9,7 +9,7 @@ import (
 	"sync"
 	"testing"
 
-	. "commonware.example/commonware"
+	. "commonware.example/commonware/v2"
 )
 
 // plainNumbers sums weights without a limit, and looks for f by halving.

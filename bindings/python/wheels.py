@@ -14,7 +14,7 @@ import zipfile
 HERE = pathlib.Path(__file__).resolve().parent
 PROJECT = dict(re.findall(r'(?m)^([\w-]+) = "(.*)"$', (HERE / "pyproject.toml").read_text()))
 NAME = f"{PROJECT['name'].replace('-', '_')}-{PROJECT['version']}"
-LIBRARY = "libcommonware.so.1"
+LIBRARY = "libcommonware.so.2"
 # The library asks the C library for nothing that is later than version 2.17 of glibc.
 TAG = "py3-none-manylinux_2_17_x86_64"
 METADATA = f"""Metadata-Version: 2.1

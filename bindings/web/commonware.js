@@ -22,7 +22,7 @@ export const N5F1 = 5;
 export const MEMBER_SIZE = 32;
 
 /** The major version of the library that this package needs. */
-const NEEDED_MAJOR = 1;
+const NEEDED_MAJOR = 2;
 
 /** Loads the module: the package's own, or the bytes that are given. Another major version of it is refused. */
 export async function load(bytes = undefined) {
@@ -140,7 +140,7 @@ export class Commonware {
         }
     }
 
-    /** The version of the library, as "1.1.0". */
+    /** The version of the library, as "2.0.0". */
     get version() {
         return this.#versionParts().join(".");
     }

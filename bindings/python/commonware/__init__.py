@@ -2,7 +2,7 @@ r"""Committees, certificates and quorums of consensus nodes: how many of n parti
 of committees and of certificates, and of sets, maps and bimaps of keys of any size, and which members signed both
 of two different values; all by the number of members or by what they weigh.
 
-Each call is one or two calls of the shared library `libcommonware.so.1`, whose contracts are proved; nothing is
+Each call is one or two calls of the shared library `libcommonware.so.2`, whose contracts are proved; nothing is
 decided here, but that a key of another size than the keys of a set isn't there, and where one of no bytes is.
 This package itself isn't proved, but tested.
 

@@ -7,9 +7,9 @@ import sys
 from ctypes import c_uint32
 from typing import Any, Callable, Tuple
 
-NAME = "libcommonware.so.1"
+NAME = "libcommonware.so.2"
 
-__version__ = "1.1.0"
+__version__ = "2.0.0"
 
 
 def find() -> str:
@@ -61,7 +61,7 @@ def version() -> Tuple[int, int, int]:
     that of this package, which loads no library of another major version.
 
     >>> version()
-    (1, 1, 0)
+    (2, 0, 0)
     """
     major, rest = divmod(int(version_number()), 1_000_000)
     minor, patch = divmod(rest, 1000)

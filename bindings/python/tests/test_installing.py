@@ -20,8 +20,8 @@ PREBUILT = HERE.parent / "prebuilt/x86_64-linux"
 LOADED = pathlib.Path(_library.LIBRARY._name)
 MODULES = [str(it.relative_to(HERE)) for it in HERE.glob("commonware/*.py")]
 FILES = [f"commonware/lib/{it}" for it in (_library.NAME, "PROVED")]
-WHEEL = "commonware_proved-1.1.0-py3-none-manylinux_2_17_x86_64.whl"
-SOURCES = "commonware_proved-1.1.0.tar.gz"
+WHEEL = "commonware_proved-2.0.0-py3-none-manylinux_2_17_x86_64.whl"
+SOURCES = "commonware_proved-2.0.0.tar.gz"
 BUILD = """
 import sys, wheels
 print(wheels.build_wheel(sys.argv[1]), wheels.build_sdist(sys.argv[1]))
@@ -82,7 +82,7 @@ class Installing(unittest.TestCase):
     def test_what_the_wheel_has(self):
         with zipfile.ZipFile(self.built("out") / WHEEL) as wheel:
             files = {name: wheel.read(name) for name in wheel.namelist()}
-        about = "commonware_proved-1.1.0.dist-info"
+        about = "commonware_proved-2.0.0.dist-info"
         *records, last = files.pop(f"{about}/RECORD").decode().splitlines()
         self.assertEqual(last, f"{about}/RECORD,,")
         self.assertEqual([it.split(",")[0] for it in records], list(files))
@@ -161,7 +161,7 @@ class Installing(unittest.TestCase):
                 data = wheel.read(f"commonware/lib/{name}")
                 self.assertEqual(data, (PREBUILT / name).read_bytes())
             for name in ("LICENSE", "NOTICE"):
-                data = wheel.read(f"commonware_proved-1.1.0.dist-info/licenses/{name}")
+                data = wheel.read(f"commonware_proved-2.0.0.dist-info/licenses/{name}")
                 self.assertEqual(data, (HERE.parents[1] / name).read_bytes())
 
 

@@ -180,16 +180,16 @@ class Version(unittest.TestCase):
 
     @unittest.skipUnless(shutil.which("cc"), "no cc")
     def test_libraries_of_other_versions_are_refused(self):
-        for number, said in ((2_003_004, "2.3.4"), (999_999, "0.999.999"), (10_000_000, "10.0.0")):
-            sentence = f"LIBRARY is version {said} of the library: this package needs version 1."
+        for number, said in ((3_004_005, "3.4.5"), (1_999_999, "1.999.999"), (20_000_000, "20.0.0")):
+            sentence = f"LIBRARY is version {said} of the library: this package needs version 2."
             source = f"unsigned commonware_version(void) {{ return {number}; }}"
             self.assertEqual(self.refusal(source), f"ImportError: {sentence}")
         sentence = (
             "ImportError: LIBRARY is another version of the library, without commonware_{}: "
-            "this package needs version 1.1.0."
+            "this package needs version 2.0.0."
         )
         self.assertEqual(self.refusal("int nothing;"), sentence.format("version"))
-        source = "unsigned commonware_version(void) { return 1000000; }"
+        source = "unsigned commonware_version(void) { return 2000000; }"
         self.assertEqual(self.refusal(source), sentence.format("max_faults"))
 
 

@@ -100,10 +100,11 @@ impl Repository {
     fn told(&self) -> Vec<String> {
         let _turn = one_at_a_time();
         let mut script = Command::new(build_script());
-        script.env_clear().envs(self.variables.iter().cloned());
+        script.env_clear();
         script.env("CARGO_MANIFEST_DIR", self.root.join("bindings/rust"));
         script.env("CARGO_PKG_VERSION_MAJOR", env!("CARGO_PKG_VERSION_MAJOR"));
         script.env("CARGO_PKG_VERSION_MINOR", env!("CARGO_PKG_VERSION_MINOR"));
+        script.envs(self.variables.iter().cloned());
         script.envs([
             ("CARGO_CFG_TARGET_ARCH", "x86_64"),
             ("CARGO_CFG_TARGET_OS", "linux"),
@@ -181,7 +182,7 @@ fn a_list_without_the_checksum_is_refused() {
     let others = [
         "",
         "  libcommonware.a\n",
-        &format!("{ABC}  libcommonware.so.1\n"),
+        &format!("{ABC}  libcommonware.so.2\n"),
     ];
     for checksums in others
         .into_iter()
@@ -194,26 +195,22 @@ fn a_list_without_the_checksum_is_refused() {
 
 #[test]
 fn an_earlier_version_and_another_major_one_are_refused() {
-    let repository = Repository::new("versions");
+    let mut repository = Repository::new("versions");
     let checksums = format!("{ABC}  libcommonware.a\n");
-    let number = |part: &str| part.parse::<u32>().expect("a number");
-    let major = number(env!("CARGO_PKG_VERSION_MAJOR"));
-    let minor = number(env!("CARGO_PKG_VERSION_MINOR"));
-    for later in [minor, minor + 1, minor + 10] {
-        repository.write_version(&format!("{major}.{later}.0"), &checksums);
+    // The crate is version 3.4 to the script, so that there is an earlier minor version.
+    let variables = [
+        ("CARGO_PKG_VERSION_MAJOR", "3".into()),
+        ("CARGO_PKG_VERSION_MINOR", "4".into()),
+    ];
+    repository.variables.extend(variables);
+    for later in ["3.4.0", "3.5.0", "3.14.0"] {
+        repository.write_version(later, &checksums);
         assert_eq!(repository.told(), repository.linked(), "{later}");
     }
-    let others = [
-        format!("{major}.{}.9", minor - 1),
-        format!("{}.{minor}.0", major + 1),
-        format!("{}.{minor}.0", major - 1),
-        format!("{major}"),
-        format!("{major}.x.0"),
-    ];
-    let taken = format!("version {major}.{minor} or a later one of {major}");
-    for version in others {
-        repository.write_version(&version, &checksums);
-        repository.is_refused(&[&format!("version {version}, "), &taken]);
+    for version in ["3.3.9", "4.4.0", "2.4.0", "3", "3.x.0"] {
+        repository.write_version(version, &checksums);
+        let taken = "version 3.4 or a later one of 3";
+        repository.is_refused(&[&format!("version {version}, "), taken]);
     }
 }
 

@@ -246,7 +246,7 @@ async function tryReading(tab) {
 
 async function tryPage(browser, url, what) {
     const tab = await browser.open(url);
-    await expect(tab, `${what}: it loads the module`, "status", "The module is loaded: version 1.1.0");
+    await expect(tab, `${what}: it loads the module`, "status", "The module is loaded: version 2.0.0");
     await tryExamples(tab);
     await tryKeyboard(tab);
     await tryFiles(tab);

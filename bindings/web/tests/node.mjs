@@ -53,7 +53,7 @@ function tryArguments(commonware) {
     refused("half a key", () => commonware.encodeSet(2, new Uint8Array(3)), "NotWhole", "1 bytes after the last whole item");
     refused("k below 2", () => commonware.quorum(1, 4), "NoModel", "k is below 2");
     refused("no members", () => commonware.quorum(3, 0), "NoMembers", "no members");
-    note(commonware.version === "1.1.0", "the version", commonware.version);
+    note(commonware.version === "2.0.0", "the version", commonware.version);
     note(commonware.indexOfMember([], new Uint8Array(31)) === null, "a key of another size is no member");
     const { name, which } = (() => {
         try {
@@ -167,16 +167,16 @@ function versioned(number) {
 
 /** Modules of other versions. */
 async function tryVersions() {
-    for (const [number, version] of [[2003004, "2.3.4"], [999999, "0.999.999"], [10000000, "10.0.0"]]) {
+    for (const [number, version] of [[3004005, "3.4.5"], [1999999, "1.999.999"], [20000000, "20.0.0"]]) {
         const said = await module.load(versioned(number)).catch((error) => error);
-        note(said.name === "OtherVersion" && said.version === version && said.needed === 1, `a module of version ${version} is refused`, said);
-        const words = `The module is version ${version} of the library: this package needs version 1.`;
+        note(said.name === "OtherVersion" && said.version === version && said.needed === 2, `a module of version ${version} is refused`, said);
+        const words = `The module is version ${version} of the library: this package needs version 2.`;
         note(said.message === words, `version ${version} is said in a sentence`, said.message);
     }
-    const made = new WebAssembly.Module(versioned(2003004));
-    refused("a module of another version that is compiled", () => new module.Commonware(made), "OtherVersion", "2.3.4");
-    const later = await module.load(versioned(1999999)).catch((error) => error);
-    note(later.version === "1.999.999", "a module of a later minor version is loaded", later);
+    const made = new WebAssembly.Module(versioned(3004005));
+    refused("a module of another version that is compiled", () => new module.Commonware(made), "OtherVersion", "3.4.5");
+    const later = await module.load(versioned(2999999)).catch((error) => error);
+    note(later.version === "2.999.999", "a module of a later minor version is loaded", later);
 }
 
 /** Errors that no byte of an input is to blame for. */

@@ -12,7 +12,7 @@ ghost use Rattle.commonware_c.specs.Version.{version_number};
 /// ```
 #[unsafe(no_mangle)]
 pub extern "C" fn commonware_version() -> u32
-    ensures version { result ≡ version_number 1 1 0 }
+    ensures version { result ≡ version_number 2 0 0 }
 {
-    1_001_000
+    2_000_000
 }

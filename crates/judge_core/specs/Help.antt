@@ -35,4 +35,4 @@ help_text = flat_map (λ line. line ++ (10 ∷ [])) help_lines
 
 -- the line on the version
 abbrev pub version_text : List ℕ
-version_text = codes "judge 1.1.0" ++ (10 ∷ [])
+version_text = codes "judge 2.0.0" ++ (10 ∷ [])

@@ -34,7 +34,7 @@ weighted-equivocation MODEL WEIGHTS BYTES BYTES  the same, for different decisio
 ";
 
 /// What `--version` says.
-const VERSION: &str = "judge 1.1.0\n";
+const VERSION: &str = "judge 2.0.0\n";
 
 /// Writes what words and what lines the program takes, and flushes.
 pub fn say_help<W: Write>(output: &mut Watched<W>) -> Result<(), Failure>

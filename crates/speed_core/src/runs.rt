@@ -20,7 +20,7 @@ speed --version     says the version
 ";
 
 /// What `--version` says.
-const VERSION: &str = "speed 1.1.0\n";
+const VERSION: &str = "speed 2.0.0\n";
 
 /// Does what the command asks for.
 pub(crate) fn run<T: Timer, C: Clock + Drop, W: Write + Drop>(

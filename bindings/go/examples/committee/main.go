@@ -5,7 +5,7 @@ import (
 	"fmt"
 	"log"
 
-	"commonware.example/commonware"
+	"commonware.example/commonware/v2"
 )
 
 func run() error {

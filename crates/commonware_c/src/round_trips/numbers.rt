@@ -14,10 +14,10 @@ use crate::weighted_checks::{WeightedCheckView, commonware_weighted_check};
 use crate::weights::commonware_weights_quorum;
 
 /// Whether a program that was compiled for this version may call the library, which is so for each
-/// version with the major version 1.
+/// version with the major version 2.
 fn may_call(compiled: u32) -> bool
     ensures { (major minor patch : ℕ) → minor < 1000 → patch < 1000
-        → compiled ≡ version_number major minor patch → IsTrue result ↔ (major ≡ 1) }
+        → compiled ≡ version_number major minor patch → IsTrue result ↔ (major ≡ 2) }
 {
     compiled / 1_000_000 == commonware_version() / 1_000_000
 }
@@ -62,8 +62,8 @@ fn certificate_there_and_weighed(
 /// the weights 40, 30, 20 and 10 the first two weigh a quorum, and the last three don't.
 #[test]
 fn numbers_decide(rt: HostRuntime) {
-    assert!(rt; may_call(1_001_000) && may_call(1_999_999));
-    assert!(rt; !may_call(999_999) && !may_call(2_000_000));
+    assert!(rt; may_call(2_000_000) && may_call(2_999_999));
+    assert!(rt; !may_call(1_999_999) && !may_call(3_000_000));
     assert!(rt; outlasts_faults(3, 4, 3) && !outlasts_faults(3, 4, 2));
     assert!(rt; outlasts_faults(5, 7, 3) && !outlasts_faults(5, 7, 2));
     let weights = [40, 30, 20, 10];
