@@ -23,15 +23,15 @@ func TestNegativeNumbers(t *testing.T) {
 		"ReadSet least":         func(n int) error { _, _, err := ReadSet(1, nil, n, 1); return err },
 		"ReadSet most":          func(n int) error { _, _, err := ReadSet(1, nil, 0, n); return err },
 		"DecodeSet":             func(n int) error { _, err := DecodeSet(n, nil); return err },
-		"EncodeSet":             func(n int) error { _, err := EncodeSet(n, nil); return err },
+		"EncodeSetDedup":        func(n int) error { _, err := EncodeSetDedup(n, nil); return err },
 		"ReadCommittee least":   func(n int) error { _, _, err := ReadCommittee(nil, n, 1); return err },
 		"ReadCommittee most":    func(n int) error { _, _, err := ReadCommittee(nil, 0, n); return err },
 		"ReadMap keys":          func(n int) error { _, _, err := ReadMap(n, 1, nil, 0, 1); return err },
 		"ReadMap values":        func(n int) error { _, _, err := ReadMap(1, n, nil, 0, 1); return err },
 		"ReadBiMap keys":        func(n int) error { _, _, err := ReadBiMap(n, 1, nil, 0, 1); return err },
 		"ReadBiMap least":       func(n int) error { _, _, err := ReadBiMap(1, 1, nil, n, 1); return err },
-		"EncodeMap keys":        func(n int) error { _, err := EncodeMap(n, 1, nil); return err },
-		"EncodeUniqueMap":       func(n int) error { _, err := EncodeUniqueMap(1, n, nil); return err },
+		"EncodeMapDedup keys":   func(n int) error { _, err := EncodeMapDedup(n, 1, nil); return err },
+		"EncodeMap":             func(n int) error { _, err := EncodeMap(1, n, nil); return err },
 		"ReadCertificate bytes": func(n int) error { _, _, err := ReadCertificate(nil, n, 1); return err },
 		"ReadCertificate most":  func(n int) error { _, _, err := ReadCertificate(nil, 1, n); return err },
 	}
@@ -54,7 +54,7 @@ func TestSizesAtTheEdges(t *testing.T) {
 		}
 		_, err = DecodeBiMap(1, size, []byte{1, 7, 1, 8})
 		same(t, err, ErrEndOfInput)
-		_, err = EncodeUniqueMap(size, size, []byte("abc"))
+		_, err = EncodeMap(size, size, []byte("abc"))
 		same(t, err, NotWholeError{Count: 3})
 	}
 	set, err := DecodeSet(0, []byte{1})
@@ -64,7 +64,7 @@ func TestSizesAtTheEdges(t *testing.T) {
 	same(t, []interface{}{set.Contains(nil), err}, []interface{}{false, nil})
 	_, err = DecodeSet(0, []byte{255, 255, 255, 255, 15})
 	same(t, err, ErrNotStrict)
-	_, err = EncodeSet(0, nil)
+	_, err = EncodeSetDedup(0, nil)
 	same(t, err, ErrNoSize)
 	_, err = DecodeBiMap(1, 0, []byte{2, 7, 8, 2})
 	same(t, err, RepeatedValueError{First: 0, Second: 1})
@@ -88,20 +88,20 @@ func TestNoInput(t *testing.T) {
 		same(t, err, ErrEndOfInput)
 		_, err = Conflict(N3F1, 4, input, input)
 		same(t, err, CertificateError{Which: 1, Err: ErrEndOfInput})
-		encoded, err := EncodeSet(1, input)
+		encoded, err := EncodeSetDedup(1, input)
 		same(t, []interface{}{encoded, err}, []interface{}{[]byte{0}, nil})
 		value, err := SlotValue(input, input)
 		same(t, []interface{}{value, err}, []interface{}{[]byte{0}, nil})
 	}
-	encoded, err := Certificate{}.Encode()
+	encoded, err := EncodeCertificate(nil, nil)
 	same(t, []interface{}{encoded, err}, []interface{}{[]byte{0, 0}, nil})
-	committee, err := NewCommittee(nil)
+	committee, err := NewCommitteeDedup(nil)
 	same(t, []interface{}{committee.Len(), len(committee.Members()), err}, []interface{}{0, 0, nil})
 	_, err = committee.Quorum(N3F1)
 	same(t, err, ErrNoMembers)
 	var none Set
 	same(t, none.Contains(nil) || Committee{}.Contains(Member{}) || none.Len() > 0, false)
-	_, isThere := BiMap{}.KeyOf(nil)
+	_, isThere := BiMap{}.GetKey(nil)
 	same(t, isThere, false)
 }
 
@@ -130,17 +130,17 @@ func TestResultsHaveNoRoom(t *testing.T) {
 		results[name] = result
 	}
 	key, signers := Member{7}, []uint32{1, 200}
-	encoded, err := EncodeCommittee([]Member{key, key, key})
-	written("EncodeCommittee", encoded, err)
+	encoded, err := EncodeCommitteeDedup([]Member{key, key, key})
+	written("EncodeCommitteeDedup", encoded, err)
 	for name, keys := range map[string]string{"no": "", "one": "a", "two": "ab", "one of many": "aaaaaaaaaaaaaaaaaaaa"} {
-		encoded, err = EncodeSet(1, []byte(keys))
-		written("EncodeSet of "+name, encoded, err)
-		encoded, err = EncodeMap(1, 0, []byte(keys))
-		written("EncodeMap of "+name, encoded, err)
+		encoded, err = EncodeSetDedup(1, []byte(keys))
+		written("EncodeSetDedup of "+name, encoded, err)
+		encoded, err = EncodeMapDedup(1, 0, []byte(keys))
+		written("EncodeMapDedup of "+name, encoded, err)
 	}
-	encoded, err = EncodeUniqueMap(1, 1, []byte("b1a2"))
-	written("EncodeUniqueMap", encoded, err)
-	encoded, err = Certificate{[]byte("value"), signers}.Encode()
+	encoded, err = EncodeMap(1, 1, []byte("b1a2"))
+	written("EncodeMap", encoded, err)
+	encoded, err = EncodeCertificate([]byte("value"), signers)
 	written("Encode", encoded, err)
 	encoded, err = SlotValue([]byte("7"), []byte("A"))
 	written("SlotValue", encoded, err)
@@ -171,7 +171,7 @@ func TestAShortResultKeepsNoRoom(t *testing.T) {
 	var before, after runtime.MemStats
 	runtime.GC()
 	runtime.ReadMemStats(&before)
-	encoded, err := EncodeSet(32, keys)
+	encoded, err := EncodeSetDedup(32, keys)
 	same(t, []interface{}{len(encoded), err}, []interface{}{33, nil})
 	runtime.GC()
 	runtime.ReadMemStats(&after)
@@ -208,7 +208,7 @@ func TestViewsAreWhole(t *testing.T) {
 			same(t, found[at].Interface(), wanted[at].Interface(), name)
 		}
 	}
-	key, isThere := bimap.KeyOf([]byte("x"))
+	key, isThere := bimap.GetKey([]byte("x"))
 	same(t, []interface{}{string(key), isThere}, []interface{}{"b", true})
 }
 
@@ -221,7 +221,7 @@ func TestNamesOfFaultModels(t *testing.T) {
 
 func TestIndicesPastTheLast(t *testing.T) {
 	set, _ := DecodeSet(1, []byte("\x02ab"))
-	committee, _ := NewCommittee([]Member{{}})
+	committee, _ := NewCommitteeDedup([]Member{{}})
 	empty, _ := DecodeSet(0, []byte{1})
 	pairs, _ := DecodeMap(1, 0, []byte{2, 7, 8, 2})
 	for _, index := range []int{-1, 2, math.MaxInt} {
@@ -241,7 +241,7 @@ func TestIndicesPastTheLast(t *testing.T) {
 }
 
 func TestErrorsAreFound(t *testing.T) {
-	_, err := Certificate{Signers: []uint32{3, 3}}.Encode()
+	_, err := EncodeCertificate(nil, []uint32{3, 3})
 	same(t, []interface{}{errors.Is(err, ErrNotStrict), err}, []interface{}{true, NotStrictError{Index: 1}})
 	input := []byte{1, 0xaa, 3, 0, 1, 2}
 	_, err = Conflict(N3F1, 4, input, append(input[:6:6], 0))
@@ -264,7 +264,7 @@ func numbered(count int) []byte {
 func TestManyItems(t *testing.T) {
 	const count = 70_000
 	keys := numbered(count)
-	encoded, err := EncodeSet(4, keys)
+	encoded, err := EncodeSetDedup(4, keys)
 	same(t, err, nil)
 	same(t, bytes.Equal(encoded[3:], keys), true)
 	set, err := DecodeSet(4, encoded)
@@ -273,14 +273,14 @@ func TestManyItems(t *testing.T) {
 	same(t, err, nil)
 	signers := make([]uint32, count)
 	for i := range signers {
-		at, isThere := set.IndexOf(keys[4*i : 4*i+4])
+		at, isThere := set.Position(keys[4*i : 4*i+4])
 		same(t, isThere && at == i, true)
-		key, isThere := bimap.KeyOf(keys[4*i : 4*i+4])
+		key, isThere := bimap.GetKey(keys[4*i : 4*i+4])
 		same(t, isThere && bytes.Equal(key, keys[4*i:4*i+4]), true)
 		signers[i] = uint32(5 * i)
 	}
 	value := bytes.Repeat([]byte{7}, 1_000_000)
-	input, err := Certificate{value, signers}.Encode()
+	input, err := EncodeCertificate(value, signers)
 	same(t, err, nil)
 	certificate, err := DecodeCertificate(input)
 	same(t, err, nil)
@@ -289,7 +289,7 @@ func TestManyItems(t *testing.T) {
 }
 
 func TestManyGoroutines(t *testing.T) {
-	encoded, _ := EncodeSet(4, numbered(1000))
+	encoded, _ := EncodeSetDedup(4, numbered(1000))
 	input := append(append([]byte{}, encoded...), encoded...)
 	var group sync.WaitGroup
 	for worker := 0; worker < 8; worker++ {
@@ -298,8 +298,8 @@ func TestManyGoroutines(t *testing.T) {
 			defer group.Done()
 			for i := 0; i < 200; i++ {
 				bimap, err := DecodeBiMap(4, 4, input)
-				key, isThere := bimap.KeyOf(bimap.Value(i))
-				written, _ := EncodeSet(4, bimap.Keys().Bytes())
+				key, isThere := bimap.GetKey(bimap.Value(i))
+				written, _ := EncodeSetDedup(4, bimap.Keys().Bytes())
 				if err != nil || !isThere || !bytes.Equal(key, bimap.Key(i)) || !bytes.Equal(written, encoded) {
 					t.Errorf("%v %v", err, isThere)
 				}
@@ -323,7 +323,7 @@ func TestNoMemoryIsLost(t *testing.T) {
 	}
 	write := func() {
 		for i := 0; i < 50; i++ {
-			if _, err := EncodeUniqueMap(4, 4, numbered(4000)); err != nil {
+			if _, err := EncodeMap(4, 4, numbered(4000)); err != nil {
 				t.Fatal(err)
 			}
 		}

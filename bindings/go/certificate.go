@@ -5,7 +5,7 @@ package commonware
 // A Certificate is a value, and the indices of the members that signed it, strictly increasing. Whether a signature is
 // genuine isn't tested.
 //
-// An index is that of [Committee.IndexOf]: the place in the order of the keys, not that in which they were given.
+// An index is that of [Committee.Position]: the place in the order of the keys, not that in which they were given.
 type Certificate struct {
 	// Value is the bytes that were signed, where the certificate's encoding has them.
 	Value []byte
@@ -48,11 +48,12 @@ func DecodeCertificate(input []byte) (Certificate, error) {
 	return certificate, nil
 }
 
-// Encode encodes the certificate. The errors are [InvalidLengthError] for a value or signers past 4294967295, and
-// [NotStrictError] with the index of the first signer that isn't greater than the one before it.
-func (c Certificate) Encode() ([]byte, error) {
-	room := make([]byte, 10+len(c.Value)+5*len(c.Signers))
-	return written(callCertificateEncode(c.Value, c.Signers, room), room)
+// EncodeCertificate encodes the certificate of a value and of the indices of those that signed it, which are strictly
+// increasing. The errors are [InvalidLengthError] for a value or signers past 4294967295, and [NotStrictError] with the
+// index of the first signer that isn't greater than the one before it.
+func EncodeCertificate(value []byte, signers []uint32) ([]byte, error) {
+	room := make([]byte, 10+len(value)+5*len(signers))
+	return written(callCertificateEncode(value, signers, room), room)
 }
 
 // Slot returns the slot and the decision that the value is, as [SplitValue] does.
@@ -71,7 +72,7 @@ func SlotValue(slot, decision []byte) ([]byte, error) {
 // SplitValue returns the slot and the decision that a value is, and true; or false where it is no decision for a slot.
 func SplitValue(value []byte) (slot, decision []byte, isThere bool) {
 	// The library tells them of certificates that a quorum signed, such as one by a committee of one.
-	input, err := Certificate{value, []uint32{0}}.Encode()
+	input, err := EncodeCertificate(value, []uint32{0})
 	if err != nil {
 		return nil, nil, false
 	}

@@ -14,10 +14,10 @@ type Committee struct {
 	members items
 }
 
-// NewCommittee returns the committee of these keys, which may come in any order and repeat. The errors are those of
-// [EncodeCommittee].
-func NewCommittee(keys []Member) (Committee, error) {
-	bytes, err := EncodeCommittee(keys)
+// NewCommitteeDedup returns the committee of these keys, which may come in any order and repeat. The errors are those
+// of [EncodeCommitteeDedup].
+func NewCommitteeDedup(keys []Member) (Committee, error) {
+	bytes, err := EncodeCommitteeDedup(keys)
 	if err != nil {
 		return Committee{}, err
 	}
@@ -48,9 +48,9 @@ func DecodeCommittee(input []byte) (Committee, error) {
 	return committee, nil
 }
 
-// EncodeCommittee encodes the committee of these keys: sorted, each key once. The keys may come in any order and
+// EncodeCommitteeDedup encodes the committee of these keys: sorted, each key once. The keys may come in any order and
 // repeat. The errors are [InvalidLengthError] where the keys are more than 4294967295, and [ErrOutOfMemory].
-func EncodeCommittee(keys []Member) ([]byte, error) {
+func EncodeCommitteeDedup(keys []Member) ([]byte, error) {
 	room := make([]byte, 5+MemberSize*len(keys))
 	return written(callCommitteeEncodeDedup(flat(keys), room), room)
 }
@@ -72,8 +72,8 @@ func (c Committee) Members() []Member {
 	return all
 }
 
-// IndexOf returns the index of a member and true, or false where there is no such, in O(log n) comparisons.
-func (c Committee) IndexOf(key Member) (int, bool) {
+// Position returns the index of a member and true, or false where there is no such, in O(log n) comparisons.
+func (c Committee) Position(key Member) (int, bool) {
 	place := callCommitteePosition(c.members.bytes, key[:])
 	if place.status != statusOK {
 		return 0, false
@@ -83,7 +83,7 @@ func (c Committee) IndexOf(key Member) (int, bool) {
 
 // Contains tells whether a key is that of a member.
 func (c Committee) Contains(key Member) bool {
-	_, isThere := c.IndexOf(key)
+	_, isThere := c.Position(key)
 	return isThere
 }
 

@@ -12,16 +12,16 @@ import (
 
 func certificate(decision string, signers ...uint32) []byte {
 	value, _ := commonware.SlotValue([]byte("view 7"), []byte(decision))
-	encoded, _ := commonware.Certificate{Value: value, Signers: signers}.Encode()
+	encoded, _ := commonware.EncodeCertificate(value, signers)
 	return encoded
 }
 
 func Example() {
-	committee, err := commonware.NewCommittee([]commonware.Member{{7}, {1}, {3}, {5}})
+	committee, err := commonware.NewCommitteeDedup([]commonware.Member{{7}, {1}, {3}, {5}})
 	if err != nil {
 		panic(err)
 	}
-	index, isThere := committee.IndexOf(commonware.Member{7})
+	index, isThere := committee.Position(commonware.Member{7})
 	quorum, _ := committee.Quorum(commonware.N3F1)
 	fmt.Println(index, isThere, quorum)
 	first, second := certificate("A", 0, 1, 2), certificate("B", 1, 2, 3)
@@ -71,7 +71,7 @@ func ExampleDecodeSet() {
 	// Two keys of 20 bytes, as Ethereum's addresses have.
 	first, second := bytes.Repeat([]byte{0xaa}, 20), bytes.Repeat([]byte{0xbb}, 20)
 	addresses, err := commonware.DecodeSet(20, append(append([]byte{2}, first...), second...))
-	index, isThere := addresses.IndexOf(second)
+	index, isThere := addresses.Position(second)
 	fmt.Println(addresses.Len(), index, isThere, addresses.Contains([]byte("short")), err)
 	_, err = commonware.DecodeSet(1, []byte{2, 7, 7})
 	fmt.Println(errors.Is(err, commonware.ErrNotStrict))
@@ -87,9 +87,9 @@ func ExampleReadSet() {
 }
 
 func ExampleEncodeSet() {
-	encoded, err := commonware.EncodeSet(2, []byte("okamok"))
+	encoded, err := commonware.EncodeSetDedup(2, []byte("okamok"))
 	fmt.Printf("%q %v\n", encoded, err)
-	_, err = commonware.EncodeSet(2, []byte("oka"))
+	_, err = commonware.EncodeSetDedup(2, []byte("oka"))
 	fmt.Println(err)
 	// Output:
 	// "\x02amok" <nil>
@@ -111,10 +111,10 @@ func ExampleMap() {
 	// [] false
 }
 
-func ExampleEncodeUniqueMap() {
-	encoded, _ := commonware.EncodeUniqueMap(1, 2, []byte("bc2ac1"))
+func ExampleEncodeMap() {
+	encoded, _ := commonware.EncodeMap(1, 2, []byte("bc2ac1"))
 	fmt.Printf("%q\n", encoded)
-	_, err := commonware.EncodeUniqueMap(1, 2, []byte("bc2ac1bc3"))
+	_, err := commonware.EncodeMap(1, 2, []byte("bc2ac1bc3"))
 	var repeated commonware.RepeatedKeyError
 	fmt.Println(errors.As(err, &repeated), repeated.Index)
 	// Output:
@@ -124,7 +124,7 @@ func ExampleEncodeUniqueMap() {
 
 func ExampleBiMap() {
 	members, err := commonware.DecodeBiMap(1, 2, []byte("\x02ab\x02idme"))
-	key, isThere := members.KeyOf([]byte("me"))
+	key, isThere := members.GetKey([]byte("me"))
 	fmt.Printf("%q %v %v\n", key, isThere, err)
 	_, err = commonware.DecodeBiMap(1, 2, []byte("\x03abc\x03idmeid"))
 	fmt.Println(err)
@@ -134,9 +134,9 @@ func ExampleBiMap() {
 }
 
 func ExampleCertificate() {
-	encoded, err := commonware.Certificate{Value: []byte("x"), Signers: []uint32{4, 200}}.Encode()
+	encoded, err := commonware.EncodeCertificate([]byte("x"), []uint32{4, 200})
 	fmt.Printf("%q %v\n", encoded, err)
-	_, err = commonware.Certificate{Value: []byte("x"), Signers: []uint32{4, 4}}.Encode()
+	_, err = commonware.EncodeCertificate([]byte("x"), []uint32{4, 4})
 	fmt.Println(err)
 	decoded, err := commonware.DecodeCertificate(encoded)
 	fmt.Printf("%q %d %v\n", decoded.Value, decoded.Signers, err)
@@ -167,24 +167,24 @@ func ExampleConflict() {
 	// true true 2
 }
 
-func ExampleFaultModel_OfWeights() {
-	numbers, err := commonware.N3F1.OfWeights([]uint64{40, 30, 20, 10})
+func ExampleFaultModel_WeightsQuorum() {
+	numbers, err := commonware.N3F1.WeightsQuorum([]uint64{40, 30, 20, 10})
 	fmt.Println(numbers.Total, numbers.MaxFaultyWeight, numbers.QuorumWeight, err)
-	_, err = commonware.N3F1.OfWeights([]uint64{40, 0, 20, 10})
+	_, err = commonware.N3F1.WeightsQuorum([]uint64{40, 0, 20, 10})
 	fmt.Println(err)
 	// Output:
 	// 100 33 67 <nil>
 	// commonware: weight 1 is 0
 }
 
-func ExampleFaultModel_OfWeights_stakes() {
+func ExampleFaultModel_WeightsQuorum_stakes() {
 	// Stakes by key, which come in any order. Weights are in the order of the members.
 	stakes := map[commonware.Member]uint64{{7}: 10, {1}: 40, {5}: 20, {3}: 30}
 	var keys []commonware.Member
 	for key := range stakes {
 		keys = append(keys, key)
 	}
-	committee, err := commonware.NewCommittee(keys)
+	committee, err := commonware.NewCommitteeDedup(keys)
 	if err != nil {
 		panic(err)
 	}
@@ -192,7 +192,7 @@ func ExampleFaultModel_OfWeights_stakes() {
 	for _, member := range committee.Members() {
 		weights = append(weights, stakes[member])
 	}
-	numbers, err := commonware.N3F1.OfWeights(weights)
+	numbers, err := commonware.N3F1.WeightsQuorum(weights)
 	fmt.Println(weights, numbers.QuorumWeight, err)
 	// Output: [40 30 20 10] 67 <nil>
 }

@@ -48,11 +48,11 @@ func DecodeMap(keySize, valueSize int, input []byte) (Map, error) {
 	return pairs, nil
 }
 
-// EncodeMap encodes the map of these pairs in the order of their keys: each is a key of keySize bytes and then its
+// EncodeMapDedup encodes the map of these pairs in the order of their keys: each is a key of keySize bytes and then its
 // value of valueSize, one pair after another. They may come in any order. Of pairs with equal keys the first is
 // written. The errors are [ErrNoSize] where keySize is 0, [NotWholeError], [InvalidLengthError] where the keys are more
 // than 4294967295, [ErrNegative] and [ErrOutOfMemory].
-func EncodeMap(keySize, valueSize int, pairs []byte) ([]byte, error) {
+func EncodeMapDedup(keySize, valueSize int, pairs []byte) ([]byte, error) {
 	if areNegative(keySize, valueSize) {
 		return nil, ErrNegative
 	}
@@ -60,9 +60,9 @@ func EncodeMap(keySize, valueSize int, pairs []byte) ([]byte, error) {
 	return written(callMapEncodeDedup(keySize, valueSize, pairs, room), room)
 }
 
-// EncodeUniqueMap encodes the map of these pairs as [EncodeMap] does, where no key repeats. The errors are
-// [RepeatedKeyError], with the index of the first pair whose key an earlier pair has, and those of EncodeMap.
-func EncodeUniqueMap(keySize, valueSize int, pairs []byte) ([]byte, error) {
+// EncodeMap encodes the map of these pairs as [EncodeMapDedup] does, where no key repeats. The errors are
+// [RepeatedKeyError], with the index of the first pair whose key an earlier pair has, and those of EncodeMapDedup.
+func EncodeMap(keySize, valueSize int, pairs []byte) ([]byte, error) {
 	if areNegative(keySize, valueSize) {
 		return nil, ErrNegative
 	}
@@ -103,7 +103,7 @@ func (m Map) Values() [][]byte {
 // Get returns the value of a key and true, or false where the key isn't there, as one of another size never is, in
 // O(log n) comparisons.
 func (m Map) Get(key []byte) ([]byte, bool) {
-	index, isThere := m.keys.IndexOf(key)
+	index, isThere := m.keys.Position(key)
 	if !isThere {
 		return nil, false
 	}
@@ -111,7 +111,7 @@ func (m Map) Get(key []byte) ([]byte, bool) {
 }
 
 // A BiMap is a map whose values all differ. It has the indices of the pairs in the order of their values, so that a key
-// is found by its value too. [EncodeUniqueMap] writes it. The zero value is a bimap without pairs, of size 0.
+// is found by its value too. [EncodeMap] writes it. The zero value is a bimap without pairs, of size 0.
 type BiMap struct {
 	// No caller may replace the pairs, of which byValue has the order.
 	pairs   Map
@@ -193,9 +193,9 @@ func (m BiMap) Get(key []byte) ([]byte, bool) {
 	return m.pairs.Get(key)
 }
 
-// IndexOfValue returns the index of the pair with a value and true, or false where there is none, in O(log n)
+// PositionOfValue returns the index of the pair with a value and true, or false where there is none, in O(log n)
 // comparisons.
-func (m BiMap) IndexOfValue(value []byte) (int, bool) {
+func (m BiMap) PositionOfValue(value []byte) (int, bool) {
 	at := sort.Search(len(m.byValue), func(i int) bool {
 		return bytes.Compare(m.Value(int(m.byValue[i])), value) >= 0
 	})
@@ -205,9 +205,9 @@ func (m BiMap) IndexOfValue(value []byte) (int, bool) {
 	return int(m.byValue[at]), true
 }
 
-// KeyOf returns the key of a value and true, or false where the value isn't there, in O(log n) comparisons.
-func (m BiMap) KeyOf(value []byte) ([]byte, bool) {
-	index, isThere := m.IndexOfValue(value)
+// GetKey returns the key of a value and true, or false where the value isn't there, in O(log n) comparisons.
+func (m BiMap) GetKey(value []byte) ([]byte, bool) {
+	index, isThere := m.PositionOfValue(value)
 	if !isThere {
 		return nil, false
 	}

@@ -248,7 +248,7 @@ func TestCommitteesAreReadAndWritten(t *testing.T) {
 			for index, member := range committee.Members() {
 				same(t, member[:], read[index], input)
 				same(t, committee.Member(index), member, input)
-				at, isThere := committee.IndexOf(member)
+				at, isThere := committee.Position(member)
 				same(t, isThere && at == index && committee.Contains(member), true, input)
 			}
 			same(t, committee.Contains(Member{0: 9}), false)
@@ -257,7 +257,7 @@ func TestCommitteesAreReadAndWritten(t *testing.T) {
 		for _, key := range keys {
 			members = append(members, *(*Member)(key))
 		}
-		written, err := EncodeCommittee(members)
+		written, err := EncodeCommitteeDedup(members)
 		plain, _ := plainWriteSet(32, bytes.Join(keys, nil))
 		same(t, err, nil)
 		same(t, written, plain, keys)
@@ -279,7 +279,7 @@ func TestKeysAreFound(t *testing.T) {
 					wanted, found = at, true
 				}
 			}
-			at, isThere := set.IndexOf(key)
+			at, isThere := set.Position(key)
 			same(t, []interface{}{at, isThere, set.Contains(key)}, []interface{}{wanted, found, found}, keys, key)
 			counts[fmt.Sprint(found)]++
 		}
@@ -363,11 +363,11 @@ func TestBiMapsAreRead(t *testing.T) {
 		same(t, len(rest), len(left), sizes, input)
 		isMap(t, pairs.AsMap(), keys, values, sizes, d.keys(d.size()))
 		for index, value := range values {
-			at, isThere := pairs.IndexOfValue(value)
-			key, _ := pairs.KeyOf(value)
+			at, isThere := pairs.PositionOfValue(value)
+			key, _ := pairs.GetKey(value)
 			same(t, isThere && at == index && bytes.Equal(key, keys[index]), true, sizes, input)
 		}
-		_, isThere := pairs.KeyOf([]byte("another value"))
+		_, isThere := pairs.GetKey([]byte("another value"))
 		same(t, isThere, false)
 	}
 	counts.assertEach(t, 6, cases(t)/200)
@@ -384,15 +384,15 @@ func TestSetsAndMapsAreWritten(t *testing.T) {
 		}
 		over := d.bytes(d.of(0, 0, 0, 1, 3))
 		keys, pairs = append(keys, over...), append(pairs, over...)
-		got, err := EncodeSet(keySize, keys)
+		got, err := EncodeSetDedup(keySize, keys)
 		wanted, wantedErr := plainWriteSet(keySize, keys)
 		same(t, err, wantedErr, keySize, keys)
 		same(t, got, wanted, keySize, keys)
-		got, err = EncodeMap(keySize, valueSize, pairs)
+		got, err = EncodeMapDedup(keySize, valueSize, pairs)
 		wanted, wantedErr = plainWriteMap(keySize, valueSize, pairs, false)
 		same(t, err, wantedErr, keySize, valueSize, pairs)
 		same(t, got, wanted, keySize, valueSize, pairs)
-		got, err = EncodeUniqueMap(keySize, valueSize, pairs)
+		got, err = EncodeMap(keySize, valueSize, pairs)
 		wanted, wantedErr = plainWriteMap(keySize, valueSize, pairs, true)
 		same(t, err, wantedErr, keySize, valueSize, pairs)
 		same(t, got, wanted, keySize, valueSize, pairs)
@@ -425,7 +425,7 @@ func TestCertificatesAreReadAndWritten(t *testing.T) {
 			same(t, isThere, wantedThere, read)
 			same(t, bytes.Equal(slot, wantedSlot) && bytes.Equal(decision, wantedDecision), true, read)
 		}
-		written, err := Certificate{value, signers}.Encode()
+		written, err := EncodeCertificate(value, signers)
 		plain, plainErr := plainWriteCertificate(value, signers)
 		same(t, err, plainErr, signers)
 		same(t, written, plain, value, signers)

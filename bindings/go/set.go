@@ -90,10 +90,10 @@ func DecodeSet(size int, input []byte) (Set, error) {
 	return set, nil
 }
 
-// EncodeSet encodes the set of keys of size bytes, one after another: sorted, each key once. The keys may come in any
-// order and repeat. The errors are [ErrNoSize] where the size is 0, [NotWholeError], [InvalidLengthError] where the
+// EncodeSetDedup encodes the set of keys of size bytes, one after another: sorted, each key once. The keys may come in
+// any order and repeat. The errors are [ErrNoSize] where the size is 0, [NotWholeError], [InvalidLengthError] where the
 // keys are more than 4294967295, [ErrNegative] and [ErrOutOfMemory].
-func EncodeSet(size int, keys []byte) ([]byte, error) {
+func EncodeSetDedup(size int, keys []byte) ([]byte, error) {
 	if size < 0 {
 		return nil, ErrNegative
 	}
@@ -126,9 +126,9 @@ func (s Set) Keys() [][]byte {
 	return s.keys.all()
 }
 
-// IndexOf returns the index of a key and true, or false where it isn't there, as one of another size never is, in
+// Position returns the index of a key and true, or false where it isn't there, as one of another size never is, in
 // O(log n) comparisons.
-func (s Set) IndexOf(key []byte) (int, bool) {
+func (s Set) Position(key []byte) (int, bool) {
 	if len(key) != s.Size() {
 		return 0, false
 	}
@@ -144,6 +144,6 @@ func (s Set) IndexOf(key []byte) (int, bool) {
 
 // Contains tells whether a key is there.
 func (s Set) Contains(key []byte) bool {
-	_, isThere := s.IndexOf(key)
+	_, isThere := s.Position(key)
 	return isThere
 }

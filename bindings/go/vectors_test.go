@@ -214,7 +214,7 @@ func TestVectorsOfSets(t *testing.T) {
 			return nil, errSkipped
 		}
 		set, err := DecodeSet(size, asked.Set)
-		index, isThere := set.IndexOf(asked.Item)
+		index, isThere := set.Position(asked.Item)
 		if !isThere {
 			return answer{"position": nil}, err
 		}
@@ -269,13 +269,13 @@ func TestVectorsOfBuilders(t *testing.T) {
 		size := asked.sizesOf()[0]
 		count, rest, err := plainVarint(asked.Listed)
 		if err == nil && size > 0 && strings.HasPrefix(asked.Type, "set") && len(rest) == size*count {
-			written, err := EncodeSet(size, rest)
+			written, err := EncodeSetDedup(size, rest)
 			return answer{"built": hexBytes(written)}, err
 		}
-		return built(asked, EncodeMap)
+		return built(asked, EncodeMapDedup)
 	})
 	areAnswered(t, "build_unique", 10, func(asked question) (answer, error) {
-		return built(asked, EncodeUniqueMap)
+		return built(asked, EncodeMap)
 	})
 }
 
@@ -341,7 +341,7 @@ func TestVectorsOfWeights(t *testing.T) {
 		if err != nil {
 			return nil, err
 		}
-		numbers, err := modelOf(asked.Model).OfWeights(weights)
+		numbers, err := modelOf(asked.Model).WeightsQuorum(weights)
 		return answer{
 			"totalWeight": text(numbers.Total), "toleratedWeight": text(numbers.MaxFaultyWeight),
 			"quorumWeight": text(numbers.QuorumWeight), "mQuorumWeight": text(numbers.SmallerQuorumWeight),

@@ -15,17 +15,17 @@ type WeightNumbers struct {
 	SmallerQuorumWeight uint64
 }
 
-// OfWeights returns what the weights of a committee's members come to in a model, as their stake or voting power: the
-// weight at an index is that of the member there. There are 1 to 4294967295 of them, each is positive, and their sum
-// fits 64 bits. The f of it is the greatest number that is safe for all weights of their total: for which any two
+// WeightsQuorum returns what the weights of a committee's members come to in a model, as their stake or voting power:
+// the weight at an index is that of the member there. There are 1 to 4294967295 of them, each is positive, and their
+// sum fits 64 bits. The f of it is the greatest number that is safe for all weights of their total: for which any two
 // subsets that weigh all but f share members that weigh at least (k - 2)f + 1.
 //
-// An index is that of [Committee.IndexOf]: the place in the order of the keys, not that in which they were given.
+// An index is that of [Committee.Position]: the place in the order of the keys, not that in which they were given.
 // Weights in another order would accuse the wrong members, and no call can tell.
 //
 // Else the error is the first of these: [ErrNoModel], [ErrNoMembers] where there are no weights, [InvalidLengthError]
 // where they are more than 4294967295, and [ZeroWeightError] or [WeightOverflowError], whose index comes first.
-func (k FaultModel) OfWeights(weights []uint64) (WeightNumbers, error) {
+func (k FaultModel) WeightsQuorum(weights []uint64) (WeightNumbers, error) {
 	view := callWeightsQuorum(uint32(k), weights)
 	if err := errorOf(view.status, view.number); err != nil {
 		return WeightNumbers{}, err
@@ -48,7 +48,7 @@ type WeightedChecked struct {
 //
 // Warning: no signature is looked at. Whoever doesn't verify them knows nothing of who signed.
 //
-// Else the error is the first of these: one of [FaultModel.OfWeights], a fault of the input ([ErrEndOfInput],
+// Else the error is the first of these: one of [FaultModel.WeightsQuorum], a fault of the input ([ErrEndOfInput],
 // [ErrInvalidVarint], [ErrNotStrict], [LeftOverError]), [ErrOutside], [ErrTooLight].
 func WeightedCheck(model FaultModel, weights []uint64, input []byte) (WeightedChecked, error) {
 	view := callWeightedCheck(uint32(model), weights, input)
@@ -84,7 +84,7 @@ type Named struct {
 //
 // Warning: no signature is looked at. Whoever doesn't verify them first may accuse an innocent member.
 //
-// Else the error is the first of these: one of [FaultModel.OfWeights], a fault of the first input ([ErrEndOfInput],
+// Else the error is the first of these: one of [FaultModel.WeightsQuorum], a fault of the first input ([ErrEndOfInput],
 // [ErrInvalidVarint], [ErrNotStrict], [LeftOverError]), one of the second, [ErrSameValue], [ErrOutside] of the first,
 // of the second, [ErrTooLight] of the first, of the second. One that is about the first or the second is in a
 // [CertificateError].
@@ -98,10 +98,10 @@ func WeightedConflict(model FaultModel, weights []uint64, first, second []byte) 
 //
 // Warning: no signature is looked at. Whoever doesn't verify them first may accuse an innocent member.
 //
-// Else the error is the first of these: one of [FaultModel.OfWeights], a fault of the first input, one of the second,
-// [ErrNoSlot] of the first value, of the second, [ErrOtherSlot], [ErrSameValue] for one decision, [ErrOutside] of the
-// first, of the second, [ErrTooLight] of the first, of the second. One that is about the first or the second is in a
-// [CertificateError].
+// Else the error is the first of these: one of [FaultModel.WeightsQuorum], a fault of the first input, one of the
+// second, [ErrNoSlot] of the first value, of the second, [ErrOtherSlot], [ErrSameValue] for one decision, [ErrOutside]
+// of the first, of the second, [ErrTooLight] of the first, of the second. One that is about the first or the second is
+// in a [CertificateError].
 func WeightedEquivocation(model FaultModel, weights []uint64, first, second []byte) (Named, error) {
 	return namedByWeight(callWeightedEquivocation, model, weights, first, second)
 }

@@ -183,7 +183,7 @@ func TestNumbersOfWeights(t *testing.T) {
 	for i := 0; i < cases(t); i++ {
 		k, weights := d.Uint32()>>d.Intn(32), d.weights()
 		wanted, wantedErr := plainNumbers(k, weights)
-		numbers, err := FaultModel(k).OfWeights(weights)
+		numbers, err := FaultModel(k).WeightsQuorum(weights)
 		counts[weightName(err)]++
 		same(t, []interface{}{numbers, err}, []interface{}{wanted, wantedErr}, k, weights)
 	}
@@ -256,15 +256,15 @@ func TestSumsAtTheEdgesOfSixtyFourBits(t *testing.T) {
 		{[]uint64{most, 1, 0}, 0, WeightOverflowError{Index: 1}},
 		{[]uint64{most, 0, 1}, 0, ZeroWeightError{Index: 1}},
 	} {
-		numbers, err := N3F1.OfWeights(row.weights)
+		numbers, err := N3F1.WeightsQuorum(row.weights)
 		same(t, []interface{}{numbers.Total, err}, []interface{}{row.total, row.err}, row.weights)
-		_, err = FaultModel(1).OfWeights(row.weights)
+		_, err = FaultModel(1).WeightsQuorum(row.weights)
 		same(t, err, ErrNoModel, row.weights)
 	}
-	numbers, err := N3F1.OfWeights([]uint64{most})
+	numbers, err := N3F1.WeightsQuorum([]uint64{most})
 	same(t, err, nil)
 	same(t, numbers, WeightNumbers{most, 6148914691236517204, 12297829382473034411, 12297829382473034409})
-	numbers, err = FaultModel(math.MaxUint32).OfWeights([]uint64{1 << 53})
+	numbers, err = FaultModel(math.MaxUint32).WeightsQuorum([]uint64{1 << 53})
 	same(t, err, nil)
 	same(t, numbers, WeightNumbers{1 << 53, 2097152, 9007199252643840, 4194305})
 	text := WeightOverflowError{Index: 7}.Error()

@@ -98,35 +98,35 @@ export class Commonware {
     decodeCommittee(input: Uint8Array, limits?: Limits): Uint8Array[];
     /** The members may come in any order and repeat. Throws WrongSize for the first of another size, and NotWhole for
      * bytes after the last whole member. */
-    encodeCommittee(members: Items): Uint8Array;
+    encodeCommitteeDedup(members: Items): Uint8Array;
     /** The members have to be in order, as decodeCommittee returns them. Null where the key is none of them, as one of
-     * another size than theirs never is. Throws WrongSize and NotWhole as encodeCommittee does. */
-    indexOfMember(members: Items, key: Uint8Array): number | null;
+     * another size than theirs never is. Throws WrongSize and NotWhole as encodeCommitteeDedup does. */
+    positionInCommittee(members: Items, key: Uint8Array): number | null;
     readSet(size: number, input: Uint8Array, limits?: Limits): Keys & Left;
     decodeSet(size: number, input: Uint8Array, limits?: Limits): Uint8Array[];
-    encodeSet(size: number, keys: Items): Uint8Array;
+    encodeSetDedup(size: number, keys: Items): Uint8Array;
     /** The keys have to be in order, as decodeSet returns them. Null where the key isn't there, as one of another size
      * than theirs never is. Throws WrongSize for one of them that has another size than the first. Where they are bytes
      * one after another, they are taken as keys of the size of the key: NotWhole where they are none, and NoSize where
      * the key has no bytes. */
-    indexOfKey(keys: Items, key: Uint8Array): number | null;
+    positionInSet(keys: Items, key: Uint8Array): number | null;
     readMap(keySize: number, valueSize: number, input: Uint8Array, limits?: Limits): Pairing & Left;
     decodeMap(keySize: number, valueSize: number, input: Uint8Array, limits?: Limits): Pairing;
     /** Throws WrongSize for the first key or value of another size. */
+    encodeMapDedup(keySize: number, valueSize: number, pairs: Pairs): Uint8Array;
     encodeMap(keySize: number, valueSize: number, pairs: Pairs): Uint8Array;
-    encodeUniqueMap(keySize: number, valueSize: number, pairs: Pairs): Uint8Array;
     readBiMap(keySize: number, valueSize: number, input: Uint8Array, limits?: Limits): BiMap & Left;
     decodeBiMap(keySize: number, valueSize: number, input: Uint8Array, limits?: Limits): BiMap;
     readCertificate(input: Uint8Array, limits?: CertificateLimits): Certificate & Left;
     decodeCertificate(input: Uint8Array, limits?: CertificateLimits): Certificate;
     encodeCertificate(value: Uint8Array, signers: Iterable<number>): Uint8Array;
-    encodeValue(slot: Uint8Array, decision: Uint8Array): Uint8Array;
-    checkQuorum(k: number, members: number, certificate: Uint8Array): Checked;
+    slotValue(slot: Uint8Array, decision: Uint8Array): Uint8Array;
+    check(k: number, members: number, certificate: Uint8Array): Checked;
     conflict(k: number, members: number, first: Uint8Array, second: Uint8Array): number[];
     equivocation(k: number, members: number, first: Uint8Array, second: Uint8Array): number[];
     /** Here and below a weight is that of the member at its index, which is a place in the order of the keys. */
-    weightNumbers(k: number, weights: Iterable<Wide>): WeightNumbers;
-    checkWeightedQuorum(k: number, weights: Iterable<Wide>, certificate: Uint8Array): WeightedChecked;
+    weightsQuorum(k: number, weights: Iterable<Wide>): WeightNumbers;
+    weightedCheck(k: number, weights: Iterable<Wide>, certificate: Uint8Array): WeightedChecked;
     weightedConflict(k: number, weights: Iterable<Wide>, first: Uint8Array, second: Uint8Array): Named;
     weightedEquivocation(k: number, weights: Iterable<Wide>, first: Uint8Array, second: Uint8Array): Named;
 }

@@ -187,14 +187,14 @@ export class Commonware {
     }
 
     /** Encodes the committee of these members, which may come in any order and repeat. */
-    encodeCommittee(members) {
+    encodeCommitteeDedup(members) {
         const list = membersOf(members);
         return this.#written("committee_encode_dedup", [list], 5 + list.bytes.length);
     }
 
     /** Returns the index of a member, or null where the key is none, as one of another size never is. The members have
      * to be in order, as decodeCommittee returns them: else null says nothing. */
-    indexOfMember(members, key) {
+    positionInCommittee(members, key) {
         const list = membersOf(members);
         const sought = bytesOf("key", key);
         if (sought.length !== MEMBER_SIZE) {
@@ -220,7 +220,7 @@ export class Commonware {
     }
 
     /** Encodes the set of these keys of `size` bytes, which may come in any order and repeat. */
-    encodeSet(size, keys) {
+    encodeSetDedup(size, keys) {
         const args = [sizeOf("size", size), joined("a key", keys, size)];
         return this.#written("set_encode_dedup", args, 5 + args[1].length);
     }
@@ -229,7 +229,7 @@ export class Commonware {
      * is. The keys have to be in order, as decodeSet returns them: else null says nothing. Where they are bytes one
      * after another, nothing but the key tells their size: NotWhole where they aren't whole keys of its size, NoSize
      * where it has no bytes. */
-    indexOfKey(keys, key) {
+    positionInSet(keys, key) {
         const sought = bytesOf("key", key);
         const list = isBytes(keys) ? null : Array.from(keys);
         const size = list && list.length > 0 ? bytesOf("a key", list[0]).length : sought.length;
@@ -259,12 +259,12 @@ export class Commonware {
     }
 
     /** Encodes the map of these pairs, `[key, value]` each, in any order. Of pairs with equal keys the first stays. */
-    encodeMap(keySize, valueSize, pairs) {
+    encodeMapDedup(keySize, valueSize, pairs) {
         return this.#map("map_encode_dedup", keySize, valueSize, pairs);
     }
 
     /** Encodes the map of these pairs, no two of which may have one key: RepeatedKey where two do. */
-    encodeUniqueMap(keySize, valueSize, pairs) {
+    encodeMap(keySize, valueSize, pairs) {
         return this.#map("map_encode", keySize, valueSize, pairs);
     }
 
@@ -320,14 +320,14 @@ export class Commonware {
 
     /** Encodes the value that a decision for a slot is. A slot is what an honest member signs at most once: chain,
      * committee, height, round and kind of vote, say. Members sign this value. */
-    encodeValue(slot, decision) {
+    slotValue(slot, decision) {
         const parts = [bytesOf("slot", slot), bytesOf("decision", decision)];
         return this.#plain("slot_value", parts, 5 + parts[0].length + parts[1].length);
     }
 
     /** Judges whether a quorum of a committee of `members` signed a certificate: returns how many signed, the value,
      * and its slot and decision, which are null where it has none. No signature is looked at. */
-    checkQuorum(k, members, certificate) {
+    check(k, members, certificate) {
         const bytes = bytesOf("certificate", certificate);
         const args = [numberOf("k", k), numberOf("members", members), bytes];
         return checkedOf(bytes, checked(this.#native.call("check", args)));
@@ -346,15 +346,15 @@ export class Commonware {
 
     /** What the weights of a committee allow, as bigints: what all weigh, what may be faulty, a quorum, and the least
      * weight whose subsets share one more than may be faulty with each quorum. */
-    weightNumbers(k, weights) {
+    weightsQuorum(k, weights) {
         const args = [numberOf("k", k), weightsOf(weights)];
         const view = checked(this.#native.call("weights_quorum", args));
         const { total, tolerated, quorum, smallerQuorum } = view;
         return { total, tolerated, quorum, smallerQuorum };
     }
 
-    /** Judges whether members who weigh a quorum signed a certificate: what checkQuorum returns, and their weight. */
-    checkWeightedQuorum(k, weights, certificate) {
+    /** Judges whether members who weigh a quorum signed a certificate: what check returns, and their weight. */
+    weightedCheck(k, weights, certificate) {
         const bytes = bytesOf("certificate", certificate);
         const args = [numberOf("k", k), weightsOf(weights), bytes];
         const view = checked(this.#native.call("weighted_check", args));

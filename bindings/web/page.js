@@ -323,7 +323,7 @@ class Page {
     checked(weights, bytes) {
         const { k, n } = this.model();
         try {
-            return { found: weights ? this.commonware.checkWeightedQuorum(k, weights, bytes) : this.commonware.checkQuorum(k, n, bytes) };
+            return { found: weights ? this.commonware.weightedCheck(k, weights, bytes) : this.commonware.check(k, n, bytes) };
         } catch (error) {
             return { error };
         }
@@ -359,7 +359,7 @@ class Page {
             return weights ? found : { both: found };
         };
         const least = weights
-            ? `weigh at least ${BigInt(k - 2) * this.commonware.weightNumbers(k, weights).tolerated + 1n}`
+            ? `weigh at least ${BigInt(k - 2) * this.commonware.weightsQuorum(k, weights).tolerated + 1n}`
             : `are at least ${(k - 2) * this.commonware.maxFaults(k, members) + 1}`;
         const named = ({ both, weight }) => `${both.length === 1 ? "Member" : "Members"} ${both.join(", ")}${weights ? `, who weigh ${weight},` : ""}`;
         const rest = k >= 3
@@ -387,7 +387,7 @@ class Page {
         const { k } = this.model();
         try {
             const weights = parsedWeights($("weights").value);
-            const { total, tolerated, quorum, smallerQuorum } = this.commonware.weightNumbers(k, weights);
+            const { total, tolerated, quorum, smallerQuorum } = this.commonware.weightsQuorum(k, weights);
             show($("weight-numbers"), "good", `All weigh ${total}; at most ${tolerated} may be faulty, ${quorum} is a quorum, and ${smallerQuorum} is enough to share more than ${tolerated} with every quorum.`);
             $("bars").append(barsOf(weights, { total, tolerated, quorum }, table, made));
         } catch (error) {

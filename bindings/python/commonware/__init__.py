@@ -7,8 +7,8 @@ decided here, but that a key of another size than the keys of a set isn't there,
 This package itself isn't proved, but tested.
 
 >>> from commonware import N3F1, Certificate, Committee, check, equivocation, slot_value
->>> committee = Committee.from_keys([bytes([i]) * 32 for i in (7, 1, 3, 5)])
->>> committee.index_of(32 * b"\7"), committee.quorum(N3F1)
+>>> committee = Committee.from_keys_dedup([bytes([i]) * 32 for i in (7, 1, 3, 5)])
+>>> committee.position(32 * b"\7"), committee.quorum(N3F1)
 (3, 3)
 >>> first = Certificate.encode(slot_value(b"view 7", b"A"), [0, 1, 2])
 >>> second = Certificate.encode(slot_value(b"view 7", b"B"), [1, 2, 3])

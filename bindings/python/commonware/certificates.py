@@ -24,7 +24,7 @@ def _limit_of(name: str, most: Optional[int]) -> int:
 
 class Certificate:
     r"""A value, and the indices of the members that signed it, strictly increasing. Whether a signature is
-    genuine isn't tested. An index is that of `Committee.index_of`: the place in the order of the keys, not that in
+    genuine isn't tested. An index is that of `Committee.position`: the place in the order of the keys, not that in
     which they were given.
 
     >>> from commonware import Certificate, slot_value
@@ -282,7 +282,7 @@ def equivocation(k: int, members: _Members, first: _Given, second: _Given) -> Tu
     the second, `TooFew` of the first, of the second; and `OutOfRange` and `OutOfMemory`.
 
     >>> from commonware import N3F1, Certificate, Committee, equivocation, slot_value
-    >>> committee = Committee.from_keys([bytes([i]) * 32 for i in (7, 1, 3, 5)])
+    >>> committee = Committee.from_keys_dedup([bytes([i]) * 32 for i in (7, 1, 3, 5)])
     >>> first = Certificate.encode(slot_value(b"view 7", b"A"), [0, 1, 2])
     >>> second = Certificate.encode(slot_value(b"view 7", b"B"), [1, 2, 3])
     >>> named = equivocation(N3F1, committee, first, second)

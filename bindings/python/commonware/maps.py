@@ -96,7 +96,7 @@ class _Pairs(Mapping[bytes, bytes]):
         return reversed(self._keys)
 
     def __getitem__(self, key: BytesLike) -> bytes:
-        index = self._keys.index_of(key)
+        index = self._keys.position(key)
         if index is None:
             raise KeyError(key)
         return self._values.item(index)
@@ -200,7 +200,7 @@ class MapView(_Pairs):
         return whole(cls.read(key_size, value_size, data, least, most))
 
     @staticmethod
-    def encode(key_size: int, value_size: int, pairs: _Given) -> bytes:
+    def encode_dedup(key_size: int, value_size: int, pairs: _Given) -> bytes:
         r"""Encodes the map of these pairs in the order of their keys. They are a mapping, or keys and values of
         these sizes in tuples, or all in one: each key and then its value, one pair after another. They may
         come in any order. Of pairs with equal keys the first is written.
@@ -209,19 +209,19 @@ class MapView(_Pairs):
         `NoSize` where the key size is 0, `InvalidLength` where the keys are more than 4294967295, `OutOfRange`
         and `OutOfMemory`.
 
-        >>> MapView.encode(1, 2, {b"b": b"c2", b"a": b"c1"}), MapView.encode(1, 2, b"bc2ac1bc3")
+        >>> MapView.encode_dedup(1, 2, {b"b": b"c2", b"a": b"c1"}), MapView.encode_dedup(1, 2, b"bc2ac1bc3")
         (b'\x02ab\x02c1c2', b'\x02ab\x02c1c2')
         """
         return _encoded(_calls.map_encode_dedup, key_size, value_size, pairs)
 
     @staticmethod
-    def encode_unique(key_size: int, value_size: int, pairs: _Given) -> bytes:
-        r"""Encodes the map of these pairs as `encode` does, where no key repeats.
+    def encode(key_size: int, value_size: int, pairs: _Given) -> bytes:
+        r"""Encodes the map of these pairs as `encode_dedup` does, where no key repeats.
 
-        Raises `RepeatedKey`, with the index of the first pair whose key an earlier pair has, and what `encode`
-        raises.
+        Raises `RepeatedKey`, with the index of the first pair whose key an earlier pair has, and what
+        `encode_dedup` raises.
 
-        >>> MapView.encode_unique(1, 2, [(b"b", b"c2"), (b"a", b"c1"), (b"b", b"c3")])
+        >>> MapView.encode(1, 2, [(b"b", b"c2"), (b"a", b"c1"), (b"b", b"c3")])
         Traceback (most recent call last):
         commonware.errors.RepeatedKey: pair 2 has the key of an earlier one
         """
@@ -231,12 +231,12 @@ class MapView(_Pairs):
 class BiMapView(_Pairs):
     r"""The pairs of a bimap, whose keys are strictly increasing and whose values all differ, where its encoding
     has them. It has the indices of the pairs in the order of their values, so that a key is found by its value
-    too; else all is as with a `MapView`. `MapView.encode_unique` writes it; whether a value repeats is what `decode`
+    too; else all is as with a `MapView`. `MapView.encode` writes it; whether a value repeats is what `decode`
     tells.
 
     >>> from commonware import BiMapView
     >>> members = BiMapView.decode(1, 2, b"\2ab\2idme")
-    >>> members[b"a"], members.key_of(b"me"), members.key_of(b"no")
+    >>> members[b"a"], members.get_key(b"me"), members.get_key(b"no")
     (b'id', b'b', None)
     """
 
@@ -286,10 +286,10 @@ class BiMapView(_Pairs):
         """
         return whole(cls.read(key_size, value_size, data, least, most))
 
-    def index_of_value(self, value: BytesLike) -> Optional[int]:
+    def position_of_value(self, value: BytesLike) -> Optional[int]:
         r"""Returns the index of the pair with a value, or None where there is none, in O(log n) comparisons.
 
-        >>> BiMapView.decode(1, 1, b"\2ab\2yx").index_of_value(b"x")
+        >>> BiMapView.decode(1, 1, b"\2ab\2yx").position_of_value(b"x")
         1
         """
         sought = made(bytes, input_of(value).data)
@@ -304,11 +304,11 @@ class BiMapView(_Pairs):
             return None
         return self._by_value[low]
 
-    def key_of(self, value: BytesLike) -> Optional[bytes]:
+    def get_key(self, value: BytesLike) -> Optional[bytes]:
         r"""Returns the key of a value, or None where the value isn't there, in O(log n) comparisons.
 
-        >>> BiMapView.decode(1, 1, b"\2ab\2yx").key_of(b"x")
+        >>> BiMapView.decode(1, 1, b"\2ab\2yx").get_key(b"x")
         b'b'
         """
-        index = self.index_of_value(value)
+        index = self.position_of_value(value)
         return None if index is None else self._keys[index]

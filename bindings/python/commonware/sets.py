@@ -42,15 +42,15 @@ class _KeySequence(Sequence[bytes]):
         """The bytes of all keys, one after another, as a read-only view. Nothing is copied."""
         return self._items.data[:]
 
-    def index_of(self, key: BytesLike) -> Optional[int]:
+    def position(self, key: BytesLike) -> Optional[int]:
         """Returns the index of a key, or None where it isn't there, as one of another size never is, in
         O(log n) comparisons."""
         raise NotImplementedError
 
     def index(self, value: BytesLike, start: int = 0, stop: Optional[int] = None) -> int:
-        """Returns the index of a key as `index_of` does; raises `ValueError` where it isn't there, or not
+        """Returns the index of a key as `position` does; raises `ValueError` where it isn't there, or not
         from `start` to `stop`."""
-        index = self.index_of(value)
+        index = self.position(value)
         if index is None or index not in range(len(self))[start:stop]:
             raise ValueError("the key isn't there")
         return index
@@ -80,7 +80,7 @@ class _KeySequence(Sequence[bytes]):
         return map(self._items.item, reversed(range(len(self))))
 
     def __contains__(self, key: object) -> bool:
-        return self.index_of(cast(BytesLike, key)) is not None
+        return self.position(cast(BytesLike, key)) is not None
 
     def __eq__(self, other: object) -> bool:
         if not isinstance(other, _KeySequence) or type(other) is not type(self):
@@ -105,7 +105,7 @@ class SetView(_KeySequence):
     >>> addresses = SetView.decode(20, b"\2" + 20 * b"\xaa" + 20 * b"\xbb")
     >>> len(addresses), addresses.size, addresses[1] == 20 * b"\xbb"
     (2, 20, True)
-    >>> addresses.index_of(20 * b"\xbb"), 20 * b"\xcc" in addresses
+    >>> addresses.position(20 * b"\xbb"), 20 * b"\xcc" in addresses
     (1, False)
     """
 
@@ -149,7 +149,7 @@ class SetView(_KeySequence):
         return whole(cls.read(size, data, least, most))
 
     @staticmethod
-    def encode(size: int, keys: Union[BytesLike, Iterable[BytesLike]]) -> bytes:
+    def encode_dedup(size: int, keys: Union[BytesLike, Iterable[BytesLike]]) -> bytes:
         r"""Encodes the set of keys of `size` bytes: sorted, each key once. They are bytes-like objects of this
         size, or all in one, one after another; they may come in any order and repeat.
 
@@ -157,9 +157,9 @@ class SetView(_KeySequence):
         `NoSize` where the size is 0, `InvalidLength` where the keys are more than 4294967295, `OutOfRange` and
         `OutOfMemory`.
 
-        >>> SetView.encode(2, [b"ok", b"am", b"ok"]), SetView.encode(2, b"okamok")
+        >>> SetView.encode_dedup(2, [b"ok", b"am", b"ok"]), SetView.encode_dedup(2, b"okamok")
         (b'\x02amok', b'\x02amok')
-        >>> SetView.encode(2, b"oka")
+        >>> SetView.encode_dedup(2, b"oka")
         Traceback (most recent call last):
         commonware.errors.NotWhole: 1 bytes after the last whole item
         """
@@ -167,12 +167,12 @@ class SetView(_KeySequence):
         given = input_of(one_after_another(size, keys))
         return written(_calls.set_encode_dedup, 5 + len(given.data), size, *given.arguments)
 
-    def index_of(self, key: BytesLike) -> Optional[int]:
+    def position(self, key: BytesLike) -> Optional[int]:
         r"""Returns the index of a key, or None where it isn't there, as one of another size never is, in
         O(log n) comparisons.
 
         >>> keys = SetView.decode(2, b"\2amok")
-        >>> keys.index_of(b"ok"), keys.index_of(b"is"), keys.index_of(b"o")
+        >>> keys.position(b"ok"), keys.position(b"is"), keys.position(b"o")
         (1, None, None)
         """
         given = input_of(key)
@@ -198,8 +198,8 @@ class Committee(_KeySequence):
     It is a sequence of `bytes`, in order, and equal to a committee with the same members.
 
     >>> from commonware import N3F1, Committee
-    >>> committee = Committee.from_keys([bytes([i]) * 32 for i in (7, 1, 3, 5)])
-    >>> len(committee), committee[0] == 32 * b"\1", committee.index_of(32 * b"\7")
+    >>> committee = Committee.from_keys_dedup([bytes([i]) * 32 for i in (7, 1, 3, 5)])
+    >>> len(committee), committee[0] == 32 * b"\1", committee.position(32 * b"\7")
     (4, True, 3)
     >>> committee.max_faults(N3F1), committee.quorum(N3F1)
     (1, 3)
@@ -210,13 +210,13 @@ class Committee(_KeySequence):
     __slots__ = ()
 
     @classmethod
-    def from_keys(cls, keys: Union[BytesLike, Iterable[BytesLike]]) -> "Committee":
-        """Returns the committee of these keys, which `encode` says more of.
+    def from_keys_dedup(cls, keys: Union[BytesLike, Iterable[BytesLike]]) -> "Committee":
+        """Returns the committee of these keys, which `encode_dedup` says more of.
 
-        >>> Committee.from_keys([32 * b"b", 32 * b"a", 32 * b"b"])
+        >>> Committee.from_keys_dedup([32 * b"b", 32 * b"a", 32 * b"b"])
         <Committee of 2 members>
         """
-        return cls.decode(cls.encode(keys))
+        return cls.decode(cls.encode_dedup(keys))
 
     @classmethod
     def read(
@@ -252,14 +252,14 @@ class Committee(_KeySequence):
         return whole(cls.read(data, least, most))
 
     @staticmethod
-    def encode(keys: Union[BytesLike, Iterable[BytesLike]]) -> bytes:
+    def encode_dedup(keys: Union[BytesLike, Iterable[BytesLike]]) -> bytes:
         r"""Encodes the committee of these keys: sorted, each key once. They are bytes-like objects of 32 bytes,
         or all in one, one after another; they may come in any order and repeat.
 
         Raises `WrongSize` for an object of another size, `NotWhole` for bytes after the last whole key,
         `InvalidLength` where the keys are more than 4294967295, and `OutOfMemory`.
 
-        >>> Committee.encode([32 * b"b", 32 * b"a"]) == b"\2" + 32 * b"a" + 32 * b"b"
+        >>> Committee.encode_dedup([32 * b"b", 32 * b"a"]) == b"\2" + 32 * b"a" + 32 * b"b"
         True
         """
         given = input_of(one_after_another(MEMBER_SIZE, keys))
@@ -268,12 +268,12 @@ class Committee(_KeySequence):
             raise errors.NotWhole(over)
         return written(_calls.committee_encode_dedup, 5 + len(given.data), given.pointer, length)
 
-    def index_of(self, key: BytesLike) -> Optional[int]:
+    def position(self, key: BytesLike) -> Optional[int]:
         """Returns the index of a member, or None where there is no such, as one of another size never is, in
         O(log n) comparisons.
 
-        >>> committee = Committee.from_keys([32 * b"b", 32 * b"a"])
-        >>> committee.index_of(32 * b"b"), committee.index_of(32 * b"c")
+        >>> committee = Committee.from_keys_dedup([32 * b"b", 32 * b"a"])
+        >>> committee.position(32 * b"b"), committee.position(32 * b"c")
         (1, None)
         """
         given = input_of(key)

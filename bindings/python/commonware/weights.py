@@ -30,12 +30,12 @@ class Weights(Sequence[int]):
     4294967295 of them, each is positive, and their sum fits 64 bits. It is a sequence of numbers, and equal to one
     with the same weights. The calls below take any numbers; whoever calls often makes this of them once.
 
-    An index is that of `Committee.index_of`: the place in the order of the keys, not that in which they were given.
+    An index is that of `Committee.position`: the place in the order of the keys, not that in which they were given.
     Weights in another order would accuse the wrong members, and no call can tell.
 
     >>> from commonware import Committee, Weights
     >>> stakes = {32 * b"\7": 10, 32 * b"\1": 40, 32 * b"\5": 20, 32 * b"\3": 30}
-    >>> committee = Committee.from_keys(stakes)
+    >>> committee = Committee.from_keys_dedup(stakes)
     >>> list(Weights(stakes[key] for key in committee))
     [40, 30, 20, 10]
 

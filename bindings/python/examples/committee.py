@@ -2,7 +2,7 @@
 
 from commonware import N3F1, Certificate, Committee, equivocation, slot_value
 
-committee = Committee.from_keys([bytes([i]) * 32 for i in (3, 1, 0, 2)])
+committee = Committee.from_keys_dedup([bytes([i]) * 32 for i in (3, 1, 0, 2)])
 for member in committee:
     print(member.hex())
 members, faults, quorum = len(committee), committee.max_faults(N3F1), committee.quorum(N3F1)

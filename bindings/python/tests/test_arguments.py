@@ -51,21 +51,21 @@ class Types(unittest.TestCase):
         calls = [
             lambda it: SetView.read(1, it),
             lambda it: SetView.decode(1, it),
-            lambda it: SetView.encode(1, it),
-            lambda it: SetView.encode(1, [it]),
-            lambda it: SetView.decode(1, b"\1a").index_of(it),
+            lambda it: SetView.encode_dedup(1, it),
+            lambda it: SetView.encode_dedup(1, [it]),
+            lambda it: SetView.decode(1, b"\1a").position(it),
             lambda it: it in SetView.decode(1, b"\1a"),
             lambda it: Committee.read(it),
             lambda it: Committee.decode(it),
-            lambda it: Committee.encode(it),
-            lambda it: Committee.from_keys([it]),
-            lambda it: Committee.decode(b"\0").index_of(it),
+            lambda it: Committee.encode_dedup(it),
+            lambda it: Committee.from_keys_dedup([it]),
+            lambda it: Committee.decode(b"\0").position(it),
             lambda it: MapView.decode(1, 1, it),
-            lambda it: MapView.encode_unique(1, 1, [(it, b"a")]),
-            lambda it: MapView.encode(1, 1, [(b"a", it)]),
+            lambda it: MapView.encode(1, 1, [(it, b"a")]),
+            lambda it: MapView.encode_dedup(1, 1, [(b"a", it)]),
             lambda it: MapView.decode(1, 1, b"\0\0")[it],
             lambda it: BiMapView.decode(1, 1, it),
-            lambda it: BiMapView.decode(1, 1, b"\0\0").key_of(it),
+            lambda it: BiMapView.decode(1, 1, b"\0\0").get_key(it),
             lambda it: Certificate.read(it),
             lambda it: Certificate.encode(it, []),
             lambda it: check(3, 4, it),
@@ -83,10 +83,10 @@ class Types(unittest.TestCase):
     def test_pairs_that_are_none(self):
         for pairs in (7, None, [b"ab"], [(b"a", "b")], [(b"a", 1)], {b"a": 1}, [7]):
             with self.assertRaises(TypeError, msg=repr(pairs)):
-                MapView.encode(1, 1, pairs)
+                MapView.encode_dedup(1, 1, pairs)
         for pairs in ([(b"a",)], [(b"a", b"b", b"c")]):
             with self.assertRaises(ValueError, msg=repr(pairs)):
-                MapView.encode(1, 1, pairs)
+                MapView.encode_dedup(1, 1, pairs)
 
     def test_numbers(self):
         calls = [
@@ -101,13 +101,13 @@ class Types(unittest.TestCase):
             ("size", 64, lambda it: SetView.read(it, b"\1a")),
             ("least", 64, lambda it: SetView.read(1, b"\1a", it)),
             ("most", 64, lambda it: SetView.read(1, b"\1a", 0, it)),
-            ("size", 64, lambda it: SetView.encode(it, b"a")),
+            ("size", 64, lambda it: SetView.encode_dedup(it, b"a")),
             ("least", 64, lambda it: Committee.read(b"\0", it)),
             ("most", 64, lambda it: Committee.decode(b"\0", most=it)),
             ("key_size", 64, lambda it: MapView.read(it, 1, b"\0\0")),
             ("value_size", 64, lambda it: MapView.read(1, it, b"\0\0")),
-            ("key_size", 64, lambda it: MapView.encode(it, 1, b"")),
-            ("value_size", 64, lambda it: MapView.encode_unique(1, it, b"")),
+            ("key_size", 64, lambda it: MapView.encode_dedup(it, 1, b"")),
+            ("value_size", 64, lambda it: MapView.encode(1, it, b"")),
             ("value_size", 64, lambda it: BiMapView.read(1, it, b"\0\0")),
             ("most", 64, lambda it: BiMapView.read(1, 1, b"\0\0", 0, it)),
             ("most_bytes", 64, lambda it: Certificate.read(CERTIFICATE, it)),
@@ -162,21 +162,21 @@ class Types(unittest.TestCase):
         self.assertEqual(Certificate.decode(bytes([0, 1, 255, 255, 255, 255, 15])).signers, (most,))
 
     def test_keys_of_another_size_are_not_there(self):
-        committee, keys = Committee.from_keys(64 * b"a"), SetView.decode(32, b"\1" + 32 * b"a")
+        committee, keys = Committee.from_keys_dedup(64 * b"a"), SetView.decode(32, b"\1" + 32 * b"a")
         for size in (0, 1, 31, 33, 64):
             for view in (committee, keys):
-                self.assertEqual((view.index_of(size * b"a"), size * b"a" in view), (None, False))
+                self.assertEqual((view.position(size * b"a"), size * b"a" in view), (None, False))
 
     def test_keys_of_a_wrong_size(self):
         with self.assertRaises(WrongSize) as caught:
-            SetView.encode(2, [b"ok", b"a", b"abc"])
+            SetView.encode_dedup(2, [b"ok", b"a", b"abc"])
         self.assertEqual((caught.exception.index, caught.exception.length, caught.exception.size), (1, 1, 2))
         self.assertEqual(caught.exception.part, "key")
         with self.assertRaises(WrongSize) as caught:
-            Committee.from_keys([b"short"])
+            Committee.from_keys_dedup([b"short"])
         self.assertEqual((caught.exception.size, caught.exception.part), (32, "key"))
         with self.assertRaises(commonware.NotWhole):
-            Committee.from_keys(33 * b"a")
+            Committee.from_keys_dedup(33 * b"a")
 
     def test_the_first_key_or_value_of_a_wrong_size_is_told(self):
         rows = [
@@ -185,7 +185,7 @@ class Types(unittest.TestCase):
             ({b"ok": b"1", b"am": b"12", b"a": b"1"}, (1, 2, 1, "value")),
         ]
         for pairs, numbers in rows:
-            for call in (MapView.encode, MapView.encode_unique):
+            for call in (MapView.encode_dedup, MapView.encode):
                 with self.assertRaises(WrongSize) as caught:
                     call(2, 1, pairs)
                 error = caught.exception
@@ -222,7 +222,7 @@ class Types(unittest.TestCase):
         keys, rest = SetView.read(1, Others(b"\2ab"))
         # Python 3.12 and later call the method.
         wanted = ([b"x", b"y"], 1001) if sys.version_info >= (3, 12) else ([b"a", b"b"], 0)
-        self.assertEqual((list(keys), len(rest), keys.index_of(keys[1])), (*wanted, 1))
+        self.assertEqual((list(keys), len(rest), keys.position(keys[1])), (*wanted, 1))
         self.assertEqual(list(SetView.decode(1, memoryview(b"\2ab").cast("B", (3, 1)))), [b"a", b"b"])
         self.assertEqual(list(SetView.decode(4, memoryview(b"\1abc\2ab\0")[:5])), [b"abc\2"])
 
@@ -248,7 +248,7 @@ class Ownership(unittest.TestCase):
         self.assertEqual(sys.getrefcount(data), before)
         keys = SetView.decode(5000, bytes(bytearray(data)))
         others = [bytes(10_001) for _ in range(100)]
-        self.assertEqual((keys[1], keys.index_of(5000 * b"b"), len(others)), (5000 * b"b", 1, 100))
+        self.assertEqual((keys[1], keys.position(5000 * b"b"), len(others)), (5000 * b"b", 1, 100))
         keys, rest = SetView.read(1, b"".join([b"\2ab", bytes(3)]))
         del keys
         gc.collect()
@@ -264,10 +264,10 @@ class Ownership(unittest.TestCase):
         self.assertEqual(list(kept[0]), [b"a", b"b"])
         for pairs in kept[1:]:
             self.assertEqual(dict(pairs), {b"a": b"x", b"b": b"y"})
-        self.assertEqual(kept[2].key_of(b"y"), b"b")
+        self.assertEqual(kept[2].get_key(b"y"), b"b")
         self.assertEqual(certificate.signers, (0, 1, 2))
         pairs, keys = bytearray(b"b1a2"), bytearray(b"ba")
-        self.assertEqual((MapView.encode(1, 1, pairs), SetView.encode(1, keys)), (b"\2ab\2" b"21", b"\2ab"))
+        self.assertEqual((MapView.encode_dedup(1, 1, pairs), SetView.encode_dedup(1, keys)), (b"\2ab\2" b"21", b"\2ab"))
         pairs.clear()
         keys.clear()
 
@@ -277,7 +277,7 @@ class Ownership(unittest.TestCase):
         data.release()
         rest.release()
         keys.data.release()
-        self.assertEqual((list(keys), keys.index_of(b"b"), bytes(keys)), ([b"a", b"b"], 1, b"\2ab"))
+        self.assertEqual((list(keys), keys.position(b"b"), bytes(keys)), ([b"a", b"b"], 1, b"\2ab"))
         with self.assertRaises(ValueError):
             SetView.read(1, data)
 
@@ -301,7 +301,7 @@ class Ownership(unittest.TestCase):
         self.assertNotEqual(keys, SetView.decode(2, b"\1ab"))
         self.assertNotEqual(SetView.decode(0, b"\0"), SetView.decode(0, b"\1"))
         self.assertNotEqual(keys, (b"a", b"b"))
-        committee = Committee.from_keys(64 * b"a")
+        committee = Committee.from_keys_dedup(64 * b"a")
         self.assertNotEqual(committee, SetView.decode(32, bytes(committee)))
         pairs, bimap = MapView.decode(1, 1, b"\2ab\2xy"), BiMapView.decode(1, 1, b"\2ab\2xy")
         self.assertEqual((pairs, hash(pairs), pairs), (bimap, hash(bimap), {b"b": b"y", b"a": b"x"}))
@@ -309,7 +309,7 @@ class Ownership(unittest.TestCase):
         for result in (keys, committee, pairs, bimap, certificate):
             for other in (pickle.loads(pickle.dumps(result)), copy.copy(result), copy.deepcopy(result)):
                 self.assertEqual((type(other), other, bytes(other)), (type(result), result, bytes(result)))
-        self.assertEqual(pickle.loads(pickle.dumps(bimap)).key_of(b"y"), b"b")
+        self.assertEqual(pickle.loads(pickle.dumps(bimap)).get_key(b"y"), b"b")
         for result in (Addresses.decode(1, b"\2ab"), Weights.decode(1, 1, b"\2ab\2xy")):
             self.assertEqual(type(pickle.loads(pickle.dumps(result))), type(result))
         error = pickle.loads(pickle.dumps(RepeatedValue(2, 3)))
@@ -362,8 +362,8 @@ class Sizes(unittest.TestCase):
         ):
             with self.assertRaises(commonware.EndOfInput):
                 call()
-        self.assertEqual((SetView.encode(1, b""), SetView.encode(1, []), Committee.encode([])), 3 * (b"\0",))
-        self.assertEqual((MapView.encode(1, 1, b""), MapView.encode_unique(1, 0, {})), 2 * (b"\0\0",))
+        self.assertEqual((SetView.encode_dedup(1, b""), SetView.encode_dedup(1, []), Committee.encode_dedup([])), 3 * (b"\0",))
+        self.assertEqual((MapView.encode_dedup(1, 1, b""), MapView.encode(1, 0, {})), 2 * (b"\0\0",))
         self.assertEqual((Certificate.encode(b"", []), slot_value(b"", b"")), (b"\0\0", b"\0"))
         empty = Certificate.decode(b"\0\0")
         self.assertEqual((empty.value, empty.signers, empty.slot, empty.decision), (b"", (), None, None))
@@ -371,35 +371,35 @@ class Sizes(unittest.TestCase):
     def test_sizes_in_use(self):
         for size in SIZES[1:]:
             keys = [bytes([i]) + bytes(size - 1) for i in (9, 3, 7)]
-            view = SetView.decode(size, SetView.encode(size, keys))
+            view = SetView.decode(size, SetView.encode_dedup(size, keys))
             self.assertEqual((list(view), view.size), (sorted(keys), size))
-            self.assertEqual([view.index_of(key) for key in keys], [2, 0, 1])
+            self.assertEqual([view.position(key) for key in keys], [2, 0, 1])
             for value_size in SIZES:
                 pairs = {key: bytes([key[0]]) * value_size for key in keys}
-                again = MapView.decode(size, value_size, MapView.encode(size, value_size, pairs))
+                again = MapView.decode(size, value_size, MapView.encode_dedup(size, value_size, pairs))
                 self.assertEqual(again, pairs)
                 if value_size > 0:
                     bimap = BiMapView.decode(size, value_size, bytes(again))
-                    self.assertEqual({bimap.key_of(value): value for value in pairs.values()}, pairs)
+                    self.assertEqual({bimap.get_key(value): value for value in pairs.values()}, pairs)
 
     def test_keys_and_values_of_no_bytes(self):
         none, one = SetView.decode(0, b"\0"), SetView.decode(0, b"\1")
         self.assertEqual((list(none), list(one)), ([], [b""]))
-        self.assertEqual((none.index_of(b""), one.index_of(b""), one.index_of(b"a"), len(one)), (None, 0, None, 1))
+        self.assertEqual((none.position(b""), one.position(b""), one.position(b"a"), len(one)), (None, 0, None, 1))
         for data in (b"\2", b"\xff\xff\xff\xff\x0f"):
             with self.assertRaises(NotStrict):
                 SetView.decode(0, data)
         with self.assertRaises(NoSize):
-            SetView.encode(0, b"")
+            SetView.encode_dedup(0, b"")
         with self.assertRaises(NoSize):
-            MapView.encode(0, 1, [(b"", b"a")])
+            MapView.encode_dedup(0, 1, [(b"", b"a")])
         self.assertEqual(dict(MapView.decode(0, 2, b"\1\1ab")), {b"": b"ab"})
         many = MapView.decode(1, 0, b"\3abc\3")
         self.assertEqual((dict(many), many.value_at(2)), ({b"a": b"", b"b": b"", b"c": b""}, b""))
         with self.assertRaises(RepeatedValue) as caught:
             BiMapView.decode(1, 0, b"\3abc\3")
         self.assertEqual((caught.exception.first, caught.exception.second), (0, 1))
-        self.assertEqual(BiMapView.decode(1, 0, b"\1a\1").key_of(b""), b"a")
+        self.assertEqual(BiMapView.decode(1, 0, b"\1a\1").get_key(b""), b"a")
 
     def test_large_sizes(self):
         for size in (*HUGE, 2**64 // 2 + 1, 2**64 // 3):
@@ -415,11 +415,11 @@ class Sizes(unittest.TestCase):
                 ):
                     with self.assertRaises(commonware.EndOfInput):
                         call()
-            self.assertEqual(SetView.decode(size, b"\0").index_of(b"a"), None)
+            self.assertEqual(SetView.decode(size, b"\0").position(b"a"), None)
             with self.assertRaises(commonware.NotWhole):
-                SetView.encode(size, b"abc")
+                SetView.encode_dedup(size, b"abc")
             with self.assertRaises(commonware.NotWhole):
-                MapView.encode_unique(size, size, b"abc")
+                MapView.encode(size, size, b"abc")
 
     def test_limits_at_the_edges(self):
         data = b"\3abc"
@@ -440,12 +440,12 @@ class Sizes(unittest.TestCase):
 
     def test_many_items(self):
         keys = [i.to_bytes(4, "big") for i in range(70_000)]
-        data = SetView.encode(4, b"".join(reversed(keys)))
+        data = SetView.encode_dedup(4, b"".join(reversed(keys)))
         self.assertEqual(data[3:], b"".join(keys))
         view = SetView.decode(4, data)
-        self.assertEqual((len(view), view[69_999], view.index_of(keys[65_536])), (70_000, keys[-1], 65_536))
-        bimap = BiMapView.decode(4, 4, MapView.encode_unique(4, 4, zip(reversed(keys), keys)))
-        self.assertEqual((bimap[keys[0]], bimap.key_of(keys[0])), (keys[-1], keys[-1]))
+        self.assertEqual((len(view), view[69_999], view.position(keys[65_536])), (70_000, keys[-1], 65_536))
+        bimap = BiMapView.decode(4, 4, MapView.encode(4, 4, zip(reversed(keys), keys)))
+        self.assertEqual((bimap[keys[0]], bimap.get_key(keys[0])), (keys[-1], keys[-1]))
         signers = list(range(0, 350_000, 5))
         value = bytes(1_000_000)
         certificate = Certificate.decode(Certificate.encode(value, signers))
@@ -493,7 +493,7 @@ class Errors(unittest.TestCase):
         ]
         names = ["NoMembers", "Outside", "Outside", None, None, "TooFew", "TooFew"]
         for count, name in enumerate(names):
-            committee = Committee.from_keys([bytes([i]) * 32 for i in range(count)])
+            committee = Committee.from_keys_dedup([bytes([i]) * 32 for i in range(count)])
             for call in calls:
                 results = outcome(call, committee), outcome(call, count)
                 self.assertEqual(results[0], results[1])

@@ -30,7 +30,7 @@ PROGRAM = """
 import commonware
 print(commonware._library.LIBRARY._name)
 print(*commonware.version())
-print(commonware.quorum(commonware.N3F1, 100), commonware.SetView.encode(1, [b"b", b"a"]))
+print(commonware.quorum(commonware.N3F1, 100), commonware.SetView.encode_dedup(1, [b"b", b"a"]))
 """
 
 

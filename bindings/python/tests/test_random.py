@@ -70,13 +70,13 @@ class Random(unittest.TestCase):
                 self.assertEqual((list(committee), bytes(rest)), wanted, (data, limits))
                 for key in some_keys(draw, 32) + keys:
                     place = wanted[0].index(key) if key in wanted[0] else None
-                    self.assertEqual(committee.index_of(key), place)
+                    self.assertEqual(committee.position(key), place)
             else:
                 self.assertEqual(result, wanted, (data, limits))
             draw.shuffle(keys)
             joined = b"".join(keys)[: draw.choice((None, None, -1, -32))]
-            self.assertEqual(outcome(Committee.encode, joined), outcome_of(plain.write_set, 32, joined))
-            self.assertEqual(Committee.encode(keys), plain.write_set(32, b"".join(keys)))
+            self.assertEqual(outcome(Committee.encode_dedup, joined), outcome_of(plain.write_set, 32, joined))
+            self.assertEqual(Committee.encode_dedup(keys), plain.write_set(32, b"".join(keys)))
         seen.assert_each(self, DECODED, CASES // 100)
 
     def test_keys_are_found(self):
@@ -87,7 +87,7 @@ class Random(unittest.TestCase):
             view = SetView.decode(size, list_bytes(keys))
             for key in itertools.chain(some_keys(draw, size)[:2], draw.sample(keys, min(2, len(keys))), [b"other"]):
                 place = keys.index(key) if key in keys else None
-                self.assertEqual(view.index_of(some_kind(draw, key)), place, (keys, key))
+                self.assertEqual(view.position(some_kind(draw, key)), place, (keys, key))
                 self.assertEqual((key in view, view.count(key)), (place is not None, int(place is not None)))
                 seen["absent" if place is None else "found"] += 1
         seen.assert_each(self, "absent found", CASES // 4)
@@ -134,7 +134,7 @@ class Random(unittest.TestCase):
         if isinstance(pairs, BiMapView):
             inverse = {value: key for key, value in wanted.items()}
             for value in itertools.chain(inverse, keys):
-                self.assertEqual(pairs.key_of(value), inverse.get(value))
+                self.assertEqual(pairs.get_key(value), inverse.get(value))
 
     def test_maps_are_read(self):
         self.are_read(4, MapView, plain.read_map, DECODED)
@@ -151,10 +151,10 @@ class Random(unittest.TestCase):
             over = draw.randbytes(draw.choice((0, 0, 0, 1, 3)))
             joined = some_kind(draw, b"".join(keys) + over)
             wanted = outcome_of(plain.write_set, key_size, bytes(joined))
-            self.assertEqual(outcome(SetView.encode, key_size, joined), wanted, keys)
+            self.assertEqual(outcome(SetView.encode_dedup, key_size, joined), wanted, keys)
             flat = b"".join(itertools.chain.from_iterable(pairs)) + over
             joined = some_kind(draw, flat)
-            ways = (MapView.encode, plain.write_map), (MapView.encode_unique, plain.write_map_unique)
+            ways = (MapView.encode_dedup, plain.write_map), (MapView.encode, plain.write_map_unique)
             for encode, write in ways:
                 wanted = outcome_of(write, key_size, value_size, flat)
                 self.assertEqual(outcome(encode, key_size, value_size, joined), wanted, (pairs, over))
@@ -162,8 +162,8 @@ class Random(unittest.TestCase):
                 if not over:
                     self.assertEqual(outcome(encode, key_size, value_size, iter(pairs)), wanted, pairs)
             if not over and key_size > 0:
-                self.assertEqual(SetView.encode(key_size, iter(keys)), plain.write_set(key_size, b"".join(keys)))
-                self.assertEqual(MapView.encode(key_size, value_size, dict(pairs)), plain.map_bytes(dict(pairs)))
+                self.assertEqual(SetView.encode_dedup(key_size, iter(keys)), plain.write_set(key_size, b"".join(keys)))
+                self.assertEqual(MapView.encode_dedup(key_size, value_size, dict(pairs)), plain.map_bytes(dict(pairs)))
         seen.assert_each(self, "ok NoSize NotWhole RepeatedKey", CASES // 100)
 
     def test_certificates_are_read_and_written(self):

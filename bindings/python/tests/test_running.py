@@ -194,8 +194,8 @@ class Version(unittest.TestCase):
 
 
 KEYS = [bytes([i // 250, i % 250]) * 24 for i in range(300)]
-SET = SetView.encode(48, KEYS)
-MAP = MapView.encode(48, 48, zip(KEYS, KEYS))
+SET = SetView.encode_dedup(48, KEYS)
+MAP = MapView.encode_dedup(48, 48, zip(KEYS, KEYS))
 FIRST = Certificate.encode(slot_value(b"view 7", b"A"), range(201))
 SECOND = Certificate.encode(slot_value(b"view 7", b"B"), range(99, 300))
 WEIGHTS = Weights([7] * 300)
@@ -203,12 +203,12 @@ WEIGHTS = Weights([7] * 300)
 
 def each_call():
     """Calls each function of the library once, and some that refuse."""
-    assert SetView.encode(48, SetView.decode(48, bytearray(SET)).data) == SET
-    assert SetView.decode(48, memoryview(b"-" + SET)[1:]).index_of(KEYS[290]) == 290
-    assert MapView.encode(48, 48, MapView.decode(48, 48, MAP)) == MAP
-    assert MapView.encode_unique(48, 48, zip(KEYS, KEYS)) == MAP
-    assert BiMapView.decode(48, 48, MAP).key_of(KEYS[7]) == KEYS[7]
-    assert Committee.from_keys([bytes([i]) * 32 for i in range(99)]).index_of(98 * bytes(1)) is None
+    assert SetView.encode_dedup(48, SetView.decode(48, bytearray(SET)).data) == SET
+    assert SetView.decode(48, memoryview(b"-" + SET)[1:]).position(KEYS[290]) == 290
+    assert MapView.encode_dedup(48, 48, MapView.decode(48, 48, MAP)) == MAP
+    assert MapView.encode(48, 48, zip(KEYS, KEYS)) == MAP
+    assert BiMapView.decode(48, 48, MAP).get_key(KEYS[7]) == KEYS[7]
+    assert Committee.from_keys_dedup([bytes([i]) * 32 for i in range(99)]).position(98 * bytes(1)) is None
     assert Certificate.encode(Certificate.decode(FIRST).value, range(201)) == FIRST
     assert check(3, 300, FIRST).slot == Certificate.decode(FIRST).slot == b"view 7"
     assert conflict(3, 300, FIRST, SECOND) == equivocation(3, 300, FIRST, SECOND) == tuple(range(99, 201))
@@ -218,7 +218,7 @@ def each_call():
     for call in (
         lambda: SetView.decode(48, SET[:-1]),
         lambda: BiMapView.decode(48, 0, MAP),
-        lambda: MapView.encode_unique(1, 1, b"abab"),
+        lambda: MapView.encode(1, 1, b"abab"),
         lambda: Certificate.encode(b"", [3, 3]),
         lambda: conflict(3, 300, FIRST, FIRST),
         lambda: weighted_conflict(3, [*WEIGHTS, 0], FIRST, SECOND),
@@ -258,7 +258,7 @@ class Running(unittest.TestCase):
         counted, done = 0, threading.Event()
 
         def work():
-            SetView.encode(32, keys)
+            SetView.encode_dedup(32, keys)
             done.set()
 
         thread = threading.Thread(target=work)
@@ -291,10 +291,10 @@ bimap = column + column
 size = int(open("/proc/self/statm").read().split()[0]) * resource.getpagesize()
 resource.setrlimit(resource.RLIMIT_AS, (size + 6_000_000, size + 6_000_000))
 for call in (
-    lambda: SetView.encode(32, keys),
-    lambda: Committee.encode(keys),
+    lambda: SetView.encode_dedup(32, keys),
+    lambda: Committee.encode_dedup(keys),
+    lambda: MapView.encode_dedup(16, 16, pairs),
     lambda: MapView.encode(16, 16, pairs),
-    lambda: MapView.encode_unique(16, 16, pairs),
     lambda: Certificate.encode(data, []),
     lambda: slot_value(b"", data),
     lambda: Certificate.decode(signers),
@@ -327,11 +327,11 @@ for room, call in (
     (6_000_000, lambda: SetView.decode(32, given)),
     (6_000_000, lambda: Committee.decode(memoryview(given))),
     (6_000_000, lambda: MapView.decode(32, 32, given)),
-    (6_000_000, lambda: SetView.encode(32, keys)),
-    (6_000_000, lambda: MapView.encode(16, 16, pairs)),
+    (6_000_000, lambda: SetView.encode_dedup(32, keys)),
+    (6_000_000, lambda: MapView.encode_dedup(16, 16, pairs)),
     (6_000_000, lambda: Weights(itertools.repeat(1, LARGE))),
     (6_000_000, lambda: Certificate.encode(b"", range(LARGE))),
-    (6_000_000, lambda: bimap.key_of(value)),
+    (6_000_000, lambda: bimap.get_key(value)),
     (24_000_000, lambda: Certificate.decode(first)),
     (24_000_000, lambda: conflict(3, MANY, first, second)),
     (24_000_000, lambda: equivocation(3, MANY, first, second)),
@@ -356,10 +356,10 @@ from commonware import *
 keys = os.urandom(20_000_000)
 hard = resource.getrlimit(resource.RLIMIT_AS)[1]
 for call in (
-    lambda: SetView.encode(32, keys),
-    lambda: Committee.encode(keys),
+    lambda: SetView.encode_dedup(32, keys),
+    lambda: Committee.encode_dedup(keys),
+    lambda: MapView.encode_dedup(16, 16, keys),
     lambda: MapView.encode(16, 16, keys),
-    lambda: MapView.encode_unique(16, 16, keys),
 ):
     # Enough for what is written, and not for what the library takes beside that.
     size = int(open("/proc/self/statm").read().split()[0]) * resource.getpagesize()
@@ -369,7 +369,7 @@ for call in (
     except OutOfMemory as error:
         print(traceback.extract_tb(error.__traceback__)[-1].name)
     resource.setrlimit(resource.RLIMIT_AS, (hard, hard))
-print(len(SetView.encode(32, keys)) - len(keys))
+print(len(SetView.encode_dedup(32, keys)) - len(keys))
 """
         text, status = python("-c", program)
         self.assertEqual((text, status), (4 * "check_status\n" + "3\n", 0))

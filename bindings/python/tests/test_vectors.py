@@ -140,7 +140,7 @@ class Vectors(unittest.TestCase):
             if size != len(item):
                 # The call takes whole items.
                 return NotImplemented
-            return SetView.decode(size, bytes.fromhex(question["set"])).index_of(item)
+            return SetView.decode(size, bytes.fromhex(question["set"])).position(item)
 
         self.are_answered("position", position, lambda at: {"position": at}, 40)
 
@@ -155,8 +155,8 @@ class Vectors(unittest.TestCase):
             count, at = plain.read_varint(listed, 0)
             keys, at = plain.read_items(sizes[0], count, listed, at)
             if kind.startswith("set"):
-                is_tried = encode is MapView.encode and at == len(listed)
-                return SetView.encode(sizes[0], keys) if is_tried else NotImplemented
+                is_tried = encode is MapView.encode_dedup and at == len(listed)
+                return SetView.encode_dedup(sizes[0], keys) if is_tried else NotImplemented
             again, at = plain.read_varint(listed, at)
             values, at = plain.read_items(sizes[1], count, listed, at)
             return encode(*sizes, zip(keys, values)) if again == count and at == len(listed) else NotImplemented
@@ -170,8 +170,8 @@ class Vectors(unittest.TestCase):
         self.are_answered(name, tried, lambda it: {"built": it.hex()}, least)
 
     def test_builders(self):
-        self.built("build", MapView.encode, 50)
-        self.built("build_unique", MapView.encode_unique, 10)
+        self.built("build", MapView.encode_dedup, 50)
+        self.built("build_unique", MapView.encode, 10)
 
     def test_numbers_of_faults(self):
         def numbers(question):

@@ -5,7 +5,7 @@ use commonware_proved::{CertificateBuf, CommitteeBuf, FaultModel, equivocation, 
 use std::error::Error;
 
 fn main() -> Result<(), Box<dyn Error>> {
-    let owned = CommitteeBuf::from_keys(&[[3; 32], [1; 32], [0; 32], [2; 32]])?;
+    let owned = CommitteeBuf::from_keys_dedup(&[[3; 32], [1; 32], [0; 32], [2; 32]])?;
     let (committee, model) = (owned.as_view(), FaultModel::N3F1);
     for member in &committee {
         let digits: String = member.iter().map(|byte| format!("{byte:02x}")).collect();

@@ -174,7 +174,7 @@ impl Error for CheckError {
 /// use commonware_proved::{CertificateBuf, CommitteeBuf, FaultModel};
 /// use commonware_proved::{CheckError, check, slot_value};
 ///
-/// let committee = CommitteeBuf::from_keys(&[[1; 32], [2; 32], [3; 32], [4; 32]])?;
+/// let committee = CommitteeBuf::from_keys_dedup(&[[1; 32], [2; 32], [3; 32], [4; 32]])?;
 /// let certificate = CertificateBuf::from_parts(&slot_value(b"view 7", b"A")?, &[0, 1, 2])?;
 /// let (committee, certificate) = (committee.as_view(), certificate.as_view());
 /// assert_eq!(check(FaultModel::N3F1, &committee, &certificate)?.decision(), Some(&b"A"[..]));

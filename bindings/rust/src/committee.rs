@@ -14,7 +14,7 @@ use core::{fmt, slice};
 ///
 /// ```
 /// # use commonware_proved::{Committee, MEMBER_SIZE};
-/// let bytes = Committee::encode(&[[2; MEMBER_SIZE], [1; MEMBER_SIZE]])?;
+/// let bytes = Committee::encode_dedup(&[[2; MEMBER_SIZE], [1; MEMBER_SIZE]])?;
 /// assert_eq!(bytes.len(), 1 + 2 * MEMBER_SIZE);
 /// # Ok::<(), commonware_proved::EncodeError>(())
 /// ```
@@ -25,7 +25,7 @@ pub const MEMBER_SIZE: usize = 32;
 /// ```
 /// # use commonware_proved::{CommitteeBuf, Member};
 /// let (first, second): (Member, Member) = ([1; 32], [2; 32]);
-/// let committee = CommitteeBuf::from_keys(&[second, first])?;
+/// let committee = CommitteeBuf::from_keys_dedup(&[second, first])?;
 /// assert_eq!(committee.as_view().members(), [first, second]);
 /// # Ok::<(), commonware_proved::EncodeError>(())
 /// ```
@@ -110,11 +110,11 @@ impl<'a> Committee<'a> {
     ///
     /// ```
     /// # use commonware_proved::{Committee, EncodeError};
-    /// let bytes = Committee::encode(&[[2; 32], [1; 32], [2; 32]])?;
+    /// let bytes = Committee::encode_dedup(&[[2; 32], [1; 32], [2; 32]])?;
     /// assert_eq!(bytes, [&[2][..], &[1; 32], &[2; 32]].concat());
     /// # Ok::<(), EncodeError>(())
     /// ```
-    pub fn encode(keys: &[Member]) -> Result<Vec<u8>, EncodeError> {
+    pub fn encode_dedup(keys: &[Member]) -> Result<Vec<u8>, EncodeError> {
         let mut out = zeros(5 + MEMBER_SIZE * keys.len()).ok_or(EncodeError::Memory)?;
         let members = keys.as_flattened().as_ptr();
         // SAFETY: each pointer and the length after it are those of one slice; `out` is a new one.
@@ -148,7 +148,7 @@ impl<'a> Committee<'a> {
     ///
     /// ```
     /// # use commonware_proved::Committee;
-    /// let bytes = Committee::encode(&[[2; 32], [1; 32]])?;
+    /// let bytes = Committee::encode_dedup(&[[2; 32], [1; 32]])?;
     /// assert_eq!(Committee::decode(&bytes)?.key_bytes(), &bytes[1..]);
     /// # Ok::<(), Box<dyn std::error::Error>>(())
     /// ```
@@ -161,7 +161,7 @@ impl<'a> Committee<'a> {
     ///
     /// ```
     /// # use commonware_proved::Committee;
-    /// let bytes = Committee::encode(&[[2; 32], [1; 32]])?;
+    /// let bytes = Committee::encode_dedup(&[[2; 32], [1; 32]])?;
     /// assert_eq!(Committee::decode(&bytes)?.members(), [[1; 32], [2; 32]]);
     /// # Ok::<(), Box<dyn std::error::Error>>(())
     /// ```
@@ -198,7 +198,7 @@ impl<'a> Committee<'a> {
     ///
     /// ```
     /// # use commonware_proved::Committee;
-    /// let bytes = Committee::encode(&[[2; 32], [1; 32]])?;
+    /// let bytes = Committee::encode_dedup(&[[2; 32], [1; 32]])?;
     /// assert_eq!(Committee::decode(&bytes)?.get(0), Some(&[1; 32]));
     /// # Ok::<(), Box<dyn std::error::Error>>(())
     /// ```
@@ -211,7 +211,7 @@ impl<'a> Committee<'a> {
     ///
     /// ```
     /// # use commonware_proved::Committee;
-    /// let bytes = Committee::encode(&[[2; 32], [1; 32]])?;
+    /// let bytes = Committee::encode_dedup(&[[2; 32], [1; 32]])?;
     /// let committee = Committee::decode(&bytes)?;
     /// assert_eq!(committee.position(&[2; 32]), Some(1));
     /// assert_eq!(committee.position(&[3; 32]), None);
@@ -241,7 +241,7 @@ impl<'a> Committee<'a> {
     ///
     /// ```
     /// # use commonware_proved::Committee;
-    /// let bytes = Committee::encode(&[[2; 32], [1; 32]])?;
+    /// let bytes = Committee::encode_dedup(&[[2; 32], [1; 32]])?;
     /// assert_eq!(Committee::decode(&bytes)?.iter().last(), Some(&[2; 32]));
     /// # Ok::<(), Box<dyn std::error::Error>>(())
     /// ```
@@ -254,7 +254,7 @@ impl<'a> Committee<'a> {
     ///
     /// ```
     /// # use commonware_proved::{Committee, FaultModel};
-    /// let bytes = Committee::encode(&[[0; 32], [1; 32], [2; 32], [3; 32]])?;
+    /// let bytes = Committee::encode_dedup(&[[0; 32], [1; 32], [2; 32], [3; 32]])?;
     /// let committee = Committee::decode(&bytes)?;
     /// assert_eq!(committee.max_faults(FaultModel::N3F1), Some(1));
     /// # Ok::<(), Box<dyn std::error::Error>>(())
@@ -282,7 +282,7 @@ impl<'a> Committee<'a> {
     ///
     /// ```
     /// # use commonware_proved::{Committee, FaultModel};
-    /// let bytes = Committee::encode(&[0, 1, 2, 3, 4, 5].map(|i| [i; 32]))?;
+    /// let bytes = Committee::encode_dedup(&[0, 1, 2, 3, 4, 5].map(|i| [i; 32]))?;
     /// let committee = Committee::decode(&bytes)?;
     /// assert_eq!(committee.smaller_quorum(FaultModel::N5F1), Some(3));
     /// # Ok::<(), Box<dyn std::error::Error>>(())
@@ -301,7 +301,7 @@ impl<'a> Committee<'a> {
     ///
     /// ```
     /// # use commonware_proved::Committee;
-    /// let bytes = Committee::encode(&[[2; 32], [1; 32]])?;
+    /// let bytes = Committee::encode_dedup(&[[2; 32], [1; 32]])?;
     /// let owned = Committee::decode(&bytes)?.to_buf();
     /// drop(bytes);
     /// assert_eq!(owned.as_view().position(&[2; 32]), Some(1));

@@ -138,7 +138,7 @@ impl Error for EquivocationError {
 /// ```
 /// use commonware_proved::{CertificateBuf, CommitteeBuf, FaultModel, equivocation, slot_value};
 ///
-/// let committee = CommitteeBuf::from_keys(&[[1; 32], [2; 32], [3; 32], [4; 32]])?;
+/// let committee = CommitteeBuf::from_keys_dedup(&[[1; 32], [2; 32], [3; 32], [4; 32]])?;
 /// let first = CertificateBuf::from_parts(&slot_value(b"view 7", b"A")?, &[0, 1, 2])?;
 /// let second = CertificateBuf::from_parts(&slot_value(b"view 7", b"B")?, &[1, 2, 3])?;
 /// let (committee, model) = (committee.as_view(), FaultModel::N3F1);

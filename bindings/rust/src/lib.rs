@@ -11,7 +11,7 @@
 //! ```
 //! use commonware_proved::{Certificate, CommitteeBuf, FaultModel, check, equivocation, slot_value};
 //!
-//! let owned = CommitteeBuf::from_keys(&[[7; 32], [1; 32], [3; 32], [5; 32]])?;
+//! let owned = CommitteeBuf::from_keys_dedup(&[[7; 32], [1; 32], [3; 32], [5; 32]])?;
 //! let (committee, model) = (owned.as_view(), FaultModel::N3F1);
 //! assert_eq!(committee.position(&[7; 32]), Some(3));
 //! assert_eq!(committee.quorum(model), Some(3));
@@ -28,13 +28,15 @@
 //!
 //! # Names
 //!
-//! `decode` takes the whole input, `read` returns what follows, and `encode` writes. Of a set, a
-//! map and a bimap alike, `get` returns the key at an index and `position` the index of a key;
-//! `value` the value at an index and `get_value` that of a key; `position_of_value` and `get_key`
-//! of a bimap go the other way. `as_bytes` is the whole encoding, whatever the type. The views are
-//! borrowed from it; the types whose names end in `Buf` own it, have the views by `as_view`, and
-//! give it away by `into_bytes`. Both are `AsRef<[u8]>`, and a reference to either is walked by
-//! `for`, but that to a certificate.
+//! A call has the name of the library's function, as the other languages have it: the type and
+//! then the rest, so that `commonware_map_encode` is [`MapView::encode`]. `decode` takes the whole
+//! input, `read` returns what follows, and `encode` writes; where a name ends in `_dedup`, keys may
+//! repeat, and each is taken once. Of a set, a map and a bimap alike, `get` returns the key at an
+//! index and `position` the index of a key; `value` the value at an index and `get_value` that of a
+//! key; `position_of_value` and `get_key` of a bimap go the other way. `as_bytes` is the whole
+//! encoding, whatever the type. The views are borrowed from it; the types whose names end in `Buf`
+//! own it, have the views by `as_view`, and give it away by `into_bytes`. Both are `AsRef<[u8]>`,
+//! and a reference to either is walked by `for`, but that to a certificate.
 //!
 //! # By stake
 //!

@@ -100,7 +100,7 @@ impl<'a> MapView<'a> {
 
     /// Encodes the map of these pairs in the order of their keys: each is a key of `key_size` bytes
     /// and then its value of `value_size`, one pair after another. They may come in any order. Of
-    /// pairs with equal keys the first is written. [`MapBuf::from_pairs`] takes them one by one.
+    /// pairs with equal keys the first is written.
     ///
     /// # Errors
     ///
@@ -110,12 +110,12 @@ impl<'a> MapView<'a> {
     /// ```
     /// # use commonware_proved::{EncodeError, MapView};
     /// let pairs = [8, 1, 2, 7, 3, 4, 8, 5, 6];
-    /// assert_eq!(MapView::encode(1, 2, &pairs)?, [2, 7, 8, 2, 3, 4, 1, 2]);
-    /// assert_eq!(MapView::encode(1, 1, &pairs), Err(EncodeError::NotWhole(1)));
-    /// assert_eq!(MapView::encode(0, 3, &pairs), Err(EncodeError::NoSize));
+    /// assert_eq!(MapView::encode_dedup(1, 2, &pairs)?, [2, 7, 8, 2, 3, 4, 1, 2]);
+    /// assert_eq!(MapView::encode_dedup(1, 1, &pairs), Err(EncodeError::NotWhole(1)));
+    /// assert_eq!(MapView::encode_dedup(0, 3, &pairs), Err(EncodeError::NoSize));
     /// # Ok::<(), EncodeError>(())
     /// ```
-    pub fn encode(
+    pub fn encode_dedup(
         key_size: usize,
         value_size: usize,
         pairs: &[u8],
@@ -128,22 +128,23 @@ impl<'a> MapView<'a> {
         )
     }
 
-    /// Encodes the map of these pairs as [`MapView::encode`] does, where no key repeats.
+    /// Encodes the map of these pairs as [`MapView::encode_dedup`] does, where no key repeats.
+    /// [`MapBuf::from_pairs`] takes them one by one.
     ///
     /// # Errors
     ///
     /// `RepeatedKey`, with the index of the first pair whose key an earlier pair has, and of that
-    /// one; and those of `encode`.
+    /// one; and those of `encode_dedup`.
     ///
     /// ```
     /// # use commonware_proved::{EncodeError, MapView};
-    /// assert_eq!(MapView::encode_unique(1, 2, &[8, 1, 2, 7, 3, 4])?, [2, 7, 8, 2, 3, 4, 1, 2]);
+    /// assert_eq!(MapView::encode(1, 2, &[8, 1, 2, 7, 3, 4])?, [2, 7, 8, 2, 3, 4, 1, 2]);
     /// let pairs = [8, 1, 2, 7, 3, 4, 8, 5, 6];
     /// let repeated = EncodeError::RepeatedKey { first: 0, second: 2 };
-    /// assert_eq!(MapView::encode_unique(1, 2, &pairs), Err(repeated));
+    /// assert_eq!(MapView::encode(1, 2, &pairs), Err(repeated));
     /// # Ok::<(), EncodeError>(())
     /// ```
-    pub fn encode_unique(
+    pub fn encode(
         key_size: usize,
         value_size: usize,
         pairs: &[u8],

@@ -86,7 +86,7 @@ impl<'a> SetView<'a> {
     }
 
     /// Encodes the set of keys of `key_size` bytes, one after another: sorted, each key once. The
-    /// keys may come in any order and repeat. [`SetBuf::from_keys`] takes them one by one.
+    /// keys may come in any order and repeat. [`SetBuf::from_keys_dedup`] takes them one by one.
     ///
     /// # Errors
     ///
@@ -95,12 +95,12 @@ impl<'a> SetView<'a> {
     ///
     /// ```
     /// # use commonware_proved::{EncodeError, SetView};
-    /// assert_eq!(SetView::encode(2, &[7, 8, 5, 6, 7, 8])?, [2, 5, 6, 7, 8]);
-    /// assert_eq!(SetView::encode(2, &[7, 8, 5]), Err(EncodeError::NotWhole(1)));
-    /// assert_eq!(SetView::encode(0, &[]), Err(EncodeError::NoSize));
+    /// assert_eq!(SetView::encode_dedup(2, &[7, 8, 5, 6, 7, 8])?, [2, 5, 6, 7, 8]);
+    /// assert_eq!(SetView::encode_dedup(2, &[7, 8, 5]), Err(EncodeError::NotWhole(1)));
+    /// assert_eq!(SetView::encode_dedup(0, &[]), Err(EncodeError::NoSize));
     /// # Ok::<(), EncodeError>(())
     /// ```
-    pub fn encode(key_size: usize, keys: &[u8]) -> Result<Vec<u8>, EncodeError> {
+    pub fn encode_dedup(key_size: usize, keys: &[u8]) -> Result<Vec<u8>, EncodeError> {
         let mut out = zeros(5 + keys.len()).ok_or(EncodeError::Memory)?;
         // SAFETY: each pointer and the length after it are those of one slice; `out` is a new one.
         let view = unsafe {
@@ -401,11 +401,11 @@ impl<'a, const N: usize> Set<'a, N> {
     ///
     /// ```
     /// # use commonware_proved::{EncodeError, Set};
-    /// assert_eq!(Set::encode(&[[7, 8], [5, 6], [7, 8]])?, [2, 5, 6, 7, 8]);
+    /// assert_eq!(Set::encode_dedup(&[[7, 8], [5, 6], [7, 8]])?, [2, 5, 6, 7, 8]);
     /// # Ok::<(), EncodeError>(())
     /// ```
-    pub fn encode(keys: &[[u8; N]]) -> Result<Vec<u8>, EncodeError> {
-        SetView::encode(N, keys.as_flattened())
+    pub fn encode_dedup(keys: &[[u8; N]]) -> Result<Vec<u8>, EncodeError> {
+        SetView::encode_dedup(N, keys.as_flattened())
     }
 
     /// Returns the set of keys of `N` bytes.

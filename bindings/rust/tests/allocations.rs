@@ -185,7 +185,7 @@ fn sets_and_maps_ask_for_nothing_and_bimaps_for_their_indices() {
 
 #[test]
 fn those_named_ask_for_their_indices_alone() {
-    let committee = CommitteeBuf::from_keys(&[0, 1, 2, 3].map(|i| [i; 32])).expect("members");
+    let committee = CommitteeBuf::from_keys_dedup(&[0, 1, 2, 3].map(|i| [i; 32])).expect("members");
     let (committee, model) = (committee.as_view(), FaultModel::N3F1);
     let value = |decision: u8| slot_value(&[7; 1_000], &[decision]).expect("a value");
     let certificates = [(0, &[0, 1, 2][..]), (1, &[0, 1, 2, 3])];
@@ -306,22 +306,25 @@ fn is_trimmed(what: &str, result: Result<Vec<u8>, EncodeError>) {
 fn results_keep_no_more_than_twice_their_memory() {
     for count in [0, 1, 2, 3, 100, 70_000usize] {
         let keys = vec![[7; 32]; count];
-        is_trimmed("committee", Committee::encode(&keys));
+        is_trimmed("committee", Committee::encode_dedup(&keys));
         is_trimmed(
             "committee",
-            CommitteeBuf::from_keys(&keys).map(CommitteeBuf::into_bytes),
+            CommitteeBuf::from_keys_dedup(&keys).map(CommitteeBuf::into_bytes),
         );
-        is_trimmed("set", Set::encode(&keys));
-        is_trimmed("set", SetView::encode(32, keys.as_flattened()));
-        is_trimmed("set", SetBuf::from_keys(32, &keys).map(SetBuf::into_bytes));
-        is_trimmed("map", MapView::encode(31, 1, keys.as_flattened()));
+        is_trimmed("set", Set::encode_dedup(&keys));
+        is_trimmed("set", SetView::encode_dedup(32, keys.as_flattened()));
+        is_trimmed(
+            "set",
+            SetBuf::from_keys_dedup(32, &keys).map(SetBuf::into_bytes),
+        );
+        is_trimmed("map", MapView::encode_dedup(31, 1, keys.as_flattened()));
         let signers: Vec<u32> = (0..count as u32).collect();
         is_trimmed("certificate", Certificate::encode(b"x", &signers));
         let owned = CertificateBuf::from_parts(b"", &signers);
         is_trimmed("certificate", owned.map(CertificateBuf::into_bytes));
         is_trimmed("value", slot_value(&vec![7; count], b""));
     }
-    is_trimmed("map", MapView::encode_unique(1, 1, &[]));
+    is_trimmed("map", MapView::encode(1, 1, &[]));
     let none: [([u8; 1], [u8; 1]); 0] = [];
     is_trimmed(
         "map",
@@ -362,15 +365,18 @@ fn each_allocation_failure_of_a_reader_is_an_error() {
 fn each_allocation_failure_of_a_writer_is_an_error() {
     let (memory, keys) = (EncodeError::Memory, [[7; 32], [5; 32]]);
     let refused = |call: &dyn Fn() -> Result<(), EncodeError>| refuse_each(&memory, call);
-    assert_eq!(refused(&|| Committee::encode(&keys).map(drop)), 1);
-    assert_eq!(refused(&|| Set::encode(&keys).map(drop)), 1);
-    assert_eq!(refused(&|| MapView::encode(1, 1, &[1, 2]).map(drop)), 1);
-    let unique = || MapView::encode_unique(1, 1, &[1, 2]).map(drop);
+    assert_eq!(refused(&|| Committee::encode_dedup(&keys).map(drop)), 1);
+    assert_eq!(refused(&|| Set::encode_dedup(&keys).map(drop)), 1);
+    assert_eq!(
+        refused(&|| MapView::encode_dedup(1, 1, &[1, 2]).map(drop)),
+        1
+    );
+    let unique = || MapView::encode(1, 1, &[1, 2]).map(drop);
     assert_eq!(refused(&unique), 1);
     assert_eq!(refused(&|| Certificate::encode(b"x", &[1]).map(drop)), 1);
     assert_eq!(refused(&|| slot_value(b"x", b"y").map(drop)), 1);
-    assert!(refused(&|| CommitteeBuf::from_keys(&keys).map(drop)) > 0);
-    assert!(refused(&|| SetBuf::from_keys(32, keys).map(drop)) > 1);
+    assert!(refused(&|| CommitteeBuf::from_keys_dedup(&keys).map(drop)) > 0);
+    assert!(refused(&|| SetBuf::from_keys_dedup(32, keys).map(drop)) > 1);
     let pairs = [(b"b", b"xx"), (b"a", b"yy")];
     assert!(refused(&|| MapBuf::from_pairs(1, 2, pairs).map(drop)) > 1);
     assert!(refused(&|| BiMapBuf::from_pairs(1, 2, pairs).map(drop)) > 2);
@@ -387,7 +393,7 @@ fn each_allocation_failure_of_those_named_is_an_error() {
     assert_eq!(refuse_each(&ConflictError::Memory, call), 1);
     let call = || equivocation_encoded(model, 1, &one, &two);
     assert_eq!(refuse_each(&EquivocationError::Memory, call), 1);
-    let committee = CommitteeBuf::from_keys(&[[0; 32]]).expect("a committee");
+    let committee = CommitteeBuf::from_keys_dedup(&[[0; 32]]).expect("a committee");
     let [first, second] = [&one, &two].map(|it| Certificate::decode(it).expect("one"));
     let call = || conflict(model, &committee.as_view(), &first, &second);
     assert_eq!(refuse_each(&ConflictError::Memory, call), 1);

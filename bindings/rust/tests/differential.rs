@@ -68,7 +68,7 @@ fn committees_are_written_sorted_and_each_once() {
     for _ in 0..CASES {
         let keys = some_keys(&mut random);
         assert_eq!(
-            Committee::encode(&keys),
+            Committee::encode_dedup(&keys),
             Ok(committee_bytes(&sorted(&keys)))
         );
     }
@@ -86,7 +86,7 @@ fn large_committees_go_both_ways() {
             })
             .collect();
         let bytes = committee_bytes(&sorted(&keys));
-        assert_eq!(Committee::encode(&keys).as_ref(), Ok(&bytes));
+        assert_eq!(Committee::encode_dedup(&keys).as_ref(), Ok(&bytes));
         let committee = Committee::try_from(&bytes[..]).unwrap();
         for (i, key) in committee.iter().enumerate() {
             assert_eq!(committee.position(key), Some(i));
@@ -318,7 +318,7 @@ fn quorums_share_what_the_theorem_says() {
 #[test]
 fn eight_threads_call_at_once() {
     let keys: Vec<Member> = (0..100u8).rev().map(|i| [i; 32]).collect();
-    let bytes = Committee::encode(&keys).unwrap();
+    let bytes = Committee::encode_dedup(&keys).unwrap();
     let signers: Vec<u32> = (0..80).collect();
     let inputs = [b"a", b"b"].map(|value| Certificate::encode(value, &signers).unwrap());
     std::thread::scope(|scope| {
@@ -327,7 +327,7 @@ fn eight_threads_call_at_once() {
                 for _ in 0..2_000 {
                     let committee = Committee::try_from(&bytes[..]).unwrap();
                     assert_eq!(committee.position(&[77; 32]), Some(77));
-                    assert_eq!(Committee::encode(&keys).as_ref(), Ok(&bytes));
+                    assert_eq!(Committee::encode_dedup(&keys).as_ref(), Ok(&bytes));
                     let both = conflict_encoded(FaultModel::N3F1, 100, &inputs[0], &inputs[1]);
                     assert_eq!(both.as_ref(), Ok(&signers));
                 }
@@ -340,7 +340,7 @@ fn eight_threads_call_at_once() {
 fn an_empty_input_ends_too_soon() {
     assert_eq!(Committee::read(&[], 0..=9), Err(Refusal::EndOfInput));
     assert_eq!(Certificate::try_from(&[][..]), Err(Refusal::EndOfInput));
-    assert_eq!(Committee::encode(&[]), Ok(vec![0]));
+    assert_eq!(Committee::encode_dedup(&[]), Ok(vec![0]));
     assert_eq!(Certificate::encode(&[], &[]), Ok(vec![0, 0]));
     let refused = conflict_encoded(FaultModel::N3F1, 1, &[], &[]);
     assert_eq!(

@@ -110,7 +110,7 @@ fn refuse_each<T, E: PartialEq + std::fmt::Debug>(
 
 #[test]
 fn reading_a_committee_allocates_nothing() {
-    let bytes = Committee::encode(&[[2; 32], [1; 32]]).unwrap();
+    let bytes = Committee::encode_dedup(&[[2; 32], [1; 32]]).unwrap();
     let requests = refuse_each(&Refusal::Memory, || Committee::try_from(&bytes[..]));
     assert_eq!(requests, 0);
     let committee = Committee::try_from(&bytes[..]).unwrap();
@@ -159,36 +159,40 @@ fn reading_bimaps_allocates_nothing_in_the_library() {
 #[test]
 fn writing_a_committee_returns_each_allocation_failure() {
     let keys: Vec<_> = (0..200u8).rev().map(|i| [i; 32]).collect();
-    let requests = refuse_each(&EncodeError::Memory, || Committee::encode(&keys));
+    let requests = refuse_each(&EncodeError::Memory, || Committee::encode_dedup(&keys));
     assert!(requests > 0);
 }
 
 #[test]
 fn writing_a_set_returns_each_allocation_failure() {
     let keys: Vec<_> = (0..200u8).rev().map(|i| [i; 48]).collect();
-    let requests = refuse_each(&EncodeError::Memory, || Set::encode(&keys));
+    let requests = refuse_each(&EncodeError::Memory, || Set::encode_dedup(&keys));
     assert!(requests > 0);
     let risen: Vec<u8> = keys.iter().rev().flatten().copied().collect();
-    let requests = refuse_each(&EncodeError::Memory, || SetView::encode(48, &risen));
+    let requests = refuse_each(&EncodeError::Memory, || SetView::encode_dedup(48, &risen));
     assert_eq!(requests, 0, "keys in order take no memory");
-    let none = || SetView::encode(0, &risen).err().ok_or(());
+    let none = || SetView::encode_dedup(0, &risen).err().ok_or(());
     assert_eq!(refuse_each(&(), none), 0, "a size of 0 is seen first");
 }
 
 #[test]
 fn writing_a_map_returns_each_allocation_failure() {
     let pairs: Vec<u8> = (0..200u8).rev().flat_map(|i| [i; 28]).collect();
-    let requests = refuse_each(&EncodeError::Memory, || MapView::encode(20, 8, &pairs));
+    let requests = refuse_each(&EncodeError::Memory, || {
+        MapView::encode_dedup(20, 8, &pairs)
+    });
     assert!(requests > 0);
     let risen: Vec<u8> = (0..200u8).flat_map(|i| [i; 28]).collect();
-    let requests = refuse_each(&EncodeError::Memory, || MapView::encode(20, 8, &risen));
+    let requests = refuse_each(&EncodeError::Memory, || {
+        MapView::encode_dedup(20, 8, &risen)
+    });
     assert_eq!(requests, 0, "pairs of keys in order take no memory");
 }
 
 #[test]
 fn writing_a_map_of_unique_keys_returns_each_allocation_failure() {
     let mut pairs: Vec<u8> = (0..200u8).rev().flat_map(|i| [i; 28]).collect();
-    let encode = |pairs: &[u8]| MapView::encode_unique(20, 8, pairs);
+    let encode = |pairs: &[u8]| MapView::encode(20, 8, pairs);
     assert!(refuse_each(&EncodeError::Memory, || encode(&pairs)) > 0);
     let risen: Vec<u8> = (0..200u8).flat_map(|i| [i; 28]).collect();
     assert_eq!(refuse_each(&EncodeError::Memory, || encode(&risen)), 0);
@@ -209,8 +213,8 @@ fn owning_what_is_made_returns_each_allocation_failure() {
     let keys: Vec<_> = (0..200u8).rev().map(|i| [i; 32]).collect();
     let pairs = || keys.iter().map(|key| (key, [key[0]]));
     let memory = EncodeError::Memory;
-    assert!(refuse_each(&memory, || CommitteeBuf::from_keys(&keys)) > 0);
-    assert!(refuse_each(&memory, || SetBuf::from_keys(32, &keys)) > 0);
+    assert!(refuse_each(&memory, || CommitteeBuf::from_keys_dedup(&keys)) > 0);
+    assert!(refuse_each(&memory, || SetBuf::from_keys_dedup(32, &keys)) > 0);
     assert!(refuse_each(&memory, || MapBuf::from_pairs(32, 1, pairs())) > 0);
     assert!(refuse_each(&memory, || BiMapBuf::from_pairs(32, 1, pairs())) > 0);
     let parts = || CertificateBuf::from_parts(b"x", &[1, 2]);

@@ -35,7 +35,7 @@ fn committees_of_keys_in_any_order_have_what_their_view_has() {
             .into_iter()
             .collect();
         let mut bytes = committee_bytes(&members);
-        let owned = CommitteeBuf::from_keys(&keys).expect("memory");
+        let owned = CommitteeBuf::from_keys_dedup(&keys).expect("memory");
         let view = Committee::decode(&bytes).expect("a committee");
         assert_eq!(
             (owned.as_view(), owned.as_view().members()),
@@ -67,7 +67,7 @@ fn sets_of_keys_in_any_order_have_what_their_view_has() {
         let (size, letters) = (random.below(5), 1 + random.below(4));
         let item = |random: &mut Random| some_item(random, size, letters);
         let keys: Vec<_> = (0..random.below(9)).map(|_| item(&mut random)).collect();
-        let owned = SetBuf::from_keys(size, &keys);
+        let owned = SetBuf::from_keys_dedup(size, &keys);
         if size == 0 {
             assert_eq!(owned, Err(EncodeError::NoSize));
             continue;
@@ -322,7 +322,7 @@ fn views_are_their_bytes_as_their_owned_forms_are() {
 
 #[test]
 fn owned_forms_are_walked_as_their_views_are() {
-    let committee = CommitteeBuf::from_keys(&[[2; 32], [1; 32]]).expect("memory");
+    let committee = CommitteeBuf::from_keys_dedup(&[[2; 32], [1; 32]]).expect("memory");
     let mut walked = Vec::new();
     for member in &committee {
         walked.push(member);
@@ -331,7 +331,7 @@ fn owned_forms_are_walked_as_their_views_are() {
         walked,
         committee.as_view().members().iter().collect::<Vec<_>>()
     );
-    let keys = SetBuf::from_keys(2, [b"ok", b"am"]).expect("memory");
+    let keys = SetBuf::from_keys_dedup(2, [b"ok", b"am"]).expect("memory");
     let mut walked = Vec::new();
     for key in &keys {
         walked.push(key);
@@ -353,7 +353,7 @@ fn keys_and_values_of_another_size_are_told() {
         (0..5).for_each(|i| items[i][1] = i as u8);
         items[index] = vec![7; length];
         let of_keys = Err(EncodeError::KeySize { index, length });
-        assert_eq!(SetBuf::from_keys(2, &items).map(drop), of_keys);
+        assert_eq!(SetBuf::from_keys_dedup(2, &items).map(drop), of_keys);
         let pairs = items.iter().map(|item| (item, b"abc"));
         assert_eq!(MapBuf::from_pairs(2, 3, pairs.clone()).map(drop), of_keys);
         assert_eq!(BiMapBuf::from_pairs(2, 3, pairs).map(drop), of_keys);
@@ -388,7 +388,7 @@ fn keys_and_values_of_another_size_are_told() {
 #[test]
 fn keys_of_no_bytes_are_read_and_not_made() {
     let none: [(&[u8], &[u8]); 0] = [];
-    assert_eq!(SetBuf::from_keys(0, [b""]), Err(EncodeError::NoSize));
+    assert_eq!(SetBuf::from_keys_dedup(0, [b""]), Err(EncodeError::NoSize));
     assert_eq!(MapBuf::from_pairs(0, 1, none), Err(EncodeError::NoSize));
     assert_eq!(BiMapBuf::from_pairs(0, 1, none), Err(EncodeError::NoSize));
     let set = SetBuf::decode(0, vec![1]).expect("a set");
@@ -420,7 +420,7 @@ fn what_no_pair_has_is_in_none() {
     );
     assert_eq!((view.key_size(), view.value_size()), (48, 32));
     assert_eq!(
-        CommitteeBuf::from_keys(&[]).map(CommitteeBuf::into_bytes),
+        CommitteeBuf::from_keys_dedup(&[]).map(CommitteeBuf::into_bytes),
         Ok(vec![0])
     );
     let nobody = CertificateBuf::from_parts(b"", &[]).map(CertificateBuf::into_bytes);
@@ -453,7 +453,7 @@ fn many_pairs_with_one_repeat_are_told_as_they_were_given() {
 #[test]
 fn a_set_has_a_type_for_its_size_alone() {
     let keys = [[7; 33], [3; 33]];
-    let owned = SetBuf::from_keys(33, keys).expect("a set");
+    let owned = SetBuf::from_keys_dedup(33, keys).expect("a set");
     let typed: Set<'_, 33> = owned.as_view().as_set().expect("keys of 33 bytes");
     assert_eq!(typed.keys(), [[3; 33], [7; 33]]);
     assert_eq!(SetView::from(typed), owned.as_view());

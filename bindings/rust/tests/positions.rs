@@ -224,25 +224,25 @@ fn each_byte_of_a_key_makes_it_another() {
         let one = [&[1], less].concat();
         for (first, second) in [(less, greater), (greater, less)] {
             let keys = [first, second].concat();
-            assert_eq!(SetView::encode(size, &keys), Ok(set.clone()));
+            assert_eq!(SetView::encode_dedup(size, &keys), Ok(set.clone()));
             let values = if first == less { [2, 3, 4] } else { [2, 4, 3] };
             let pairs = [first, &[3], second, &[4]].concat();
             let map = [&set[..], &values].concat();
-            assert_eq!(MapView::encode(size, 1, &pairs), Ok(map.clone()));
-            assert_eq!(MapView::encode_unique(size, 1, &pairs), Ok(map));
+            assert_eq!(MapView::encode_dedup(size, 1, &pairs), Ok(map.clone()));
+            assert_eq!(MapView::encode(size, 1, &pairs), Ok(map));
         }
         assert_eq!(
-            SetView::encode(size, &[less, less].concat()),
+            SetView::encode_dedup(size, &[less, less].concat()),
             Ok(one.clone())
         );
         let pairs = [less, &[3], less, &[4]].concat();
         let map = [&one[..], &[1, 3]].concat();
-        assert_eq!(MapView::encode(size, 1, &pairs), Ok(map));
+        assert_eq!(MapView::encode_dedup(size, 1, &pairs), Ok(map));
         let repeated = Err(EncodeError::RepeatedKey {
             first: 0,
             second: 1,
         });
-        assert_eq!(MapView::encode_unique(size, 1, &pairs), repeated);
+        assert_eq!(MapView::encode(size, 1, &pairs), repeated);
     });
 }
 
@@ -252,7 +252,7 @@ fn large_items_are_told_apart(size: usize) {
     (less[size - 1], greater[size - 1]) = (1, 2);
     let (less, greater) = (&less[..], &greater[..]);
     let set = [&[2], less, greater].concat();
-    let written = SetView::encode(size, &[greater, less, greater].concat());
+    let written = SetView::encode_dedup(size, &[greater, less, greater].concat());
     assert!(written.as_ref() == Ok(&set), "{size}");
     let keys = SetView::decode(size, &set).expect("a set");
     let places = [less, greater].map(|key| keys.position(key));
@@ -263,7 +263,7 @@ fn large_items_are_told_apart(size: usize) {
 
     let pairs = [greater, less, less, greater].concat();
     let map = [&set[..], &[2], greater, less].concat();
-    let encoders = [MapView::encode, MapView::encode_unique];
+    let encoders = [MapView::encode_dedup, MapView::encode];
     for written in encoders.map(|encode| encode(size, size, &pairs)) {
         assert!(written.as_ref() == Ok(&map), "{size}");
     }
@@ -272,7 +272,7 @@ fn large_items_are_told_apart(size: usize) {
         assert!(bimap.get_value(key) == Some(value), "{size}");
         assert!(bimap.get_key(value) == Some(key), "{size}");
     }
-    let twice = MapView::encode_unique(size, 0, &[less, less].concat());
+    let twice = MapView::encode(size, 0, &[less, less].concat());
     assert_eq!(
         twice.err(),
         Some(EncodeError::RepeatedKey {

@@ -43,7 +43,7 @@ fn keys_of(count: u32) -> Vec<Member> {
 fn committees_of_each_number_of_keys_go_both_ways() {
     for count in (0..=EACH).chain([1_000, 5_000, 65_536, 70_000]) {
         let mut keys = keys_of(count);
-        let bytes = Committee::encode(&keys);
+        let bytes = Committee::encode_dedup(&keys);
         keys.reverse();
         assert_eq!(bytes.as_ref(), Ok(&committee_bytes(&keys)), "{count}");
         let bytes = bytes.unwrap();
@@ -192,7 +192,7 @@ fn each_proper_prefix_ends_too_soon() {
             "{end}"
         );
     }
-    let committee = Committee::encode(&keys_of(EACH)).unwrap();
+    let committee = Committee::encode_dedup(&keys_of(EACH)).unwrap();
     for end in 0..committee.len() {
         let refused = Committee::try_from(&committee[..end]);
         assert_eq!(refused, Err(Refusal::EndOfInput), "{end}");

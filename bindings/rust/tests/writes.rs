@@ -101,7 +101,7 @@ fn try_write(size: usize, keys: &[u8], room: usize) -> &'static str {
     assert_eq!(told, (OK, count, 0, bytes.len()));
     assert_eq!(out[..bytes.len()], bytes);
     assert!(out[bytes.len()..].iter().all(|byte| *byte == UNTOUCHED));
-    assert_eq!(SetView::encode(size, keys).as_deref(), Ok(&bytes[..]));
+    assert_eq!(SetView::encode_dedup(size, keys).as_deref(), Ok(&bytes[..]));
     "ok"
 }
 
@@ -128,8 +128,8 @@ fn a_committee_is_written_as_a_set_of_its_size() {
         let mut keys = some_keys(&mut random, 32);
         keys.truncate(keys.len() / 32 * 32);
         let members: Vec<Member> = keys.as_chunks().0.to_vec();
-        let committee = commonware_proved::Committee::encode(&members);
-        assert_eq!(committee, SetView::encode(32, &keys));
+        let committee = commonware_proved::Committee::encode_dedup(&members);
+        assert_eq!(committee, SetView::encode_dedup(32, &keys));
     }
 }
 
@@ -160,13 +160,13 @@ struct MapWriter {
 /// Of equal keys the first stays.
 const FIRSTS: MapWriter = MapWriter {
     call: raw::commonware_map_encode_dedup,
-    encode: MapView::encode,
+    encode: MapView::encode_dedup,
 };
 
 /// Equal keys are refused.
 const UNIQUE: MapWriter = MapWriter {
     call: raw::commonware_map_encode,
-    encode: MapView::encode_unique,
+    encode: MapView::encode,
 };
 
 impl MapWriter {
@@ -352,7 +352,7 @@ fn try_unique(sizes: (usize, usize), pairs: &[u8], room: usize) -> &'static str 
     let told = UNIQUE.write(sizes, pairs, &mut out);
     assert_eq!(told, (REPEATED_KEY, 0, second, 0));
     assert!(out.iter().all(|byte| *byte == UNTOUCHED));
-    let encoded = MapView::encode_unique(sizes.0, sizes.1, pairs);
+    let encoded = MapView::encode(sizes.0, sizes.1, pairs);
     assert_eq!(encoded, Err(EncodeError::RepeatedKey { first, second }));
     "repeat"
 }

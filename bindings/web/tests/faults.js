@@ -1,7 +1,7 @@
 // Where the page says that random inputs are wrong, beside where the plain reader stands when it refuses them.
 
 import { faultOf } from "../fault.js";
-import { Fault, Reader, compare, encodeCertificate, encodeMap, encodeSet, varint } from "./plain.js";
+import { Fault, Reader, compare, encodeCertificate, encodeMap, encodeSetDedup, varint } from "./plain.js";
 import { Chance } from "./random.js";
 
 const LIMITS = { least: 0, most: 5 };
@@ -12,7 +12,7 @@ function bytesFor({ name, keySize, valueSize }, chance) {
     const keys = chance.list(6, () => chance.bytes(keySize, 4));
     if (name === "set") {
         // Now and then out of order.
-        return chance.one(encodeSet(keys), [...varint(keys.length), ...keys.flat()]);
+        return chance.one(encodeSetDedup(keys), [...varint(keys.length), ...keys.flat()]);
     }
     if (name === "certificate") {
         const signers = chance.list(6, () => chance.one(chance.below(9), 128, 300));

@@ -41,20 +41,20 @@ function tryArguments(commonware) {
     refused("a number of 33 bits", () => commonware.maxFaults(3, 2 ** 32), "OutOfRange", "and not 4294967296");
     refused("a limit past 64 bits", () => commonware.readSet(1, new Uint8Array(1), { most: 2n ** 64n }), "OutOfRange", "most");
     refused("a signer past 32 bits", () => commonware.encodeCertificate(bytes("aa"), [2 ** 32]), "OutOfRange", "a signer");
-    refused("a negative weight", () => commonware.weightNumbers(3, [-1n]), "OutOfRange", "a weight");
+    refused("a negative weight", () => commonware.weightsQuorum(3, [-1n]), "OutOfRange", "a weight");
     refused("a text for bytes", () => commonware.decodeCommittee("00"), "TypeError", "input is a Uint8Array");
     const wide = "a whole number from 0: a bigint below 2^64, or a number up to 2^53 - 1, and not";
     refused("a limit that isn't exact", () => commonware.readSet(1, new Uint8Array(1), { most: 2 ** 53 }), "OutOfRange", `most is ${wide} ${2 ** 53}`);
-    refused("a negative bigint", () => commonware.weightNumbers(3, [-1n]), "OutOfRange", `a weight is ${wide} -1`, { most: 2n ** 64n - 1n });
-    refused("a key of another size", () => commonware.encodeSet(2, [bytes("0102"), bytes("03")]), "WrongSize", "key 1 has 1 bytes");
-    refused("a member too short", () => commonware.encodeCommittee([new Uint8Array(32), new Uint8Array(31)]), "WrongSize", "key 1 has 31 bytes");
-    refused("half a member", () => commonware.encodeCommittee(new Uint8Array(33)), "NotWhole", "1 bytes after the last whole item", { count: 1 });
-    refused("keys of no bytes", () => commonware.encodeSet(0, new Uint8Array(3)), "NoSize", "keys of no bytes");
-    refused("half a key", () => commonware.encodeSet(2, new Uint8Array(3)), "NotWhole", "1 bytes after the last whole item");
+    refused("a negative bigint", () => commonware.weightsQuorum(3, [-1n]), "OutOfRange", `a weight is ${wide} -1`, { most: 2n ** 64n - 1n });
+    refused("a key of another size", () => commonware.encodeSetDedup(2, [bytes("0102"), bytes("03")]), "WrongSize", "key 1 has 1 bytes");
+    refused("a member too short", () => commonware.encodeCommitteeDedup([new Uint8Array(32), new Uint8Array(31)]), "WrongSize", "key 1 has 31 bytes");
+    refused("half a member", () => commonware.encodeCommitteeDedup(new Uint8Array(33)), "NotWhole", "1 bytes after the last whole item", { count: 1 });
+    refused("keys of no bytes", () => commonware.encodeSetDedup(0, new Uint8Array(3)), "NoSize", "keys of no bytes");
+    refused("half a key", () => commonware.encodeSetDedup(2, new Uint8Array(3)), "NotWhole", "1 bytes after the last whole item");
     refused("k below 2", () => commonware.quorum(1, 4), "NoModel", "k is below 2");
     refused("no members", () => commonware.quorum(3, 0), "NoMembers", "no members");
     note(commonware.version === "2.0.0", "the version", commonware.version);
-    note(commonware.indexOfMember([], new Uint8Array(31)) === null, "a key of another size is no member");
+    note(commonware.positionInCommittee([], new Uint8Array(31)) === null, "a key of another size is no member");
     const { name, which } = (() => {
         try {
             return commonware.equivocation(3, 4, bytes("0301070003000102"), bytes("03010700"));
@@ -74,7 +74,7 @@ function tryArguments(commonware) {
 
 /** The look-ups, of keys and lists that aren't as they are to be. */
 function tryLookUps(commonware) {
-    const calls = { indexOfMember: commonware.indexOfMember.bind(commonware), indexOfKey: commonware.indexOfKey.bind(commonware) };
+    const calls = { positionInCommittee: commonware.positionInCommittee.bind(commonware), positionInSet: commonware.positionInSet.bind(commonware) };
     for (const [name, indexOf] of Object.entries(calls)) {
         const members = [bytes("01".repeat(32)), bytes("03".repeat(32))];
         const flat = bytes("01".repeat(32) + "03".repeat(32));
@@ -91,16 +91,16 @@ function tryLookUps(commonware) {
         note(indexOf([], new Uint8Array(32)) === null && indexOf(new Uint8Array(0), new Uint8Array(32)) === null, `${name}: no keys`);
     }
     const none = new Uint8Array(0);
-    note(commonware.indexOfKey(commonware.decodeSet(0, bytes("01")), none) === 0, "the key of no bytes is where its set has it");
-    note(commonware.indexOfKey(commonware.decodeSet(0, bytes("00")), none) === null, "the key of no bytes isn't in an empty set");
-    note(commonware.indexOfKey([none], bytes("07")) === null, "another key isn't in the set of the one of no bytes");
-    refused("bytes of no keys", () => commonware.indexOfKey(none, none), "NoSize", "keys of no bytes");
+    note(commonware.positionInSet(commonware.decodeSet(0, bytes("01")), none) === 0, "the key of no bytes is where its set has it");
+    note(commonware.positionInSet(commonware.decodeSet(0, bytes("00")), none) === null, "the key of no bytes isn't in an empty set");
+    note(commonware.positionInSet([none], bytes("07")) === null, "another key isn't in the set of the one of no bytes");
+    refused("bytes of no keys", () => commonware.positionInSet(none, none), "NoSize", "keys of no bytes");
 }
 
 /** The first pair that is wrong is told, and which part of it. */
 function tryPairs(commonware) {
     const pairs = [[bytes("0102"), bytes("07")], [bytes("0304"), bytes("0708")], [bytes("05"), bytes("07")]];
-    for (const call of ["encodeMap", "encodeUniqueMap"]) {
+    for (const call of ["encodeMapDedup", "encodeMap"]) {
         const encode = (list) => commonware[call](2, 1, list);
         refused(`${call}: a value before a key`, () => encode(pairs), "WrongSize", "value 1 has 2 bytes, and should have 1", { index: 1, length: 2, size: 1, part: "value" });
         refused(`${call}: a key before a value`, () => encode([pairs[0], [bytes("05"), bytes("0708")]]), "WrongSize", "key 1 has 1 bytes, and should have 2", { index: 1, length: 1, size: 2, part: "key" });
@@ -113,7 +113,7 @@ function tryPairs(commonware) {
             yield pair;
         }
     };
-    refused("pairs as they come", () => commonware.encodeMap(2, 1, walk()), "WrongSize", "value 1", { part: "value" });
+    refused("pairs as they come", () => commonware.encodeMapDedup(2, 1, walk()), "WrongSize", "value 1", { part: "value" });
     note(walked === 2, "they are walked up to the first that is wrong", `${walked}`);
 }
 
@@ -124,8 +124,8 @@ function tryMemories(commonware) {
     const members = commonware.decodeCommittee(foreign);
     note(members.length === 1 && members[0].constructor === Uint8Array, "an array of another realm is read");
     const key = others.from({ length: 32 }, () => 7);
-    note(commonware.indexOfMember([key], key) === 0 && commonware.indexOfKey(key, key) === 0, "keys of another realm are found");
-    const map = commonware.encodeMap(32, 1, others.from({ length: 33 }, () => 7));
+    note(commonware.positionInCommittee([key], key) === 0 && commonware.positionInSet(key, key) === 0, "keys of another realm are found");
+    const map = commonware.encodeMapDedup(32, 1, others.from({ length: 33 }, () => 7));
     note(hex(map) === `01${"07".repeat(32)}0107`, "pairs of another realm are written");
     for (const wrong of [new Uint16Array(1), new DataView(new ArrayBuffer(1)), new ArrayBuffer(1), { [Symbol.toStringTag]: "Uint8Array" }]) {
         refused(`${wrong.constructor.name} for bytes`, () => commonware.decodeCommittee(wrong), "TypeError", "input is a Uint8Array");
@@ -198,13 +198,13 @@ function trySizes(commonware) {
         for (let index = 0; index < 2 * count; index++) {
             view.setUint32(32 * index, count - (index % count || 0));
         }
-        const encoded = commonware.encodeCommittee(keys);
+        const encoded = commonware.encodeCommitteeDedup(keys);
         const length = count < 128 ? 1 : count < 16384 ? 2 : 3;
         const members = commonware.decodeCommittee(encoded);
         const rise = members.every((it, index) => new DataView(it.buffer).getUint32(0) === index + 1);
         note(encoded.length === length + 32 * count && members.length === count && rise, `${count} members of twice as many keys`);
         const pairs = members.map((it) => [it, it.slice(0, 4)]).reverse();
-        const map = commonware.encodeUniqueMap(32, 4, pairs);
+        const map = commonware.encodeMap(32, 4, pairs);
         const { values } = commonware.decodeBiMap(32, 4, map);
         note(values.length === count && values.every((it, at) => hex(it) === hex(members[at].slice(0, 4))), `a bimap of ${count} pairs`);
     }

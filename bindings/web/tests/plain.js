@@ -139,7 +139,7 @@ export function varint(number) {
     }
 }
 
-export function encodeSet(keys) {
+export function encodeSetDedup(keys) {
     const sorted = [...keys].sort(compare).filter((key, at, all) => at === 0 || compare(all[at - 1], key) !== 0);
     return [...varint(sorted.length), ...sorted.flatMap((it) => [...it])];
 }
@@ -167,7 +167,7 @@ export function encodeCertificate(value, signers) {
     return [...varint(value.length), ...value, ...varint(signers.length), ...signers.flatMap(varint)];
 }
 
-export function encodeValue(slot, decision) {
+export function slotValue(slot, decision) {
     return [...varint(slot.length), ...slot, ...decision];
 }
 
@@ -183,7 +183,7 @@ export function numbers(k, n) {
     return { faults, quorum: n - faults, smaller: 2 * faults + 1 };
 }
 
-export function weightNumbers(k, weights) {
+export function weightsQuorum(k, weights) {
     if (k < 2) {
         throw new Fault("NoModel");
     }
@@ -219,7 +219,7 @@ export function slotOf(value) {
 export class Judge {
     constructor(k, committee) {
         this.weights = Array.isArray(committee) ? committee : null;
-        const of = this.weights ? weightNumbers(k, this.weights) : numbers(k, committee);
+        const of = this.weights ? weightsQuorum(k, this.weights) : numbers(k, committee);
         this.members = this.weights ? this.weights.length : committee;
         this.quorum = BigInt(of.quorum);
     }

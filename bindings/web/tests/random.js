@@ -115,7 +115,7 @@ function someSigners(chance, most) {
 
 function value(chance) {
     const slot = chance.bytes(chance.below(3), 2);
-    return chance.below(8) === 0 ? chance.bytes(chance.below(3)) : plain.encodeValue(slot, chance.bytes(chance.below(3), 2));
+    return chance.below(8) === 0 ? chance.bytes(chance.below(3)) : plain.slotValue(slot, chance.bytes(chance.below(3), 2));
 }
 
 function certificate(chance, members) {
@@ -149,11 +149,11 @@ function judging(call, isWeighted, judge) {
 }
 
 const CASES = {
-    readSet: decoder("set", oneSize, (chance, size) => plain.encodeSet(keys(chance, size)), "readSet"),
+    readSet: decoder("set", oneSize, (chance, size) => plain.encodeSetDedup(keys(chance, size)), "readSet"),
     readMap: decoder("map", twoSizes, encodedMap, "readMap"),
     readBiMap: decoder("bimap", twoSizes, encodedMap, "readBiMap"),
     readCommittee(commonware, chance) {
-        const bytes = chance.changed(plain.encodeSet(keys(chance, 32)));
+        const bytes = chance.changed(plain.encodeSetDedup(keys(chance, 32)));
         const allowed = limits(chance);
         const expected = () => {
             const { value: members, left } = plain.read("set", bytes, [32], allowed);
@@ -170,38 +170,38 @@ const CASES = {
         };
         return [() => commonware.readCertificate(of(bytes), { mostBytes, mostSigners }), expected];
     },
-    indexOfKey(commonware, chance) {
+    positionInSet(commonware, chance) {
         const size = chance.one(1, 2, 8, 32, 33);
-        const set = plain.read("set", plain.encodeSet(keys(chance, size, 20)), [size]).value;
+        const set = plain.read("set", plain.encodeSetDedup(keys(chance, size, 20)), [size]).value;
         const key = chance.one(chance.bytes(size, 3), chance.one(...set, chance.bytes(size)));
         const index = set.findIndex((it) => plain.compare(it, key) === 0);
-        return [() => commonware.indexOfKey(set.map(of), of(key)), () => (index < 0 ? null : index)];
+        return [() => commonware.positionInSet(set.map(of), of(key)), () => (index < 0 ? null : index)];
     },
-    indexOfMember(commonware, chance) {
-        const set = plain.read("set", plain.encodeSet(keys(chance, 32, 20)), [32]).value;
+    positionInCommittee(commonware, chance) {
+        const set = plain.read("set", plain.encodeSetDedup(keys(chance, 32, 20)), [32]).value;
         const key = chance.one(chance.bytes(32, 3), chance.one(...set, chance.bytes(32)));
         const index = set.findIndex((it) => plain.compare(it, key) === 0);
-        return [() => commonware.indexOfMember(set.map(of), of(key)), () => (index < 0 ? null : index)];
+        return [() => commonware.positionInCommittee(set.map(of), of(key)), () => (index < 0 ? null : index)];
     },
-    encodeSet(commonware, chance) {
+    encodeSetDedup(commonware, chance) {
         const size = chance.one(1, 2, 8, 32, 33);
         const given = keys(chance, size, 20);
-        return [() => commonware.encodeSet(size, given.map(of)), () => plain.encodeSet(given)];
+        return [() => commonware.encodeSetDedup(size, given.map(of)), () => plain.encodeSetDedup(given)];
     },
-    encodeCommittee(commonware, chance) {
+    encodeCommitteeDedup(commonware, chance) {
         const given = keys(chance, 32, 20);
-        return [() => commonware.encodeCommittee(given.map(of)), () => plain.encodeSet(given)];
+        return [() => commonware.encodeCommitteeDedup(given.map(of)), () => plain.encodeSetDedup(given)];
+    },
+    encodeMapDedup(commonware, chance) {
+        const sizes = [chance.one(1, 2, 20, 32), chance.one(0, 1, 2, 8, 32)];
+        const pairs = pairsOf(chance, ...sizes);
+        return [() => commonware.encodeMapDedup(...sizes, pairs.map((it) => it.map(of))), () => plain.encodeMap(pairs)];
     },
     encodeMap(commonware, chance) {
         const sizes = [chance.one(1, 2, 20, 32), chance.one(0, 1, 2, 8, 32)];
         const pairs = pairsOf(chance, ...sizes);
-        return [() => commonware.encodeMap(...sizes, pairs.map((it) => it.map(of))), () => plain.encodeMap(pairs)];
-    },
-    encodeUniqueMap(commonware, chance) {
-        const sizes = [chance.one(1, 2, 20, 32), chance.one(0, 1, 2, 8, 32)];
-        const pairs = pairsOf(chance, ...sizes);
         return [
-            () => commonware.encodeUniqueMap(...sizes, pairs.map((it) => it.map(of))),
+            () => commonware.encodeMap(...sizes, pairs.map((it) => it.map(of))),
             () => plain.encodeMap(pairs, true),
         ];
     },
@@ -213,9 +213,9 @@ const CASES = {
             () => plain.encodeCertificate(given, signers),
         ];
     },
-    encodeValue(commonware, chance) {
+    slotValue(commonware, chance) {
         const parts = [chance.bytes(chance.below(200)), chance.bytes(chance.below(20))];
-        return [() => commonware.encodeValue(...parts.map(of)), () => plain.encodeValue(...parts)];
+        return [() => commonware.slotValue(...parts.map(of)), () => plain.slotValue(...parts)];
     },
     numbers(commonware, chance) {
         const [k, n] = [0, 1].map(() => chance.one(chance.below(12), chance.next()));
@@ -226,15 +226,15 @@ const CASES = {
         });
         return [said, () => plain.numbers(k, n)];
     },
-    weightNumbers(commonware, chance) {
+    weightsQuorum(commonware, chance) {
         const k = chance.one(model(chance), chance.next());
         const weights = chance.list(8, () => weight(chance));
-        return [() => commonware.weightNumbers(k, weights), () => plain.weightNumbers(k, weights)];
+        return [() => commonware.weightsQuorum(k, weights), () => plain.weightsQuorum(k, weights)];
     },
-    checkQuorum: judging("checkQuorum", false, (judge, only) => judge.check(only)),
+    check: judging("check", false, (judge, only) => judge.check(only)),
     conflict: judging("conflict", false, (judge, one, two) => judge.both(one, two, false)),
     equivocation: judging("equivocation", false, (judge, one, two) => judge.both(one, two, true)),
-    checkWeightedQuorum: judging("checkWeightedQuorum", true, (judge, only) => judge.check(only)),
+    weightedCheck: judging("weightedCheck", true, (judge, only) => judge.check(only)),
     weightedConflict: judging("weightedConflict", true, (judge, one, two) => judge.both(one, two, false)),
     weightedEquivocation: judging("weightedEquivocation", true, (judge, one, two) => judge.both(one, two, true)),
 };

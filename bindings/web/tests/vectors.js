@@ -73,17 +73,17 @@ const asked = {
         return { items: keys.length, left: left.length };
     },
     build(commonware, question) {
-        return built(commonware, question, "encodeMap");
+        return built(commonware, question, "encodeMapDedup");
     },
     "build-unique"(commonware, question) {
-        return question.type.startsWith("set") ? null : built(commonware, question, "encodeUniqueMap");
+        return question.type.startsWith("set") ? null : built(commonware, question, "encodeMap");
     },
     position(commonware, { type, set, item }) {
         const sizes = sizesOf(type);
         if (!sizes || item.length !== 2 * sizes[0]) {
             return null;
         }
-        return { position: commonware.indexOfKey(commonware.decodeSet(sizes[0], bytes(set)), bytes(item)) };
+        return { position: commonware.positionInSet(commonware.decodeSet(sizes[0], bytes(set)), bytes(item)) };
     },
     faults(commonware, { model, members }) {
         const k = kOf(model);
@@ -91,7 +91,7 @@ const asked = {
         return { ...numbers, mQuorum: commonware.smallerQuorum(k, members) };
     },
     quorum(commonware, { model, members, certificate }) {
-        return quorumOf(commonware.checkQuorum(kOf(model), members, bytes(certificate)));
+        return quorumOf(commonware.check(kOf(model), members, bytes(certificate)));
     },
     conflict(commonware, { model, members, first, second }) {
         return bothOf(commonware.conflict(kOf(model), members, bytes(first), bytes(second)));
@@ -100,7 +100,7 @@ const asked = {
         return ofDecisions(() => bothOf(commonware.equivocation(kOf(model), members, bytes(first), bytes(second))));
     },
     weights(commonware, { model, weights }) {
-        const numbers = commonware.weightNumbers(kOf(model), weightsOf(weights));
+        const numbers = commonware.weightsQuorum(kOf(model), weightsOf(weights));
         return {
             totalWeight: String(numbers.total),
             toleratedWeight: String(numbers.tolerated),
@@ -109,7 +109,7 @@ const asked = {
         };
     },
     "weighted-quorum"(commonware, { model, weights, certificate }) {
-        return quorumOf(commonware.checkWeightedQuorum(kOf(model), weightsOf(weights), bytes(certificate)));
+        return quorumOf(commonware.weightedCheck(kOf(model), weightsOf(weights), bytes(certificate)));
     },
     "weighted-conflict"(commonware, question) {
         return weightedBoth(commonware, question, "weightedConflict");
@@ -126,7 +126,7 @@ function built(commonware, { type, listed }, call) {
     }
     const [keys, values] = listsOf(bytes(listed), ...sizes);
     return type.startsWith("set")
-        ? { built: hex(commonware.encodeSet(sizes[0], keys)) }
+        ? { built: hex(commonware.encodeSetDedup(sizes[0], keys)) }
         : { built: hex(commonware[call](...sizes, keys.map((it, index) => [it, values[index]]))) };
 }
 

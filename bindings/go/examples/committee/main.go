@@ -17,7 +17,7 @@ func run() error {
 		}
 		keys = append(keys, key)
 	}
-	committee, err := commonware.NewCommittee(keys)
+	committee, err := commonware.NewCommitteeDedup(keys)
 	if err != nil {
 		return err
 	}
@@ -57,7 +57,7 @@ func signed(decision string, signers ...uint32) ([]byte, error) {
 	if err != nil {
 		return nil, err
 	}
-	return commonware.Certificate{Value: value, Signers: signers}.Encode()
+	return commonware.EncodeCertificate(value, signers)
 }
 
 func main() {

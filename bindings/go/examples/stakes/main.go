@@ -10,7 +10,7 @@ import (
 
 func run() error {
 	weights, model := []uint64{40, 30, 20, 10}, commonware.N3F1
-	it, err := model.OfWeights(weights)
+	it, err := model.WeightsQuorum(weights)
 	if err != nil {
 		return err
 	}

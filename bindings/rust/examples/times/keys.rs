@@ -78,7 +78,10 @@ fn keys_of(seed: &mut u64, n: usize, size: usize, shared: usize) -> Vec<u8> {
 fn compare_keys(seed: &mut u64, n: usize, size: usize, shared: usize) {
     let keys = keys_of(seed, n, size, shared);
     let bytes = plain_write(size, &keys);
-    assert_eq!(SetView::encode(size, &keys).as_deref(), Ok(&bytes[..]));
+    assert_eq!(
+        SetView::encode_dedup(size, &keys).as_deref(),
+        Ok(&bytes[..])
+    );
     let set = SetView::decode(size, &bytes).unwrap();
     let name = |call: &str| format!("{call} {n} of {size}, {shared} shared");
     let rounds = 1 + (8_000 / n) as u32;
@@ -111,7 +114,7 @@ fn compare_keys(seed: &mut u64, n: usize, size: usize, shared: usize) {
         compare(
             &name("write"),
             1 + rounds / 40,
-            || drop(black_box(SetView::encode(size, black_box(&keys))).unwrap()),
+            || drop(black_box(SetView::encode_dedup(size, black_box(&keys))).unwrap()),
             || drop(black_box(plain_write(size, black_box(&keys)))),
         );
     }

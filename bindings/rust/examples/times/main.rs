@@ -129,7 +129,7 @@ fn main() {
     let mut seed = 1;
     for n in [4, 100, 256] {
         let keys = random_keys(&mut seed, n);
-        let bytes = Committee::encode(&keys).unwrap();
+        let bytes = Committee::encode_dedup(&keys).unwrap();
         assert_eq!(bytes, plain_write(&keys));
         let rounds = 8_000 / n;
         let read = || {
@@ -159,7 +159,7 @@ fn main() {
         compare(
             &format!("write {n} random keys"),
             1 + rounds / 40,
-            || drop(black_box(Committee::encode(black_box(&keys))).unwrap()),
+            || drop(black_box(Committee::encode_dedup(black_box(&keys))).unwrap()),
             || drop(black_box(plain_write(black_box(&keys)))),
         );
         conflicts(n, 1 + rounds / 4);

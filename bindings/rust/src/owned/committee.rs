@@ -16,7 +16,7 @@ use core::{fmt, slice};
 /// }
 ///
 /// let keys = [[7; 32], [1; 32], [3; 32], [5; 32]];
-/// let node = Node { committee: CommitteeBuf::from_keys(&keys)? };
+/// let node = Node { committee: CommitteeBuf::from_keys_dedup(&keys)? };
 /// assert_eq!(node.committee.as_view().position(&[7; 32]), Some(3));
 /// assert_eq!(node.committee.as_view().quorum(FaultModel::N3F1), Some(3));
 /// # Ok::<(), commonware_proved::EncodeError>(())
@@ -33,19 +33,19 @@ impl CommitteeBuf {
     ///
     /// # Errors
     ///
-    /// Those of [`Committee::encode`].
+    /// Those of [`Committee::encode_dedup`].
     ///
     /// ```
     /// # use commonware_proved::CommitteeBuf;
     /// let keys = [[2; 32], [1; 32], [2; 32]];
-    /// let committee = CommitteeBuf::from_keys(&keys)?;
+    /// let committee = CommitteeBuf::from_keys_dedup(&keys)?;
     /// assert_eq!(committee.as_view().members(), [[1; 32], [2; 32]]);
     /// // One was given twice.
     /// assert_eq!((committee.as_view().len(), keys.len()), (2, 3));
     /// # Ok::<(), commonware_proved::EncodeError>(())
     /// ```
-    pub fn from_keys(keys: &[Member]) -> Result<CommitteeBuf, EncodeError> {
-        let encoding = Committee::encode(keys)?;
+    pub fn from_keys_dedup(keys: &[Member]) -> Result<CommitteeBuf, EncodeError> {
+        let encoding = Committee::encode_dedup(keys)?;
         CommitteeBuf::decode(encoding).map_err(EncodeError::of_reading)
     }
 
@@ -77,7 +77,7 @@ impl CommitteeBuf {
     ///
     /// ```
     /// # use commonware_proved::CommitteeBuf;
-    /// let committee = CommitteeBuf::from_keys(&[[2; 32], [1; 32]])?;
+    /// let committee = CommitteeBuf::from_keys_dedup(&[[2; 32], [1; 32]])?;
     /// assert_eq!(committee.as_view().get(0), Some(&[1; 32]));
     /// # Ok::<(), commonware_proved::EncodeError>(())
     /// ```
@@ -90,7 +90,7 @@ impl CommitteeBuf {
     ///
     /// ```
     /// # use commonware_proved::CommitteeBuf;
-    /// assert_eq!(CommitteeBuf::from_keys(&[])?.as_bytes(), [0]);
+    /// assert_eq!(CommitteeBuf::from_keys_dedup(&[])?.as_bytes(), [0]);
     /// # Ok::<(), commonware_proved::EncodeError>(())
     /// ```
     #[must_use]
@@ -102,7 +102,7 @@ impl CommitteeBuf {
     ///
     /// ```
     /// # use commonware_proved::CommitteeBuf;
-    /// assert_eq!(CommitteeBuf::from_keys(&[])?.into_bytes(), vec![0]);
+    /// assert_eq!(CommitteeBuf::from_keys_dedup(&[])?.into_bytes(), vec![0]);
     /// # Ok::<(), commonware_proved::EncodeError>(())
     /// ```
     #[must_use]

@@ -29,7 +29,7 @@ pub struct MapBuf {
 
 impl MapBuf {
     /// Returns the map of these pairs of a key and a value, which may come in any order. Of pairs
-    /// whose keys repeat, [`MapView::encode`] takes the first.
+    /// whose keys repeat, [`MapView::encode_dedup`] takes the first.
     ///
     /// # Errors
     ///
@@ -61,7 +61,7 @@ impl MapBuf {
         value_size: usize,
         pairs: &[u8],
     ) -> Result<MapBuf, EncodeError> {
-        let encoding = MapView::encode_unique(key_size, value_size, pairs)?;
+        let encoding = MapView::encode(key_size, value_size, pairs)?;
         MapBuf::decode(key_size, value_size, encoding).map_err(EncodeError::of_reading)
     }
 

@@ -16,7 +16,7 @@ use core::fmt;
 ///     validators: SetBuf,
 /// }
 ///
-/// let node = Node { validators: SetBuf::from_keys(20, [[0xbb; 20], [0xaa; 20]])? };
+/// let node = Node { validators: SetBuf::from_keys_dedup(20, [[0xbb; 20], [0xaa; 20]])? };
 /// assert_eq!(node.validators.as_view().position(&[0xbb; 20]), Some(1));
 /// # Ok::<(), commonware_proved::EncodeError>(())
 /// ```
@@ -38,15 +38,15 @@ impl SetBuf {
     /// ```
     /// # use commonware_proved::{EncodeError, SetBuf};
     /// let given = [[7, 8], [5, 6], [7, 8]];
-    /// let keys = SetBuf::from_keys(2, given)?;
+    /// let keys = SetBuf::from_keys_dedup(2, given)?;
     /// assert_eq!(keys.as_view().as_bytes(), [2, 5, 6, 7, 8]);
     /// // One was given twice.
     /// assert_eq!((keys.as_view().len(), given.len()), (2, 3));
     /// let other = EncodeError::KeySize { index: 1, length: 3 };
-    /// assert_eq!(SetBuf::from_keys(2, [&b"ab"[..], b"abc"]), Err(other));
+    /// assert_eq!(SetBuf::from_keys_dedup(2, [&b"ab"[..], b"abc"]), Err(other));
     /// # Ok::<(), EncodeError>(())
     /// ```
-    pub fn from_keys<K: AsRef<[u8]>>(
+    pub fn from_keys_dedup<K: AsRef<[u8]>>(
         key_size: usize,
         keys: impl IntoIterator<Item = K>,
     ) -> Result<SetBuf, EncodeError> {
@@ -54,7 +54,7 @@ impl SetBuf {
         for (index, key) in keys.into_iter().enumerate() {
             append_key(&mut bytes, key_size, index, key.as_ref())?;
         }
-        let encoding = SetView::encode(key_size, &bytes)?;
+        let encoding = SetView::encode_dedup(key_size, &bytes)?;
         SetBuf::decode(key_size, encoding).map_err(EncodeError::of_reading)
     }
 
@@ -85,7 +85,7 @@ impl SetBuf {
     ///
     /// ```
     /// # use commonware_proved::SetBuf;
-    /// let keys = SetBuf::from_keys(2, [[7, 8], [5, 6]])?;
+    /// let keys = SetBuf::from_keys_dedup(2, [[7, 8], [5, 6]])?;
     /// assert!(keys.as_view().iter().eq([[5, 6], [7, 8]]));
     /// # Ok::<(), commonware_proved::EncodeError>(())
     /// ```
@@ -98,7 +98,7 @@ impl SetBuf {
     ///
     /// ```
     /// # use commonware_proved::SetBuf;
-    /// assert_eq!(SetBuf::from_keys(1, [[7], [5]])?.as_bytes(), [2, 5, 7]);
+    /// assert_eq!(SetBuf::from_keys_dedup(1, [[7], [5]])?.as_bytes(), [2, 5, 7]);
     /// # Ok::<(), commonware_proved::EncodeError>(())
     /// ```
     #[must_use]
@@ -110,7 +110,7 @@ impl SetBuf {
     ///
     /// ```
     /// # use commonware_proved::SetBuf;
-    /// assert_eq!(SetBuf::from_keys(1, [[7], [5]])?.into_bytes(), vec![2, 5, 7]);
+    /// assert_eq!(SetBuf::from_keys_dedup(1, [[7], [5]])?.into_bytes(), vec![2, 5, 7]);
     /// # Ok::<(), commonware_proved::EncodeError>(())
     /// ```
     #[must_use]

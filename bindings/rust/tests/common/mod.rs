@@ -9,7 +9,7 @@ use commonware_proved::{CommitteeBuf, Member};
 /// Returns a committee of this number of members, which is 256 at most.
 pub fn committee_of(members: usize) -> CommitteeBuf {
     let keys: Vec<Member> = (0..members).map(|i| [i as u8; 32]).collect();
-    CommitteeBuf::from_keys(&keys).expect("memory")
+    CommitteeBuf::from_keys_dedup(&keys).expect("memory")
 }
 
 /// Returns how many random cases a test tries.
