@@ -1,0 +1,220 @@
+//! The members that signed both of two votes, where each has a least number of signers.
+ghost use Rattle.std.specs.Prelude.{◌≡◌, ◌+◌, ◌≤◌, ◌⊎◌, ◌↔◌, ℕ, Bool, IfOk, IsErrOf, OnOk, length};
+ghost use Rattle.committee_certificates.specs.Accountability.{Passes};
+ghost use Rattle.committee_certificates.specs.Signers.{AreInBoth, AreMembers, HasOutsider};
+ghost use Rattle.committee_certificates.specs.WalkCosts.{IsWalkedToAnEnd};
+ghost use Rattle.committee_votes.specs.declared.overlaps.OverlapError.TheVariants.{Memory, OtherDomain, OtherSlot, Outside, SameDecision, TooFew};
+ghost use Rattle.committee_votes.specs.declared.verdicts.Verdict.TheVariants.{CannotJudge, Failed, NoOffenceByThisRule};
+ghost use Rattle.committee_votes.specs.Accountability.{EachHasSignedTwo, EachSigned, InLog};
+ghost use Rattle.committee_votes.specs.Accountability.{NoneIsHonest, SignOneVote};
+ghost use Rattle.committee_votes.specs.Shares.{AreFewer, AreShared};
+ghost use Rattle.committee_votes.specs.Votes.{AreOfOtherDomains, AreOfOtherSlots, AreOneDecision};
+ghost use Rattle.committee_votes.specs.Votes.{Ballot, Contradict, ballot_at};
+
+use crate::verdicts::Verdict;
+use crate::votes::{VoteAt, VotesError, check_votes};
+use committee_certificates::{are_members, signers_of_both_counted};
+use commonware_base::Participant;
+use commonware_ordered::{Counter, Set, Uncounted};
+use std::alloc::Allocator;
+
+/// Why two votes with a least number of signers each name no one. They are tried in this order.
+///
+/// In a committee of 4, where 3 have to sign each, slot 7: A, signed by 0, 1 and 2, and slot 7: B,
+/// signed by 1, give `TooFew`.
+#[derive(Clone, Copy, Debug, PartialEq, Eq, thiserror::Error)]
+pub enum OverlapError {
+    /// The votes are of two domains: of two chains, or of two committees.
+    #[error("two different domains")]
+    OtherDomain,
+    /// The votes are for two slots of one domain, of which honest members may sign both.
+    #[error("two different slots")]
+    OtherSlot,
+    /// The votes are the same decision for the same slot.
+    #[error("the same decision for the same slot")]
+    SameDecision,
+    /// A signer of one of them is at or past the committee's length.
+    #[error("a signer is no member of the committee")]
+    Outside,
+    /// All signers are members, and fewer than its least number signed one of the votes.
+    #[error("fewer signers than asked for")]
+    TooFew,
+    /// An allocation failed. It says nothing of the votes.
+    #[error("out of memory")]
+    Memory,
+}
+
+impl OverlapError {
+    /// Returns which kind of refusal it is. None of them acquits anybody.
+    pub fn verdict(&self) -> Verdict
+        ensures no_offence { (result ≡ NoOffenceByThisRule) ↔ ((self.now ≡ OtherDomain)
+            ⊎ (self.now ≡ OtherSlot) ⊎ (self.now ≡ SameDecision)) }
+        ensures cannot_judge { (result ≡ CannotJudge) ↔ ((self.now ≡ Outside)
+            ⊎ (self.now ≡ TooFew)) }
+        ensures failed { (result ≡ Failed) ↔ (self.now ≡ Memory) }
+    {
+        match self {
+            OverlapError::OtherDomain => Verdict::NoOffenceByThisRule,
+            OverlapError::OtherSlot => Verdict::NoOffenceByThisRule,
+            OverlapError::SameDecision => Verdict::NoOffenceByThisRule,
+            OverlapError::Outside => Verdict::CannotJudge,
+            OverlapError::TooFew => Verdict::CannotJudge,
+            OverlapError::Memory => Verdict::Failed,
+        }
+    }
+}
+
+/// Returns what `double_signers` does, where at least `first_least` members signed the first vote,
+/// and at least `second_least` the second: a notarization and a finalization, say, or a quorum and
+/// one vote.
+///
+/// With a and b for these numbers, at least a + b - n of the n members are returned; and where
+/// a + b is more than n + f, one of them is outside any f members (`shared`). Both numbers may be
+/// 0, and then it is `double_signers`.
+///
+/// The errors come in the order of `OverlapError`, each exactly where it says; all but `Memory`
+/// before anything is allocated, and `Memory` only where both votes have signers.
+///
+/// **Warning.** It looks at no signature. Whoever doesn't verify them first may accuse an innocent
+/// member.
+pub fn overlap<A: Allocator>(
+    alloc: A,
+    members: usize,
+    first_least: usize,
+    first: VoteAt<'_>,
+    first_signers: &Set<Participant, A>,
+    second_least: usize,
+    second: VoteAt<'_>,
+    second_signers: &Set<Participant, A>,
+) -> Result<Set<Participant, A>, OverlapError>
+    ensures other_domain { IsErrOf result OtherDomain
+        ↔ AreOfOtherDomains (ballot_at first.entry) (ballot_at second.entry) }
+    ensures other_slot { IsErrOf result OtherSlot
+        ↔ AreOfOtherSlots (ballot_at first.entry) (ballot_at second.entry) }
+    ensures same_decision { IsErrOf result SameDecision
+        ↔ AreOneDecision (ballot_at first.entry) (ballot_at second.entry) }
+    ensures outside { IsErrOf result Outside
+        ↔ (Contradict (ballot_at first.entry) (ballot_at second.entry)
+        × (HasOutsider members first_signers.now ⊎ HasOutsider members second_signers.now)) }
+    ensures too_few { IsErrOf result TooFew
+        ↔ (Contradict (ballot_at first.entry) (ballot_at second.entry)
+        × AreMembers members first_signers.now × AreMembers members second_signers.now
+        × (AreFewer first_least first_signers.now ⊎ AreFewer second_least second_signers.now)) }
+    ensures memory { IsErrOf result Memory
+        → (Contradict (ballot_at first.entry) (ballot_at second.entry)
+        × AreMembers members first_signers.now × AreMembers members second_signers.now
+        × (first_least ≤ length first_signers.now) × (second_least ≤ length second_signers.now)) }
+    ensures nothing { IsErrOf result Memory
+        → (1 ≤ length first_signers.now) × (1 ≤ length second_signers.now) }
+    ensures contradict { OnOk result (Contradict (ballot_at first.entry) (ballot_at second.entry)) }
+    ensures members { OnOk result
+        (AreMembers members first_signers.now × AreMembers members second_signers.now) }
+    ensures enough { OnOk result
+        ((first_least ≤ length first_signers.now) × (second_least ≤ length second_signers.now)) }
+    ensures both { IfOk result (AreInBoth first_signers.now second_signers.now) }
+    ensures shared { IfOk result (AreShared members first_least second_least) }
+    ensures guilty { (log : ℕ → Ballot → Bool)
+        → EachSigned (InLog log) first_signers.now (ballot_at first.entry)
+        → EachSigned (InLog log) second_signers.now (ballot_at second.entry)
+        → IfOk result (EachHasSignedTwo (InLog log)) }
+    ensures innocent { (honest : ℕ → Bool) (log : ℕ → Ballot → Bool)
+        → SignOneVote (Passes honest) (InLog log)
+        → EachSigned (InLog log) first_signers.now (ballot_at first.entry)
+        → EachSigned (InLog log) second_signers.now (ballot_at second.entry)
+        → IfOk result (NoneIsHonest (Passes honest)) }
+{
+    overlap_counted(
+        alloc,
+        members,
+        first_least,
+        first,
+        first_signers,
+        second_least,
+        second,
+        second_signers,
+        &mut Uncounted,
+    )
+}
+
+/// Returns what `overlap` does, and counts how often it compares a signer of one vote
+/// with one of the other: at most as often as there are signers of both votes, where those that
+/// signed both are counted once; and for an Ok at least as often as one of the votes has signers.
+pub fn overlap_counted<A: Allocator, C: Counter>(
+    alloc: A,
+    members: usize,
+    first_least: usize,
+    first: VoteAt<'_>,
+    first_signers: &Set<Participant, A>,
+    second_least: usize,
+    second: VoteAt<'_>,
+    second_signers: &Set<Participant, A>,
+    count: &mut C,
+) -> Result<Set<Participant, A>, OverlapError>
+    ensures other_domain { IsErrOf result OtherDomain
+        ↔ AreOfOtherDomains (ballot_at first.entry) (ballot_at second.entry) }
+    ensures other_slot { IsErrOf result OtherSlot
+        ↔ AreOfOtherSlots (ballot_at first.entry) (ballot_at second.entry) }
+    ensures same_decision { IsErrOf result SameDecision
+        ↔ AreOneDecision (ballot_at first.entry) (ballot_at second.entry) }
+    ensures outside { IsErrOf result Outside
+        ↔ (Contradict (ballot_at first.entry) (ballot_at second.entry)
+        × (HasOutsider members first_signers.now ⊎ HasOutsider members second_signers.now)) }
+    ensures too_few { IsErrOf result TooFew
+        ↔ (Contradict (ballot_at first.entry) (ballot_at second.entry)
+        × AreMembers members first_signers.now × AreMembers members second_signers.now
+        × (AreFewer first_least first_signers.now ⊎ AreFewer second_least second_signers.now)) }
+    ensures memory { IsErrOf result Memory
+        → (Contradict (ballot_at first.entry) (ballot_at second.entry)
+        × AreMembers members first_signers.now × AreMembers members second_signers.now
+        × (first_least ≤ length first_signers.now) × (second_least ≤ length second_signers.now)) }
+    ensures nothing { IsErrOf result Memory
+        → (1 ≤ length first_signers.now) × (1 ≤ length second_signers.now) }
+    ensures contradict { OnOk result (Contradict (ballot_at first.entry) (ballot_at second.entry)) }
+    ensures members { OnOk result
+        (AreMembers members first_signers.now × AreMembers members second_signers.now) }
+    ensures enough { OnOk result
+        ((first_least ≤ length first_signers.now) × (second_least ≤ length second_signers.now)) }
+    ensures both { IfOk result (AreInBoth first_signers.now second_signers.now) }
+    ensures shared { IfOk result (AreShared members first_least second_least) }
+    ensures guilty { (log : ℕ → Ballot → Bool)
+        → EachSigned (InLog log) first_signers.now (ballot_at first.entry)
+        → EachSigned (InLog log) second_signers.now (ballot_at second.entry)
+        → IfOk result (EachHasSignedTwo (InLog log)) }
+    ensures innocent { (honest : ℕ → Bool) (log : ℕ → Ballot → Bool)
+        → SignOneVote (Passes honest) (InLog log)
+        → EachSigned (InLog log) first_signers.now (ballot_at first.entry)
+        → EachSigned (InLog log) second_signers.now (ballot_at second.entry)
+        → IfOk result (NoneIsHonest (Passes honest)) }
+    ensures cost { C.counted count.new
+        ≤ C.counted count.old + length first_signers.now + length second_signers.now }
+    ensures once { IfOk result (λ both. C.counted count.new + length both
+        ≤ C.counted count.old + length first_signers.now + length second_signers.now) }
+    ensures least { OnOk result (IsWalkedToAnEnd C.step
+        (length first_signers.now) (length second_signers.now)
+        (C.counted count.old) (C.counted count.new)) }
+{
+    match check_votes(first, second) {
+        Ok(()) => {}
+        Err(VotesError::OtherDomain) => return Err(OverlapError::OtherDomain),
+        Err(VotesError::OtherSlot) => return Err(OverlapError::OtherSlot),
+        Err(VotesError::SameDecision) => return Err(OverlapError::SameDecision),
+    }
+    if !are_members(members, first_signers) {
+        return Err(OverlapError::Outside);
+    }
+    if !are_members(members, second_signers) {
+        return Err(OverlapError::Outside);
+    }
+    let one = first_signers.as_slice();
+    let two = second_signers.as_slice();
+    if one.len() < first_least {
+        return Err(OverlapError::TooFew);
+    }
+    if two.len() < second_least {
+        return Err(OverlapError::TooFew);
+    }
+    match signers_of_both_counted(alloc, first_signers, second_signers, count) {
+        Ok(both) => Ok(both),
+        Err(_) => Err(OverlapError::Memory),
+    }
+}
