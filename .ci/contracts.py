@@ -30,7 +30,7 @@ SAME_NAMES = {
 }
 
 # The crates of the library and of its programs; all others are tests, examples and equipment.
-LIBRARY = re.compile("commonware_|committee_certificates$|committee_votes$|committee_weights$")
+LIBRARY = re.compile("commonware_|committee_certificates$|committee_votes$|committee_vote_weights$|committee_weights$")
 PROGRAMS = re.compile("(program_io|committee|judge|speed|quickstart)(_core|_questions|_verdicts)?$")
 
 Clause = collections.namedtuple("Clause", "kind name text place")

@@ -1,3 +1,4 @@
+pub mod FoundVote
 pub mod Reading
 pub mod Sharing
 pub mod Signing

@@ -15,6 +15,7 @@ use Rattle.commonware_ordered.specs.Sets.{IsWritableSet}
 use Rattle.committee_certificates.specs.Certificates.{AreAllowedSigners, SignersFault}
 use Rattle.committee_votes.specs.declared.certificates.VoteCertificate.{VoteCertificate}
 use Rattle.committee_votes.specs.declared.votes.Vote.{Vote}
+use Rattle.committee_votes.specs.declared.votes.VoteAt.{VoteAt}
 
 -- three lists of bytes, in the order of their encoding
 abbrev pub Fields : Type 0
@@ -23,6 +24,10 @@ Fields = List ℕ × (List ℕ × List ℕ)
 -- the three lists of bytes of a vote
 abbrev pub fields : {A : Type 0} → Vote A → Fields
 fields vote = (vote.domain.items, (vote.slot.items, vote.decision.items))
+
+-- and those of a borrowed one
+abbrev pub fields_at : VoteAt → Fields
+fields_at vote = (vote.domain.now, (vote.slot.now, vote.decision.now))
 
 -- the fields of the vote, and the signers
 abbrev pub parts : {A : Type 0} → VoteCertificate A → Fields × List ℕ

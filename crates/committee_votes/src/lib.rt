@@ -6,6 +6,7 @@
 mod certificates;
 mod doubles;
 mod equivocations;
+mod in_place;
 mod laws;
 mod overlaps;
 mod thresholds;
@@ -17,6 +18,7 @@ pub use doubles::{DoubleSignersError, double_signers, double_signers_counted};
 pub use equivocations::{
     equivocation, equivocation_among, equivocation_among_counted, equivocation_counted,
 };
+pub use in_place::{VoteCertificateAt, find_vote, find_vote_certificate};
 pub use laws::{Ballots, double_signer_law, double_signer_law_by_key};
 pub use overlaps::{OverlapError, overlap, overlap_counted};
 pub use thresholds::{at_least_two_thirds, more_than_two_thirds, outlasted};
