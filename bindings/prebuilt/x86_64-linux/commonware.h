@@ -30,11 +30,11 @@
  * Stack. 16 KiB suffice for each call, by the frames of the built library and by how deep a sort of
  * fewer than 2^32 items recurses, which isn't proved. Tests with 70,000 pairs take 6,320 bytes.
  *
- * Memory. commonware_committee_write, commonware_set_write, commonware_map_write and
- * commonware_map_write_unique allocate, and free all of it before they return; the others allocate
- * nothing, and never return COMMONWARE_MEMORY. The archive holds a heap over malloc, realloc and
- * free. A program with an allocator of its own defines these three instead, with C linkage and all
- * of them, and the linker takes them:
+ * Memory. commonware_committee_encode_dedup, commonware_set_encode_dedup,
+ * commonware_map_encode_dedup and commonware_map_encode allocate, and free all of it before they
+ * return; the others allocate nothing, and never return COMMONWARE_MEMORY. The archive holds a heap
+ * over malloc, realloc and free. A program with an allocator of its own defines these three
+ * instead, with C linkage and all of them, and the linker takes them:
  *
  *     struct tried { bool ok; unsigned char *block; };
  *     struct tried commonware_alloc(size_t size, size_t align);
@@ -66,8 +66,8 @@ extern "C" {
 #endif
 
 /* The version of this header, by its parts and as one number, each for #if too. */
-#define COMMONWARE_VERSION_MAJOR 1
-#define COMMONWARE_VERSION_MINOR 1
+#define COMMONWARE_VERSION_MAJOR 2
+#define COMMONWARE_VERSION_MINOR 0
 #define COMMONWARE_VERSION_PATCH 0
 #define COMMONWARE_VERSION                                                  \
     (1000000 * COMMONWARE_VERSION_MAJOR + 1000 * COMMONWARE_VERSION_MINOR + \
@@ -239,7 +239,7 @@ COMMONWARE_CHECKED commonware_keys_view commonware_set_read(
  * Among keys that begin with 1 and 3, one that begins with 3 has status 0 and index 1 where the
  * rest agrees, and one that begins with 2 has status 12 and index 1. */
 typedef struct {
-    /* OK or ABSENT; of commonware_set_index also NO_SIZE and NOT_WHOLE. */
+    /* OK or ABSENT; of commonware_set_position also NO_SIZE and NOT_WHOLE. */
     uint32_t status;
     /* At OK: that of the key; at ABSENT: that of the first greater one, or the number of keys. */
     size_t index;
@@ -249,13 +249,13 @@ typedef struct {
  * another, in O(log n) comparisons; `keys_length` is in bytes. Among those that
  * commonware_set_read has found with a size_t `size` it is
  *
- *     commonware_set_index(input + view.start, view.count * size, key, size)
+ *     commonware_set_position(input + view.start, view.count * size, key, size)
  *
  * NO_SIZE exactly where `key_length` is 0, since it can't be told how many keys of no bytes
  * there are: a set of such keys has the key exactly where view.count is 1. NOT_WHOLE exactly
  * where `key_length` is greater than 0 and doesn't divide `keys_length`. In a list that isn't in
- * order, OK and ABSENT are as commonware_committee_index has them. */
-COMMONWARE_CHECKED commonware_place_view commonware_set_index(
+ * order, OK and ABSENT are as commonware_committee_position has them. */
+COMMONWARE_CHECKED commonware_place_view commonware_set_position(
     const uint8_t *keys, size_t keys_length, const uint8_t *key, size_t key_length);
 
 /* Returns the index of a key among the members of a committee, in O(log n) comparisons.
@@ -264,7 +264,7 @@ COMMONWARE_CHECKED commonware_place_view commonware_set_index(
  * commonware_committee_read has found. `key` has 32 bytes. In a list that isn't in order, OK
  * still comes with the index of the key, and ABSENT with an index where the key is greater than
  * the one before and less than the one there. */
-COMMONWARE_CHECKED commonware_place_view commonware_committee_index(
+COMMONWARE_CHECKED commonware_place_view commonware_committee_position(
     const uint8_t *members, size_t members_count, const uint8_t *key);
 
 /* What was written, or would be.
@@ -272,7 +272,7 @@ COMMONWARE_CHECKED commonware_place_view commonware_committee_index(
  * Of five members, two of them equal, it is status 0, count 4 and size 129. */
 typedef struct {
     /* OK, INVALID_LENGTH, NOT_STRICT, MEMORY, ROOM, NO_SIZE or NOT_WHOLE; of
-     * commonware_map_write_unique also REPEATED_KEY. */
+     * commonware_map_encode also REPEATED_KEY. */
     uint32_t status;
     /* At OK and ROOM: how many members, keys, pairs or signers there are. */
     size_t count;
@@ -290,8 +290,8 @@ typedef struct {
  * it is greater and doesn't divide `keys_length`, INVALID_LENGTH where the distinct keys are
  * more than 4294967295. Never MEMORY where the keys come in order, each once, as one key and no
  * keys do: nothing is allocated then. Never NOT_STRICT. At a size of 32 it is
- * commonware_committee_write. */
-COMMONWARE_CHECKED commonware_written_view commonware_set_write(
+ * commonware_committee_encode_dedup. */
+COMMONWARE_CHECKED commonware_written_view commonware_set_encode_dedup(
     size_t size, const uint8_t *keys, size_t keys_length, uint8_t *out, size_t out_length);
 
 /* Writes the committee of these keys to the start of `out`: sorted, each key once.
@@ -300,7 +300,7 @@ COMMONWARE_CHECKED commonware_written_view commonware_set_write(
  * COMMONWARE_COMMITTEE_SIZE(members_count) bytes always suffice. INVALID_LENGTH where the
  * distinct keys are more than 4294967295. Never MEMORY where the keys come in order, each once,
  * as one key and no keys do: nothing is allocated then. Never NOT_STRICT, NO_SIZE or NOT_WHOLE. */
-COMMONWARE_CHECKED commonware_written_view commonware_committee_write(
+COMMONWARE_CHECKED commonware_written_view commonware_committee_encode_dedup(
     const uint8_t *members, size_t members_count, uint8_t *out, size_t out_length);
 
 /* A map of keys of one size and values of another at the start of the input.
@@ -330,7 +330,7 @@ typedef struct {
  * keys + i * key_size on, and its value the value_size bytes from input + values + i *
  * value_size on. The value of a key is found by the index of the key:
  *
- *     at = commonware_set_index(input + view.keys, view.count * key_size, key, key_size);
+ *     at = commonware_set_position(input + view.keys, view.count * key_size, key, key_size);
  *     value = input + view.values + at.index * value_size; // where at.status is COMMONWARE_OK
  *
  * Every number is a size, of keys and of values. Values may be equal; those of 0 bytes have no
@@ -377,8 +377,8 @@ typedef struct {
  * call with `room_length` 0 returns ROOM with how many indices it takes, or OK for no pairs. It
  * takes O(n log n) comparisons. Never MEMORY.
  *
- * There is no call that writes a bimap: it is what commonware_map_write_unique writes, and this
- * call says whether two values are the same. */
+ * There is no call that writes a bimap: it is what commonware_map_encode writes, and this call
+ * says whether two values are the same. */
 COMMONWARE_CHECKED commonware_bimap_view commonware_bimap_read(
     size_t key_size, size_t value_size, const uint8_t *input, size_t input_length, size_t least,
     size_t most, uint32_t *room, size_t room_length);
@@ -392,19 +392,19 @@ COMMONWARE_CHECKED commonware_bimap_view commonware_bimap_read(
  * `pairs_length`; INVALID_LENGTH where the distinct keys are more than 4294967295. Never MEMORY
  * where the pairs come in the order of their keys, each key once, as one pair and no pairs do:
  * nothing is allocated then. Never NOT_STRICT. */
-COMMONWARE_CHECKED commonware_written_view commonware_map_write(
+COMMONWARE_CHECKED commonware_written_view commonware_map_encode_dedup(
     size_t key_size, size_t value_size, const uint8_t *pairs, size_t pairs_length, uint8_t *out,
     size_t out_length);
 
-/* Writes the map of these pairs as commonware_map_write does, where no key repeats: OK then,
- * with all pairs. Where one does, nothing is written, and REPEATED_KEY comes with the least
- * index of a pair whose key an earlier pair has. The status is the first of these: NO_SIZE,
- * NOT_WHOLE, REPEATED_KEY or MEMORY, whichever is met first, INVALID_LENGTH where the pairs are
- * more than 4294967295, ROOM. Where there is memory, it is REPEATED_KEY exactly where the keys
- * have bytes, the pairs are whole and a key repeats. 10 + pairs_length bytes always suffice.
- * Never MEMORY where the pairs come in the order of their keys, each key once, as one pair and
- * no pairs do: nothing is allocated then. Never NOT_STRICT. */
-COMMONWARE_CHECKED commonware_written_view commonware_map_write_unique(
+/* Writes the map of these pairs as commonware_map_encode_dedup does, where no key repeats: OK
+ * then, with all pairs. Where one does, nothing is written, and REPEATED_KEY comes with the
+ * least index of a pair whose key an earlier pair has. The status is the first of these:
+ * NO_SIZE, NOT_WHOLE, REPEATED_KEY or MEMORY, whichever is met first, INVALID_LENGTH where the
+ * pairs are more than 4294967295, ROOM. Where there is memory, it is REPEATED_KEY exactly where
+ * the keys have bytes, the pairs are whole and a key repeats. 10 + pairs_length bytes always
+ * suffice. Never MEMORY where the pairs come in the order of their keys, each key once, as one
+ * pair and no pairs do: nothing is allocated then. Never NOT_STRICT. */
+COMMONWARE_CHECKED commonware_written_view commonware_map_encode(
     size_t key_size, size_t value_size, const uint8_t *pairs, size_t pairs_length, uint8_t *out,
     size_t out_length);
 
@@ -441,7 +441,7 @@ COMMONWARE_CHECKED commonware_certificate_view commonware_certificate_read(
  * first of these: INVALID_LENGTH for a value and then for signers past 4294967295, NOT_STRICT
  * for the first signer that isn't greater than the one before it, ROOM.
  * COMMONWARE_CERTIFICATE_SIZE(value_length, signers_length) bytes always suffice. Never MEMORY. */
-COMMONWARE_CHECKED commonware_written_view commonware_certificate_write(
+COMMONWARE_CHECKED commonware_written_view commonware_certificate_encode(
     const uint8_t *value, size_t value_length, const uint32_t *signers, size_t signers_length,
     uint8_t *out, size_t out_length);
 
@@ -449,10 +449,10 @@ COMMONWARE_CHECKED commonware_written_view commonware_certificate_write(
  * slot and the decision. A slot is what an honest member signs at most once, as bytes of the
  * protocol's choice: chain, committee, height, round and kind of vote, say. A height alone is
  * too little where there are rounds. Members sign this value, and a certificate of it is written
- * by commonware_certificate_write. At OK and ROOM the view's `size` is told, `count` never.
+ * by commonware_certificate_encode. At OK and ROOM the view's `size` is told, `count` never.
  * INVALID_LENGTH for the first of the slot, the decision and the value that is past 4294967295.
  * Never MEMORY. */
-COMMONWARE_CHECKED commonware_written_view commonware_value_write(
+COMMONWARE_CHECKED commonware_written_view commonware_slot_value(
     const uint8_t *slot, size_t slot_length, const uint8_t *decision, size_t decision_length,
     uint8_t *out, size_t out_length);
 
@@ -487,7 +487,7 @@ typedef struct {
  * LEFT_OVER), OUTSIDE, TOO_FEW.
  *
  * Warning: no signature is looked at. Whoever doesn't verify them knows nothing of who signed. */
-COMMONWARE_CHECKED commonware_check_view commonware_certificate_check(
+COMMONWARE_CHECKED commonware_check_view commonware_check(
     uint32_t k, uint32_t members, const uint8_t *input, size_t input_length);
 
 /* The result for two certificates.
