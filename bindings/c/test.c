@@ -714,12 +714,12 @@ static void test_memory(void) {
     allowed = SIZE_MAX;
 }
 
-/* The number is made of the parts, here of those of 1.23.456. */
+/* The number is made of the parts, here of those of 2.23.456. */
 #undef COMMONWARE_VERSION_MINOR
 #undef COMMONWARE_VERSION_PATCH
 #define COMMONWARE_VERSION_MINOR 23
 #define COMMONWARE_VERSION_PATCH 456
-#if COMMONWARE_VERSION != 1023456
+#if COMMONWARE_VERSION != 2023456
 #error "COMMONWARE_VERSION isn't made of the parts"
 #endif
 

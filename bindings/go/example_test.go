@@ -86,7 +86,7 @@ func ExampleReadSet() {
 	// Output: ["am" "ok"] "more" <nil>
 }
 
-func ExampleEncodeSet() {
+func ExampleEncodeSetDedup() {
 	encoded, err := commonware.EncodeSetDedup(2, []byte("okamok"))
 	fmt.Printf("%q %v\n", encoded, err)
 	_, err = commonware.EncodeSetDedup(2, []byte("oka"))
