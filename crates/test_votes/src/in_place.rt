@@ -14,18 +14,19 @@ fn limits() -> (VoteRanges, RangeCfg<usize>) {
     (ranges, RangeCfg::from(..=2))
 }
 
+/// Finds a certificate within the limits.
+fn find_within<'a>(source: &mut Source<'a>) -> Result<VoteCertificateAt<'a>, Error> {
+    let limits = limits();
+    find_vote_certificate(source, limits.0, limits.1)
+}
+
 /// Whether a certificate is found as the reader that allocates reads it: the same parts, the same
 /// error, and the same place in the source after it.
 fn is_found_as_read(alloc: Global, bytes: &[u8]) -> bool {
-    let (ranges, signers) = limits();
     let mut one = Source::new(bytes);
     let mut other = Source::new(bytes);
-    let read: Result<VoteCertificate<Global>, Error> = Read::read_cfg(
-        alloc,
-        &mut one,
-        &(ranges, signers),
-    );
-    let found = find_vote_certificate(&mut other, ranges, signers);
+    let read: Result<VoteCertificate<Global>, Error> = Read::read_cfg(alloc, &mut one, &limits());
+    let found = find_within(&mut other);
     let is_alike = match (read, found) {
         (Ok(read), Ok(found)) => has_parts(&read, &found),
         (Err(error), Err(other)) => error == other,
@@ -84,6 +85,9 @@ fn long_parts(bytes: &[u8]) -> Option<(usize, usize, usize, usize, usize)> {
         decision: any,
     };
     let mut source = Source::new(bytes);
+    if source.remaining() < 3 {
+        return None;
+    }
     source.advance(3);
     let found = find_vote_certificate(&mut source, ranges, any).ok()?;
     let vote = found.vote;

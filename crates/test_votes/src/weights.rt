@@ -13,6 +13,11 @@ use test_equipment::walk::{Heap, Outcome, Refusable, full, refused, requests};
 /// The members of each set of three bits.
 static SETS: [&[u32]; 8] = [&[], &[0], &[1], &[0, 1], &[2], &[0, 2], &[1, 2], &[0, 1, 2]];
 
+/// Returns the members of a set of bits.
+fn members_of(set: usize) -> &'static [u32] {
+    SETS[set % 8]
+}
+
 /// What the members of a set of bits weigh.
 fn sum_of(weights: [u64; 3], set: usize) -> u64 {
     let mut sum = 0u64;
@@ -35,7 +40,10 @@ fn are_right(
     let Ok(weights) = Weights::new(Vec::from_slice(alloc, &list)?) else {
         return Ok(false);
     };
-    let (one, two) = (signers(alloc, SETS[first])?, signers(alloc, SETS[second])?);
+    let (one, two) = (
+        signers(alloc, members_of(first))?,
+        signers(alloc, members_of(second))?,
+    );
     let (all, both) = (sum_of(list, 7), sum_of(list, first & second));
     for a in 0..9u64 {
         for b in 0..9u64 {
@@ -44,7 +52,7 @@ fn are_right(
             let is_right = match &answer {
                 Ok(named) => {
                     right
-                        && are(named, SETS[first & second])
+                        && are(named, members_of(first & second))
                         && both.wrapping_add(all) >= a.wrapping_add(b)
                 }
                 Err(error) => !right && *error == WeightedOverlapError::TooLight,
