@@ -33,7 +33,7 @@ func Example() {
 
 func ExampleVersion() {
 	fmt.Println(commonware.Version())
-	// Output: 1 1 0
+	// Output: 2 0 0
 }
 
 func ExampleFaultModel_MaxFaults() {
