@@ -77,8 +77,8 @@ static inline void put_two(uint8_t *out, size_t size) {
 /* Where as many bytes of 0 begin, after which comes a page that can't be touched. */
 static inline uint8_t *before_end(size_t length) {
     const size_t page = (size_t)sysconf(_SC_PAGESIZE), pages = length / page + 1;
-    uint8_t *const map = mmap(NULL, (pages + 1) * page, PROT_READ | PROT_WRITE,
-                              MAP_PRIVATE | MAP_ANONYMOUS, -1, 0);
+    uint8_t *const map = (uint8_t *)mmap(NULL, (pages + 1) * page, PROT_READ | PROT_WRITE,
+                                         MAP_PRIVATE | MAP_ANONYMOUS, -1, 0);
     if (map == MAP_FAILED || mprotect(map + pages * page, page, PROT_NONE) != 0) {
         printf("no pages\n");
         exit(2);

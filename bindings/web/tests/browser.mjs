@@ -64,6 +64,23 @@ async function tryModule(tab) {
     console.log(`# browser: ${cases} random cases in ${seconds.toFixed(1)} s, ${results} results of calls`);
 }
 
+async function tryNativeVectors(tab) {
+    const names = await tab.value(`(async () => {
+        window.fileOf = async (name) => (await fetch("/vectors/native/" + name + ".json")).json();
+        window.schema = await window.fileOf("schema");
+        const code = await (await fetch("/bindings/prebuilt/wasm64/commonware.wasm")).arrayBuffer();
+        window.native = (await WebAssembly.instantiate(await WebAssembly.compile(code), {})).exports;
+        return window.schema.properties.name.enum;
+    })()`);
+    for (const name of names) {
+        const { count, wrong } = await tab.value(`(async () => {
+            const { tryNative } = await import("/bindings/web/tests/native.js");
+            return tryNative(window.native, "${name}", window.schema, await window.fileOf("${name}"));
+        })()`);
+        note(count > 0 && wrong.length === 0, `browser: the native vectors of ${name}`, wrong.slice(0, 3).join("; "));
+    }
+}
+
 async function tryExamples(tab) {
     for (const [index, [id, ...texts]] of SHOWN.entries()) {
         await tab.click(`example-${index}`);

@@ -11,6 +11,7 @@ import { runInNewContext } from "node:vm";
 import * as module from "../commonware.js";
 import { faultOf } from "../fault.js";
 import { tryFaults } from "./faults.js";
+import { tryNative } from "./native.js";
 import { numbers } from "./plain.js";
 import { tryRandom } from "./random.js";
 import { FILES, bytes, hex, tryVectors } from "./vectors.js";
@@ -146,6 +147,18 @@ function tryMemories(commonware) {
     note(hex(commonware.decodeCertificate(signed).value) === "07".repeat(27), "a value in shared memory is written");
 }
 
+/** The vectors of native calls, over an instance of their own. */
+async function tryNativeVectors() {
+    const compiled = await WebAssembly.compile(await readFile(`${ROOT}/bindings/prebuilt/wasm64/commonware.wasm`));
+    const { exports } = await WebAssembly.instantiate(compiled, {});
+    const fileOf = async (name) => JSON.parse(await readFile(`${ROOT}/vectors/native/${name}.json`, "utf8"));
+    const schema = await fileOf("schema");
+    for (const name of schema.properties.name.enum) {
+        const { count, wrong } = tryNative(exports, name, schema, await fileOf(name));
+        note(count > 0 && wrong.length === 0, `node: the native vectors of ${name}`, wrong.slice(0, 3).join("; "));
+    }
+}
+
 /** A module with a 64-bit memory, and with a version alone. */
 function versioned(number) {
     const section = (id, ...content) => [id, content.length, ...content];
@@ -233,6 +246,7 @@ if (!module.isSupported()) {
         const { count, wrong } = tryVectors(commonware, name, file);
         note(count > 0 && wrong.length === 0, `node: the vectors of ${name}`, wrong.slice(0, 3).join("; "));
     }
+    await tryNativeVectors();
     const { wrong, met } = tryRandom(commonware, cases, 2 ** 31);
     note(wrong.length === 0, "node: random cases", wrong.join("; "));
     const faults = tryFaults(commonware, Math.ceil(cases / 5));

@@ -1,0 +1,156 @@
+"""Sets, committees, maps and bimaps of items of any size, as the native calls read, search and
+write them."""
+
+from bisect import bisect_left
+
+from native_views import *
+from varints import write_varint
+
+MEMBER = 32
+
+
+def items_of(data, size):
+    """Returns the items of one size that bytes are."""
+    return [data[at : at + size] for at in range(0, len(data), size)]
+
+
+def items_at(source, count, size):
+    """Returns the next items. Those of no bytes are the same, and two of them are enough."""
+    data = bytes_at(source, count * size)
+    return items_of(data, size) if size else [b""] * min(count, 2)
+
+
+def keys_at(source, size, least, most):
+    """Returns where the keys of a set are, and how many."""
+    count = length_at(source, range(least, most + 1))
+    start = source.taken
+    if not is_strict(items_at(source, count, size)):
+        raise Fault(NOT_STRICT)
+    return start, count
+
+
+def read_keys(size, data, least, most):
+    source = Source(data)
+    start, count = keys_at(source, size, least, most)
+    return {"count": count, "start": start, "left": source.left()}
+
+
+def set_read(size, input, least, most):
+    return viewed(read_keys, size, input, least, most)
+
+
+def committee_read(input, least, most):
+    return viewed(read_keys, MEMBER, input, least, most)
+
+
+def place_of(keys, key):
+    """Returns the index of a key among keys in order, or that of the first greater one."""
+    if not key:
+        raise Fault(NO_SIZE)
+    if len(keys) % len(key) > 0:
+        raise Fault(NOT_WHOLE)
+    items = items_of(keys, len(key))
+    index = bisect_left(items, key)
+    if key not in items:
+        raise Fault(ABSENT, index=index)
+    return {"index": index}
+
+
+def set_position(keys, key):
+    return viewed(place_of, keys, key)
+
+
+def committee_position(members, key):
+    return viewed(place_of, members, key)
+
+
+def check_items(key_size, size, data):
+    """Finds that keys have no bytes, or that bytes follow the last whole item."""
+    if key_size == 0:
+        raise Fault(NO_SIZE)
+    if len(data) % size > 0:
+        raise Fault(NOT_WHOLE, number=len(data) % size)
+
+
+def put(data, count, room):
+    """Returns the view of what is written, or finds that it takes more room."""
+    if len(data) > room:
+        raise Fault(ROOM, count=count, size=len(data))
+    return {"count": count, "size": len(data)}, data
+
+
+def write_keys(size, keys, room):
+    check_items(size, size, keys)
+    kept = sorted(set(items_of(keys, size)))
+    return put(write_varint(len(kept)) + b"".join(kept), len(kept), room)
+
+
+def set_encode_dedup(size, keys, room):
+    return written(write_keys, size, keys, room)
+
+
+def committee_encode_dedup(members, room):
+    return written(write_keys, MEMBER, members, room)
+
+
+def places(key_size, value_size, data, least, most):
+    """Returns the view of a map, with where its last value ends."""
+    source = Source(data)
+    keys, count = keys_at(source, key_size, least, most)
+    length_at(source, [count])
+    values = source.taken
+    bytes_at(source, count * value_size)
+    return {"count": count, "keys": keys, "values": values, "left": source.left()}
+
+
+def map_read(key_size, value_size, input, least, most):
+    return viewed(places, key_size, value_size, input, least, most)
+
+
+def read_bimap(key_size, value_size, data, least, most, room):
+    view = places(key_size, value_size, data, least, most)
+    count, start = view["count"], view["values"]
+    if room < count:
+        raise Fault(ROOM, number=count)
+    values = [data[start + i * value_size : start + (i + 1) * value_size] for i in range(count)]
+    order = sorted(range(count), key=lambda index: values[index])
+    met = {}
+    for index, value in enumerate(values):
+        if value in met:
+            return {"status": REPEATED_VALUE, "first": met[value], "second": index}, order
+        met[value] = index
+    return view, order
+
+
+def bimap_read(key_size, value_size, input, least, most, room):
+    return written(read_bimap, key_size, value_size, input, least, most, room)
+
+
+def first_of_each(pairs, key_size):
+    """Returns the first pair with each key, and the first index whose key an earlier pair has."""
+    kept, repeated = {}, None
+    for index, pair in enumerate(pairs):
+        key = pair[:key_size]
+        if key not in kept:
+            kept[key] = pair[key_size:]
+        elif repeated is None:
+            repeated = index
+    return kept, repeated
+
+
+def write_pairs(key_size, value_size, data, room, is_unique):
+    check_items(key_size, key_size + value_size, data)
+    kept, repeated = first_of_each(items_of(data, key_size + value_size), key_size)
+    if is_unique and repeated is not None:
+        raise Fault(REPEATED_KEY, number=repeated)
+    keys, length = sorted(kept), write_varint(len(kept))
+    values = [kept[key] for key in keys]
+    return put(length + b"".join(keys) + length + b"".join(values), len(kept), room)
+
+
+def map_encode_dedup(key_size, value_size, pairs, room):
+    return written(write_pairs, key_size, value_size, pairs, room, False)
+
+
+def map_encode(key_size, value_size, pairs, room):
+    return written(write_pairs, key_size, value_size, pairs, room, True)
