@@ -134,7 +134,7 @@ class Installing(unittest.TestCase):
             text, status = run(*words, "--target", target, given)
             self.assertEqual(status, 0, text)
             library = target / "commonware/lib" / _library.NAME
-            told = f"{library}\n1 1 0\n67 b'\\x02ab'\n"
+            told = f"{library}\n2 0 0\n67 b'\\x02ab'\n"
             self.assertEqual(run("-c", PROGRAM, PYTHONPATH=str(target)), (told, 0))
             settings = {"PYTHONPATH": str(target), "COMMONWARE_C_LIB": str(LOADED.parent)}
             self.assertEqual(run("-c", PROGRAM, **settings)[0].splitlines()[0], str(LOADED))

@@ -53,7 +53,7 @@ impl fmt::Display for Version {
 /// use commonware_proved::version;
 ///
 /// println!("commonware {}", version());
-/// assert_eq!(version().major, 1);
+/// assert_eq!(version().major, 2);
 /// ```
 #[must_use]
 pub fn version() -> Version {
