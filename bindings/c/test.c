@@ -49,7 +49,7 @@ void commonware_dealloc(unsigned char *block) {
 static void test_version(void) {
     CHECK(commonware_version() == 2000000);
     CHECK(COMMONWARE_VERSION == 2000000 && COMMONWARE_VERSION_MAJOR == 2);
-    CHECK(COMMONWARE_VERSION_MINOR == 1 && COMMONWARE_VERSION_PATCH == 0);
+    CHECK(COMMONWARE_VERSION_MINOR == 0 && COMMONWARE_VERSION_PATCH == 0);
 }
 
 static void test_status_text(void) {
