@@ -1,5 +1,6 @@
-/* Calls each function: what it returns and refuses, and with each allocation failing in turn.
- * Prints what failed, and ends with 0 where nothing did. */
+/* What the vectors of native calls (test_vectors.c) don't have: the header's constants and texts,
+ * each number of keys and signers up to 300, each allocation failing in turn, and some orders of
+ * keys. Prints what failed, and ends with 0 where nothing did. */
 #include "tests.h"
 
 /* In place of the archive's heap: one that allows some requests, and refuses all after them. */
@@ -89,195 +90,56 @@ static void test_status_text(void) {
     }
 }
 
-static void test_numbers(void) {
+/* The fault models by their names. */
+static void test_models(void) {
     CHECK(commonware_max_faults(COMMONWARE_N3F1, 4) == 1);
     CHECK(commonware_quorum(COMMONWARE_N3F1, 4) == 3);
     CHECK(commonware_max_faults(COMMONWARE_N5F1, 10) == 1);
     CHECK(commonware_quorum(COMMONWARE_N5F1, 10) == 9);
     CHECK(commonware_smaller_quorum(COMMONWARE_N5F1, 10) == 3);
-    CHECK(commonware_max_faults(7, 20) == 2);
-    CHECK(commonware_max_faults(3, UINT32_MAX) == 1431655764);
-    CHECK(commonware_quorum(2, UINT32_MAX) == 2147483648u);
-    CHECK(commonware_smaller_quorum(2, UINT32_MAX) == UINT32_MAX);
-    CHECK(commonware_max_faults(UINT32_MAX, UINT32_MAX) == 0);
-    for (uint32_t k = 0; k < 4; k++) {
-        CHECK(commonware_max_faults(k, 0) == 0);
-        CHECK(commonware_quorum(k, 0) == UINT32_MAX);
-        CHECK(commonware_smaller_quorum(k, 0) == UINT32_MAX);
-    }
-    for (uint32_t k = 0; k < 2; k++) {
-        CHECK(commonware_max_faults(k, 9) == 0);
-        CHECK(commonware_quorum(k, 9) == UINT32_MAX);
-        CHECK(commonware_smaller_quorum(k, 9) == UINT32_MAX);
-    }
 }
 
-static void test_committee(void) {
-    uint8_t keys[5][32];
+/* Keys of a committee whose first byte, or one in the middle, decides which is less. */
+static void test_committee_order(void) {
+    uint8_t bytes[1 + 3 * 32] = {3, 1}, *const keys = bytes + 1;
+    keys[31] = 9;
+    keys[32] = 3;
+    keys[64] = 3;
+    keys[66] = 7;
+    CHECK(commonware_committee_read(OF(bytes), 0, 9).status == COMMONWARE_OK);
+    static const uint8_t sought[5][32] = {{0}, {3}, {3, 0, 7}, {2}, {9}};
+    static const uint32_t statuses[5] = {COMMONWARE_ABSENT, COMMONWARE_OK, COMMONWARE_OK,
+                                         COMMONWARE_ABSENT, COMMONWARE_ABSENT};
+    static const size_t indices[5] = {0, 1, 2, 1, 3};
     for (size_t i = 0; i < 5; i++) {
-        memset(keys[i], (int)(7 * i % 4), 32);
+        const commonware_place_view view = commonware_committee_position(keys, 3, sought[i]);
+        CHECK(is_place(view, statuses[i], indices[i]));
     }
-    uint8_t bytes[COMMONWARE_COMMITTEE_SIZE(5)];
-    const commonware_written_view written =
-        commonware_committee_encode_dedup(&keys[0][0], 5, OF(bytes));
-    CHECK(written.status == COMMONWARE_OK && written.count == 4 && written.size == 1 + 4 * 32);
-    CHECK(bytes[0] == 4 && bytes[1] == 0 && bytes[33] == 1 && bytes[97] == 3 && bytes[128] == 3);
-
-    commonware_committee_view view = commonware_committee_read(bytes, written.size + 3, 1, 256);
-    CHECK(view.status == COMMONWARE_OK && view.count == 4 && view.start == 1 && view.left == 3);
-    view = commonware_committee_read(bytes, written.size - 1, 1, 256);
-    CHECK(view.status == COMMONWARE_END_OF_INPUT);
-    view = commonware_committee_read(bytes, written.size, 5, 256);
-    CHECK(view.status == COMMONWARE_INVALID_LENGTH && view.number == 4);
-    view = commonware_committee_read(bytes, written.size, 256, 1);
-    CHECK(view.status == COMMONWARE_INVALID_LENGTH && view.number == 4);
-    bytes[40] ^= 255;
-    view = commonware_committee_read(bytes, written.size, 0, SIZE_MAX);
-    CHECK(view.status == COMMONWARE_OK);
-    bytes[33] = 0;
-    view = commonware_committee_read(bytes, written.size, 0, SIZE_MAX);
-    CHECK(view.status == COMMONWARE_OK);
-    bytes[40] ^= 255;
-    memset(bytes + 33, 0, 32);
-    view = commonware_committee_read(bytes, written.size, 0, SIZE_MAX);
-    CHECK(view.status == COMMONWARE_NOT_STRICT);
-    const uint8_t overlong[] = {0x80, 0}, past[] = {255, 255, 255, 255, 16};
-    CHECK(commonware_committee_read(OF(overlong), 0, 9).status == COMMONWARE_INVALID_VARINT);
-    CHECK(commonware_committee_read(OF(past), 0, 9).status == COMMONWARE_INVALID_VARINT);
-    const uint8_t most[] = {255, 255, 255, 255, 15};
-    view = commonware_committee_read(OF(most), 0, 9);
-    CHECK(view.status == COMMONWARE_INVALID_LENGTH && view.number == UINT32_MAX);
-    view = commonware_committee_read(OF(most), 0, SIZE_MAX);
-    CHECK(view.status == COMMONWARE_END_OF_INPUT);
-    view = commonware_committee_read(NULL, 0, 0, 9);
-    CHECK(view.status == COMMONWARE_END_OF_INPUT);
-
-    uint8_t room[128];
-    memset(room, 0xee, sizeof room);
-    const commonware_written_view refused =
-        commonware_committee_encode_dedup(&keys[0][0], 5, OF(room));
-    CHECK(refused.status == COMMONWARE_ROOM && refused.size == 129 && refused.count == 4);
-    CHECK(room[0] == 0xee && memcmp(room, room + 1, sizeof room - 1) == 0);
-    CHECK(commonware_committee_encode_dedup(&keys[0][0], 5, NULL, 0).status == COMMONWARE_ROOM);
-    const commonware_written_view none = commonware_committee_encode_dedup(NULL, 0, OF(room));
-    CHECK(none.status == COMMONWARE_OK && none.size == 1 && room[0] == 0 && room[1] == 0xee);
+    keys[66] = 0;
+    CHECK(commonware_committee_read(OF(bytes), 0, 9).status == COMMONWARE_NOT_STRICT);
+    keys[66] = 7;
+    keys[0] = 4;
+    keys[31] = 0;
+    CHECK(commonware_committee_read(OF(bytes), 0, 9).status == COMMONWARE_NOT_STRICT);
 }
 
-static void test_index(void) {
-    uint8_t keys[3][32] = {{1}, {3}, {3, 0, 7}};
-    const uint8_t sought[5][32] = {{0}, {3}, {3, 0, 7}, {2}, {9}};
-    const uint32_t statuses[5] = {12, 0, 0, 12, 12};
-    const size_t indices[5] = {0, 1, 2, 1, 3};
-    for (size_t i = 0; i < 5; i++) {
-        const commonware_place_view view = commonware_committee_position(&keys[0][0], 3, sought[i]);
-        CHECK(view.status == statuses[i] && view.index == indices[i]);
-    }
-    const commonware_place_view none = commonware_committee_position(NULL, 0, sought[0]);
-    CHECK(none.status == COMMONWARE_ABSENT && none.index == 0);
-}
-
-static void test_set(void) {
-    uint8_t bytes[1 + 2 * 96 + 3] = {2};
+/* Two keys of each size, of which the second is less by one, the same, and greater by one. */
+static void test_set_order(void) {
+    uint8_t bytes[1 + 2 * 96] = {2};
     for (size_t i = 0; i < SIZES; i++) {
         const size_t size = sizes[i], length = 1 + 2 * size;
         put_two(bytes + 1, size);
-        commonware_set_view view = commonware_set_read(size, bytes, length + 3, 2, 2);
-        CHECK(is_set(view, COMMONWARE_OK, 2, 0, 1, 3));
-        view = commonware_set_read(size, bytes, length, 0, SIZE_MAX);
-        CHECK(is_set(view, COMMONWARE_OK, 2, 0, 1, 0));
-        view = commonware_set_read(size, bytes, length - 1, 0, SIZE_MAX);
-        CHECK(is_set(view, COMMONWARE_END_OF_INPUT, 0, 0, 0, 0));
-        view = commonware_set_read(size + 1, bytes, length, 0, SIZE_MAX);
-        CHECK(is_set(view, COMMONWARE_END_OF_INPUT, 0, 0, 0, 0));
-        view = commonware_set_read(size, bytes, length, 3, SIZE_MAX);
-        CHECK(is_set(view, COMMONWARE_INVALID_LENGTH, 0, 2, 0, 0));
-        view = commonware_set_read(size, bytes, length, 0, 1);
-        CHECK(is_set(view, COMMONWARE_INVALID_LENGTH, 0, 2, 0, 0));
-        view = commonware_set_read(size, bytes, length, 3, 1);
-        CHECK(is_set(view, COMMONWARE_INVALID_LENGTH, 0, 2, 0, 0));
         for (uint8_t last = 0x21; last <= 0x23; last++) {
             bytes[2 * size] = last;
-            view = commonware_set_read(size, bytes, length, 0, 9);
-            CHECK(view.status == (last == 0x23 ? COMMONWARE_OK : COMMONWARE_NOT_STRICT));
-            CHECK(last == 0x23 || is_set(view, COMMONWARE_NOT_STRICT, 0, 0, 0, 0));
-            view = commonware_set_read(size, bytes, length - 1, 0, 9);
-            CHECK(is_set(view, COMMONWARE_END_OF_INPUT, 0, 0, 0, 0));
-        }
-    }
-    const uint8_t overlong[] = {0x80, 0}, past[] = {255, 255, 255, 255, 16}, none[] = {0};
-    const commonware_set_view view = commonware_set_read(48, OF(overlong), 0, 9);
-    CHECK(is_set(view, COMMONWARE_INVALID_VARINT, 0, 0, 0, 0));
-    CHECK(is_set(commonware_set_read(0, OF(past), 0, 9), COMMONWARE_INVALID_VARINT, 0, 0, 0, 0));
-    CHECK(is_set(commonware_set_read(20, NULL, 0, 0, 9), COMMONWARE_END_OF_INPUT, 0, 0, 0, 0));
-    CHECK(is_set(commonware_set_read(96, OF(none), 0, 9), COMMONWARE_OK, 0, 0, 1, 0));
-}
-
-/* Keys of no bytes, and sizes whose product with the number of keys is past 2^64. */
-static void test_set_extremes(void) {
-    const uint8_t none[] = {0, 9}, one[] = {1, 9}, two[] = {2, 9};
-    const uint8_t most[] = {255, 255, 255, 255, 15};
-    CHECK(is_set(commonware_set_read(0, OF(none), 0, 9), COMMONWARE_OK, 0, 0, 1, 1));
-    CHECK(is_set(commonware_set_read(0, OF(one), 0, 9), COMMONWARE_OK, 1, 0, 1, 1));
-    CHECK(is_set(commonware_set_read(0, OF(two), 0, 9), COMMONWARE_NOT_STRICT, 0, 0, 0, 0));
-    CHECK(is_set(commonware_set_read(0, OF(two), 0, 1), COMMONWARE_INVALID_LENGTH, 0, 2, 0, 0));
-    CHECK(is_set(commonware_set_read(0, OF(most), 0, SIZE_MAX), COMMONWARE_NOT_STRICT, 0, 0, 0, 0));
-    CHECK(is_set(commonware_set_read(0, NULL, 0, 0, 9), COMMONWARE_END_OF_INPUT, 0, 0, 0, 0));
-    for (unsigned bits = 57; bits <= 64; bits++) {
-        /* 2^bits and its neighbours; of 2^64 / size keys the product is 2^64. */
-        const size_t power = bits == 64 ? 0 : (size_t)1 << bits;
-        for (size_t i = 0; i < 3; i++) {
-            const size_t size = power - 1 + i;
-            uint8_t bytes[3] = {(uint8_t)(bits == 64 ? 1 : 1 << (64 - bits)), 1, 2};
-            if (bits == 57) {
-                bytes[0] = 127;
-            }
-            if (size < 2) {
-                continue;
-            }
-            commonware_set_view view = commonware_set_read(size, OF(bytes), 0, 255);
-            CHECK(is_set(view, COMMONWARE_END_OF_INPUT, 0, 0, 0, 0));
-            CHECK(is_set(commonware_set_read(size, OF(none), 0, 9), COMMONWARE_OK, 0, 0, 1, 1));
-            commonware_map_view map = commonware_map_read(size, size, OF(bytes), 0, 255);
-            CHECK(is_map(map, COMMONWARE_END_OF_INPUT, 0, 0, 0, 0, 0));
-            const uint8_t empty[] = {0, 0, 9}, pair[] = {1, 9, 1, 8};
-            map = commonware_map_read(size, size, OF(empty), 0, 9);
-            CHECK(is_map(map, COMMONWARE_OK, 0, 0, 1, 2, 1));
-            map = commonware_map_read(1, size, OF(pair), 0, 9);
-            CHECK(is_map(map, COMMONWARE_END_OF_INPUT, 0, 0, 0, 0, 0));
-            CHECK(is_map(commonware_map_read(1, 1, OF(pair), 0, 9), COMMONWARE_OK, 1, 0, 1, 3, 0));
+            const commonware_set_view view = commonware_set_read(size, bytes, length, 0, 9);
+            CHECK(last == 0x23 ? is_set(view, COMMONWARE_OK, 2, 0, 1, 0)
+                               : is_set(view, COMMONWARE_NOT_STRICT, 0, 0, 0, 0));
         }
     }
 }
 
-static void test_set_position(void) {
-    uint8_t keys[3 * 96 + 1], key[96];
-    for (size_t i = 0; i < SIZES; i++) {
-        const size_t size = sizes[i];
-        /* 11 .. 11 22, 11 .. 11 33 and 11 .. 11 44. */
-        put_two(keys, size);
-        memset(keys + 2 * size, 0x11, size);
-        keys[3 * size - 1] = 0x44;
-        for (uint8_t last = 0x21; last <= 0x45; last++) {
-            memset(key, 0x11, size);
-            key[size - 1] = last;
-            const size_t less = (size_t)((last > 0x22) + (last > 0x33) + (last > 0x44));
-            const bool is_there = last == 0x22 || last == 0x33 || last == 0x44;
-            const uint32_t status = is_there ? COMMONWARE_OK : COMMONWARE_ABSENT;
-            CHECK(is_place(commonware_set_position(keys, 3 * size, key, size), status, less));
-        }
-        CHECK(is_place(commonware_set_position(NULL, 0, key, size), COMMONWARE_ABSENT, 0));
-        CHECK(is_place(commonware_set_position(keys, size, key, size), COMMONWARE_ABSENT, 1));
-        for (size_t length = 0; size > 1 && length <= 3 * size; length++) {
-            const commonware_place_view view = commonware_set_position(keys, length, keys, size);
-            const bool is_whole = length % size == 0;
-            const uint32_t status = length == 0 ? COMMONWARE_ABSENT : COMMONWARE_OK;
-            CHECK(is_place(view, is_whole ? status : COMMONWARE_NOT_WHOLE, 0));
-        }
-        CHECK(is_place(commonware_set_position(keys, 3 * size, key, 0), COMMONWARE_NO_SIZE, 0));
-    }
-    CHECK(is_place(commonware_set_position(keys, 96, NULL, 0), COMMONWARE_NO_SIZE, 0));
-    CHECK(is_place(commonware_set_position(NULL, 0, NULL, 0), COMMONWARE_NO_SIZE, 0));
-    /* Out of order: the index of the key, or a gap. */
+/* Keys that are out of order have an index that is the key's, or a gap. */
+static void test_mixed_keys(void) {
     const uint8_t mixed[] = {5, 1, 9}, five[] = {5}, seven[] = {7};
     commonware_place_view view = commonware_set_position(OF(mixed), OF(five));
     CHECK(is_place(view, COMMONWARE_OK, 0) || is_place(view, COMMONWARE_ABSENT, 2));
@@ -285,275 +147,23 @@ static void test_set_position(void) {
     CHECK(is_place(view, COMMONWARE_ABSENT, 2));
 }
 
-/* Keys of three bytes in any order, each once or more; the room as it was where nothing is
- * written. */
-static void test_set_encode_dedup(void) {
-    const uint8_t keys[] = {5, 0, 2, 5, 0, 1, 5, 0, 2, 4, 9, 9};
-    const uint8_t set[] = {3, 4, 9, 9, 5, 0, 1, 5, 0, 2, 0xee, 0xee};
-    uint8_t out[12];
-    memset(out, 0xee, sizeof out);
-    const uint8_t untouched[12] = {0xee, 0xee, 0xee, 0xee, 0xee, 0xee,
-                                   0xee, 0xee, 0xee, 0xee, 0xee, 0xee};
-    CHECK(is_written(commonware_set_encode_dedup(3, OF(keys), out, 9), COMMONWARE_ROOM, 3, 0, 10));
-    CHECK(is_written(commonware_set_encode_dedup(3, OF(keys), NULL, 0), COMMONWARE_ROOM, 3, 0, 10));
-    CHECK(
-        is_written(commonware_set_encode_dedup(0, OF(keys), OF(out)), COMMONWARE_NO_SIZE, 0, 0, 0));
-    CHECK(
-        is_written(commonware_set_encode_dedup(0, NULL, 0, OF(out)), COMMONWARE_NO_SIZE, 0, 0, 0));
-    CHECK(is_written(commonware_set_encode_dedup(5, OF(keys), OF(out)), COMMONWARE_NOT_WHOLE, 0, 2,
-                     0));
-    CHECK(is_written(commonware_set_encode_dedup(13, OF(keys), OF(out)), COMMONWARE_NOT_WHOLE, 0,
-                     12, 0));
-    CHECK(is_written(commonware_set_encode_dedup(SIZE_MAX, OF(keys), OF(out)), COMMONWARE_NOT_WHOLE,
-                     0, 12, 0));
-    CHECK(memcmp(out, untouched, sizeof out) == 0);
-    CHECK(is_written(commonware_set_encode_dedup(3, OF(keys), OF(out)), COMMONWARE_OK, 3, 0, 10));
-    CHECK(memcmp(out, set, sizeof out) == 0);
-    CHECK(is_written(commonware_set_encode_dedup(3, out + 1, 9, out + 11, 1), COMMONWARE_ROOM, 3, 0,
-                     10));
-    CHECK(is_written(commonware_set_encode_dedup(SIZE_MAX, NULL, 0, OF(out)), COMMONWARE_OK, 0, 0,
-                     1));
-    CHECK(out[0] == 0 && memcmp(out + 1, set + 1, sizeof out - 1) == 0);
-    CHECK(
-        is_written(commonware_set_encode_dedup(12, OF(keys), OF(out)), COMMONWARE_ROOM, 1, 0, 13));
-}
-
-static void test_map(void) {
-    /* Keys of each size, and values 07 .. 07 and 08 .. 08 of 8 bytes; then three bytes. */
-    uint8_t bytes[1 + 2 * 96 + 1 + 2 * 8 + 3] = {2};
-    for (size_t i = 0; i < SIZES; i++) {
-        const size_t size = sizes[i], at = 2 + 2 * size, length = at + 16;
-        put_two(bytes + 1, size);
-        bytes[at - 1] = 2;
-        memset(bytes + at, 7, 8);
-        memset(bytes + at + 8, 8, 8);
-        commonware_map_view view = commonware_map_read(size, 8, bytes, length + 3, 2, 2);
-        CHECK(is_map(view, COMMONWARE_OK, 2, 0, 1, at, 3));
-        uint8_t key[96];
-        memcpy(key, bytes + 1 + size, size);
-        const commonware_place_view place =
-            commonware_set_position(bytes + view.keys, view.count * size, key, size);
-        CHECK(is_place(place, COMMONWARE_OK, 1));
-        CHECK(bytes[view.values + place.index * 8] == 8);
-        for (size_t end = 0; end < length; end++) {
-            view = commonware_map_read(size, 8, bytes, end, 0, 9);
-            CHECK(is_map(view, COMMONWARE_END_OF_INPUT, 0, 0, 0, 0, 0));
-        }
-        view = commonware_map_read(size, 8, bytes, length, 3, 9);
-        CHECK(is_map(view, COMMONWARE_INVALID_LENGTH, 0, 2, 0, 0, 0));
-        view = commonware_map_read(size, 8, bytes, length, 3, 1);
-        CHECK(is_map(view, COMMONWARE_INVALID_LENGTH, 0, 2, 0, 0, 0));
-        bytes[at - 1] = 3;
-        view = commonware_map_read(size, 8, bytes, length, 0, 9);
-        CHECK(is_map(view, COMMONWARE_INVALID_LENGTH, 0, 3, 0, 0, 0));
-        bytes[at - 1] = 1;
-        view = commonware_map_read(size, 8, bytes, length, 0, 9);
-        CHECK(is_map(view, COMMONWARE_INVALID_LENGTH, 0, 1, 0, 0, 0));
-        bytes[at - 1] = 0x80;
-        bytes[at] = 0;
-        view = commonware_map_read(size, 8, bytes, length, 0, 9);
-        CHECK(is_map(view, COMMONWARE_INVALID_VARINT, 0, 0, 0, 0, 0));
-        /* The fault of the keys comes first. */
-        bytes[2 * size] = 0x22;
-        view = commonware_map_read(size, 8, bytes, length, 0, 9);
-        CHECK(is_map(view, COMMONWARE_NOT_STRICT, 0, 0, 0, 0, 0));
-        bytes[2 * size] = 0x33;
-        /* Values of no bytes, and equal ones. */
-        bytes[at - 1] = 2;
-        view = commonware_map_read(size, 0, bytes, at, 0, 9);
-        CHECK(is_map(view, COMMONWARE_OK, 2, 0, 1, at, 0));
-        memset(bytes + at, 7, 16);
-        view = commonware_map_read(size, 8, bytes, length, 0, 9);
-        CHECK(is_map(view, COMMONWARE_OK, 2, 0, 1, at, 0));
+/* What two certificates of which the first, or the second, is NULL are refused for. */
+static void test_no_certificate(void) {
+    static const uint64_t weights[] = {40, 30, 20, 10};
+    for (uint32_t which = 1; which <= 2; which++) {
+        const uint8_t *const input = which == 1 ? NULL : first;
+        const size_t length = which == 1 ? 0 : sizeof first;
+        commonware_conflict_view view = commonware_conflict(3, 4, input, length, NULL, 0, NULL, 0);
+        CHECK(view.status == COMMONWARE_END_OF_INPUT && view.which == which);
+        view = commonware_equivocation(3, 4, input, length, NULL, 0, NULL, 0);
+        CHECK(view.status == COMMONWARE_END_OF_INPUT && view.which == which);
+        commonware_weighted_conflict_view weighted =
+            commonware_weighted_conflict(3, OF(weights), input, length, NULL, 0, NULL, 0);
+        CHECK(weighted.status == COMMONWARE_END_OF_INPUT && weighted.which == which);
+        weighted =
+            commonware_weighted_equivocation(3, OF(weights), input, length, NULL, 0, NULL, 0);
+        CHECK(weighted.status == COMMONWARE_END_OF_INPUT && weighted.which == which);
     }
-    /* Keys of no bytes. */
-    const uint8_t overlong[] = {0x80, 0}, one[] = {1, 1, 7, 7, 9}, two[] = {2, 2, 7, 7};
-    commonware_map_view view = commonware_map_read(0, 2, OF(one), 0, 9);
-    CHECK(is_map(view, COMMONWARE_OK, 1, 0, 1, 2, 1));
-    CHECK(is_map(commonware_map_read(0, 0, OF(one), 0, 9), COMMONWARE_OK, 1, 0, 1, 2, 3));
-    CHECK(is_map(commonware_map_read(0, 1, OF(two), 0, 9), COMMONWARE_NOT_STRICT, 0, 0, 0, 0, 0));
-    view = commonware_map_read(20, 8, OF(overlong), 0, 9);
-    CHECK(is_map(view, COMMONWARE_INVALID_VARINT, 0, 0, 0, 0, 0));
-    view = commonware_map_read(20, 8, NULL, 0, 0, 9);
-    CHECK(is_map(view, COMMONWARE_END_OF_INPUT, 0, 0, 0, 0, 0));
-}
-
-/* Pairs of a key of two bytes and a value of one, the second with the key of the first. */
-static void test_map_encode_dedup(void) {
-    const uint8_t pairs[] = {5, 2, 10, 5, 2, 20, 5, 1, 30, 4, 9, 40};
-    const uint8_t map[] = {3, 4, 9, 5, 1, 5, 2, 3, 40, 30, 10, 0xee};
-    uint8_t out[12], untouched[12];
-    memset(out, 0xee, sizeof out);
-    memset(untouched, 0xee, sizeof untouched);
-    CHECK(is_written(commonware_map_encode_dedup(2, 1, OF(pairs), out, 10), COMMONWARE_ROOM, 3, 0,
-                     11));
-    CHECK(is_written(commonware_map_encode_dedup(2, 1, OF(pairs), NULL, 0), COMMONWARE_ROOM, 3, 0,
-                     11));
-    CHECK(is_written(commonware_map_encode_dedup(0, 3, OF(pairs), OF(out)), COMMONWARE_NO_SIZE, 0,
-                     0, 0));
-    CHECK(is_written(commonware_map_encode_dedup(4, 1, OF(pairs), OF(out)), COMMONWARE_NOT_WHOLE, 0,
-                     2, 0));
-    CHECK(is_written(commonware_map_encode_dedup(SIZE_MAX, 2, OF(pairs), OF(out)),
-                     COMMONWARE_NOT_WHOLE, 0, 12, 0));
-    CHECK(is_written(commonware_map_encode_dedup(1, SIZE_MAX, OF(pairs), OF(out)),
-                     COMMONWARE_NOT_WHOLE, 0, 12, 0));
-    CHECK(memcmp(out, untouched, sizeof out) == 0);
-    CHECK(
-        is_written(commonware_map_encode_dedup(2, 1, OF(pairs), OF(out)), COMMONWARE_OK, 3, 0, 11));
-    CHECK(memcmp(out, map, sizeof out) == 0);
-    CHECK(is_written(commonware_map_encode_dedup(SIZE_MAX, 2, NULL, 0, OF(out)), COMMONWARE_OK, 0,
-                     0, 2));
-    CHECK(out[0] == 0 && out[1] == 0 && memcmp(out + 2, map + 2, sizeof out - 2) == 0);
-    CHECK(is_written(commonware_map_encode_dedup(3, 0, OF(pairs), NULL, 0), COMMONWARE_ROOM, 4, 0,
-                     14));
-}
-
-/* Such pairs of which the fourth has the key of the second, and the last that of the first. */
-static void test_map_encode(void) {
-    const uint8_t pairs[] = {5, 2, 10, 5, 1, 30, 4, 9, 40, 5, 1, 30, 5, 2, 20};
-    const uint8_t map[] = {3, 4, 9, 5, 1, 5, 2, 3, 40, 30, 10, 0xee};
-    uint8_t out[12], untouched[12];
-    memset(out, 0xee, sizeof out);
-    memset(untouched, 0xee, sizeof untouched);
-    CHECK(is_written(commonware_map_encode(2, 1, OF(pairs), OF(out)), COMMONWARE_REPEATED_KEY, 0, 3,
-                     0));
-    CHECK(is_written(commonware_map_encode(1, 2, OF(pairs), OF(out)), COMMONWARE_REPEATED_KEY, 0, 1,
-                     0));
-    CHECK(is_written(commonware_map_encode(2, 1, OF(pairs), NULL, 0), COMMONWARE_REPEATED_KEY, 0, 3,
-                     0));
-    CHECK(
-        is_written(commonware_map_encode(2, 1, pairs, 14, OF(out)), COMMONWARE_NOT_WHOLE, 0, 2, 0));
-    CHECK(is_written(commonware_map_encode(0, 3, OF(pairs), OF(out)), COMMONWARE_NO_SIZE, 0, 0, 0));
-    CHECK(is_written(commonware_map_encode(2, 1, pairs, 9, out, 10), COMMONWARE_ROOM, 3, 0, 11));
-    CHECK(memcmp(out, untouched, sizeof out) == 0);
-    CHECK(is_written(commonware_map_encode(2, 1, pairs, 9, out, 11), COMMONWARE_OK, 3, 0, 11));
-    CHECK(memcmp(out, map, sizeof out) == 0);
-    CHECK(is_written(commonware_map_encode(3, 0, pairs, 12, NULL, 0), COMMONWARE_REPEATED_KEY, 0, 3,
-                     0));
-    CHECK(is_written(commonware_map_encode(2, 1, NULL, 0, NULL, 0), COMMONWARE_ROOM, 0, 0, 2));
-}
-
-static void test_certificate(void) {
-    uint32_t signers[4] = {9, 9, 9, 9};
-    commonware_certificate_view view = commonware_certificate_read(OF(first), 32, 256, OF(signers));
-    CHECK(view.status == COMMONWARE_OK && view.signers == 3 && view.left == 0);
-    CHECK(view.value_start == 1 && view.value_length == 1);
-    CHECK(signers[0] == 0 && signers[1] == 1 && signers[2] == 2 && signers[3] == 9);
-    memset(signers, 0xee, sizeof signers);
-    view = commonware_certificate_read(OF(first), 32, 256, signers, 2);
-    CHECK(view.status == COMMONWARE_ROOM && view.signers == 3 && signers[0] == 0xeeeeeeee);
-    CHECK(view.value_start == 1 && view.value_length == 1);
-    view = commonware_certificate_read(OF(first), 32, 256, NULL, 0);
-    CHECK(view.status == COMMONWARE_ROOM && view.signers == 3);
-    view = commonware_certificate_read(OF(first), 0, 256, OF(signers));
-    CHECK(view.status == COMMONWARE_INVALID_LENGTH && view.number == 1);
-    view = commonware_certificate_read(OF(first), 32, 2, OF(signers));
-    CHECK(view.status == COMMONWARE_INVALID_LENGTH && view.number == 3);
-    view = commonware_certificate_read(first, 5, 32, 256, OF(signers));
-    CHECK(view.status == COMMONWARE_END_OF_INPUT);
-    view = commonware_certificate_read(NULL, 0, 32, 256, OF(signers));
-    CHECK(view.status == COMMONWARE_END_OF_INPUT && signers[0] == 0xeeeeeeee);
-
-    const uint32_t indices[] = {0, 1, 2}, twice[] = {4, 5, 5}, large[] = {127, 128, UINT32_MAX};
-    uint8_t bytes[COMMONWARE_CERTIFICATE_SIZE(1, 3)];
-    memset(bytes, 0xee, sizeof bytes);
-    commonware_written_view written =
-        commonware_certificate_encode(first + 1, 1, OF(twice), OF(bytes));
-    CHECK(written.status == COMMONWARE_NOT_STRICT && written.number == 2 && bytes[0] == 0xee);
-    written = commonware_certificate_encode(first + 1, 1, OF(indices), bytes, 5);
-    CHECK(written.status == COMMONWARE_ROOM && written.size == 6 && bytes[0] == 0xee);
-    written = commonware_certificate_encode(first + 1, 1, OF(indices), OF(bytes));
-    CHECK(written.status == COMMONWARE_OK && written.size == 6 && written.count == 3);
-    CHECK(memcmp(bytes, first, 6) == 0 && bytes[6] == 0xee);
-    written = commonware_certificate_encode(first + 1, 1, OF(large), OF(bytes));
-    const uint8_t encoded[] = {1, 0xaa, 3, 127, 128, 1, 255, 255, 255, 255, 15};
-    CHECK(written.status == COMMONWARE_OK && written.size == sizeof encoded);
-    CHECK(memcmp(bytes, encoded, sizeof encoded) == 0);
-    written = commonware_certificate_encode(NULL, 0, NULL, 0, OF(bytes));
-    CHECK(written.status == COMMONWARE_OK && written.size == 2 && bytes[0] == 0 && bytes[1] == 0);
-    CHECK(commonware_certificate_encode(NULL, 0, NULL, 0, NULL, 0).status == COMMONWARE_ROOM);
-}
-
-static void test_conflict(void) {
-    uint32_t out[4] = {9, 9, 9, 9};
-    commonware_conflict_view view = commonware_conflict(3, 4, OF(first), OF(second), OF(out));
-    CHECK(view.status == COMMONWARE_OK && view.count == 2 && view.which == 0);
-    CHECK(out[0] == 1 && out[1] == 2 && out[2] == 9);
-    view = commonware_conflict(3, 4, OF(first), OF(second), out, 1);
-    CHECK(view.status == COMMONWARE_ROOM && view.count == 2 && out[0] == 1);
-    view = commonware_conflict(5, 4, OF(first), OF(second), OF(out));
-    CHECK(view.status == COMMONWARE_TOO_FEW && view.which == 1);
-    view = commonware_conflict(3, 3, OF(first), OF(second), OF(out));
-    CHECK(view.status == COMMONWARE_OUTSIDE && view.which == 2);
-    const uint8_t all[] = {1, 0xcc, 4, 0, 1, 2, 3};
-    view = commonware_conflict(5, 4, OF(all), OF(second), OF(out));
-    CHECK(view.status == COMMONWARE_TOO_FEW && view.which == 2);
-    view = commonware_conflict(3, 2, OF(first), OF(second), OF(out));
-    CHECK(view.status == COMMONWARE_OUTSIDE && view.which == 1);
-    view = commonware_conflict(3, 4, OF(first), OF(first), OF(out));
-    CHECK(view.status == COMMONWARE_SAME_VALUE);
-    view = commonware_conflict(3, 0, OF(first), OF(second), OF(out));
-    CHECK(view.status == COMMONWARE_NO_MEMBERS);
-    view = commonware_conflict(1, 0, OF(first), OF(second), OF(out));
-    CHECK(view.status == COMMONWARE_NO_MODEL);
-    view = commonware_conflict(3, 4, first, 5, second, 5, OF(out));
-    CHECK(view.status == COMMONWARE_END_OF_INPUT && view.which == 1);
-    view = commonware_conflict(3, 4, OF(first), second, 5, OF(out));
-    CHECK(view.status == COMMONWARE_END_OF_INPUT && view.which == 2);
-    const uint8_t longer[] = {1, 0xbb, 3, 1, 2, 3, 0, 0};
-    view = commonware_conflict(3, 4, OF(first), OF(longer), OF(out));
-    CHECK(view.status == COMMONWARE_LEFT_OVER && view.which == 2 && view.number == 2);
-    view = commonware_conflict(3, 4, NULL, 0, NULL, 0, NULL, 0);
-    CHECK(view.status == COMMONWARE_END_OF_INPUT && view.which == 1);
-    CHECK(out[0] == 1 && out[1] == 2 && out[2] == 9);
-}
-
-static void test_slots(void) {
-    const uint8_t slot[] = {7, 1}, a[] = {0xaa}, value[] = {2, 7, 1, 0xaa};
-    uint8_t bytes[8] = {0xee, 0xee, 0xee, 0xee, 0xee};
-    commonware_written_view written = commonware_slot_value(OF(slot), OF(a), bytes, 3);
-    CHECK(written.status == COMMONWARE_ROOM && written.size == 4 && bytes[0] == 0xee);
-    CHECK(commonware_slot_value(OF(slot), OF(a), NULL, 0).status == COMMONWARE_ROOM);
-    written = commonware_slot_value(OF(slot), OF(a), OF(bytes));
-    CHECK(written.status == COMMONWARE_OK && written.size == 4 && written.count == 0);
-    CHECK(memcmp(bytes, value, 4) == 0 && bytes[4] == 0xee);
-    CHECK(commonware_slot_value(NULL, 0, NULL, 0, bytes, 1).size == 1 && bytes[0] == 0);
-
-    /* Slot 7 1, decisions aa and bb; slot 7 2, decision bb; and no slot. */
-    const uint8_t one[] = {4, 2, 7, 1, 0xaa, 3, 0, 1, 2}, two[] = {4, 2, 7, 1, 0xbb, 3, 1, 2, 3};
-    const uint8_t later[] = {4, 2, 7, 2, 0xbb, 3, 0, 1, 2}, none[] = {2, 2, 7, 3, 0, 1, 2};
-    commonware_check_view seen = commonware_check(3, 4, OF(one));
-    CHECK(seen.status == COMMONWARE_OK && seen.signers == 3 && seen.number == 0);
-    CHECK(seen.value_start == 1 && seen.value_length == 4);
-    CHECK(seen.slot_start == 2 && seen.slot_length == 2);
-    CHECK(seen.decision_start == 4 && seen.decision_length == 1);
-    seen = commonware_check(3, 4, OF(none));
-    CHECK(seen.status == COMMONWARE_OK && seen.slot_start == 0 && seen.decision_start == 0);
-    seen = commonware_check(5, 4, OF(one));
-    CHECK(seen.status == COMMONWARE_TOO_FEW && seen.signers == 0 && seen.value_start == 0);
-    CHECK(commonware_check(3, 2, OF(one)).status == COMMONWARE_OUTSIDE);
-    CHECK(commonware_check(1, 0, OF(one)).status == COMMONWARE_NO_MODEL);
-    CHECK(commonware_check(2, 0, NULL, 0).status == COMMONWARE_NO_MEMBERS);
-    CHECK(commonware_check(2, 1, NULL, 0).status == COMMONWARE_END_OF_INPUT);
-
-    uint32_t out[4] = {9, 9, 9, 9};
-    commonware_conflict_view view = commonware_equivocation(3, 4, OF(one), OF(two), OF(out));
-    CHECK(view.status == COMMONWARE_OK && view.count == 2 && out[0] == 1 && out[1] == 2 &&
-          out[2] == 9);
-    view = commonware_equivocation(3, 4, OF(one), OF(two), out, 1);
-    CHECK(view.status == COMMONWARE_ROOM && view.count == 2 && view.which == 0);
-    view = commonware_equivocation(3, 4, OF(one), OF(later), OF(out));
-    CHECK(view.status == COMMONWARE_OTHER_SLOT && view.count == 0 && view.which == 0);
-    view = commonware_equivocation(3, 4, OF(one), OF(one), OF(out));
-    CHECK(view.status == COMMONWARE_SAME_VALUE && view.which == 0);
-    view = commonware_equivocation(3, 4, OF(none), OF(none), OF(out));
-    CHECK(view.status == COMMONWARE_NO_SLOT && view.which == 1);
-    view = commonware_equivocation(3, 4, OF(one), OF(none), OF(out));
-    CHECK(view.status == COMMONWARE_NO_SLOT && view.which == 2);
-    view = commonware_equivocation(3, 4, NULL, 0, NULL, 0, NULL, 0);
-    CHECK(view.status == COMMONWARE_END_OF_INPUT && view.which == 1);
-    view = commonware_equivocation(3, 3, OF(one), OF(two), OF(out));
-    CHECK(view.status == COMMONWARE_OUTSIDE && view.which == 2 && out[0] == 1);
 }
 
 /* Writes a committee of this many keys, with room for it and for one byte less. */
@@ -726,19 +336,11 @@ static void test_memory(void) {
 int main(void) {
     RUN(test_version);
     RUN(test_status_text);
-    RUN(test_numbers);
-    RUN(test_committee);
-    RUN(test_index);
-    RUN(test_set);
-    RUN(test_set_extremes);
-    RUN(test_set_position);
-    RUN(test_set_encode_dedup);
-    RUN(test_map);
-    RUN(test_map_encode_dedup);
-    RUN(test_map_encode);
-    RUN(test_certificate);
-    RUN(test_conflict);
-    RUN(test_slots);
+    RUN(test_models);
+    RUN(test_committee_order);
+    RUN(test_set_order);
+    RUN(test_mixed_keys);
+    RUN(test_no_certificate);
     RUN(test_sizes);
     RUN(test_memory);
     return report();
