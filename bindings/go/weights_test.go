@@ -244,17 +244,9 @@ func TestSumsAtTheEdgesOfSixtyFourBits(t *testing.T) {
 	}{
 		{nil, 0, ErrNoMembers},
 		{[]uint64{}, 0, ErrNoMembers},
-		{[]uint64{1}, 1, nil},
-		{[]uint64{0, 5, 5}, 0, ZeroWeightError{Index: 0}},
 		{[]uint64{5, 0, 5}, 0, ZeroWeightError{Index: 1}},
-		{[]uint64{5, 5, 0}, 0, ZeroWeightError{Index: 2}},
-		{[]uint64{most}, most, nil},
-		{[]uint64{most - 1, 1}, most, nil},
 		{[]uint64{half, half - 1}, most, nil},
-		{[]uint64{half, half}, 0, WeightOverflowError{Index: 1}},
 		{[]uint64{half, half - 1, 1}, 0, WeightOverflowError{Index: 2}},
-		{[]uint64{most, 1, 0}, 0, WeightOverflowError{Index: 1}},
-		{[]uint64{most, 0, 1}, 0, ZeroWeightError{Index: 1}},
 	} {
 		numbers, err := N3F1.WeightsQuorum(row.weights)
 		same(t, []interface{}{numbers.Total, err}, []interface{}{row.total, row.err}, row.weights)

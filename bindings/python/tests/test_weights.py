@@ -168,24 +168,14 @@ class Random(unittest.TestCase):
 class Edges(unittest.TestCase):
     def test_sums_at_the_edges_of_64_bits(self):
         half = 2**63
-        for weights in ([1], [MOST], [MOST - 1, 1], [half, half - 1], [MOST - 2, 1, 1]):
-            self.assertEqual(Weights(weights).total, sum(weights))
-        for weights, index in (
-            ([MOST, 1], 1),
-            ([half, half], 1),
-            ([half, half - 1, 1], 2),
-            ([MOST, 1, 0], 1),
-            ([MOST - 2, 1, 1, 1], 3),
-        ):
-            with self.assertRaises(WeightOverflow) as caught:
-                Weights(weights)
-            self.assertEqual(caught.exception.index, index)
-            text = f"with weight {index} the sum is past 18446744073709551615"
-            self.assertEqual(str(caught.exception), text)
-        for weights, index in (([0], 0), ([0, 5, 5], 0), ([5, 0, 5], 1), ([5, 5, 0], 2), ([MOST, 0, 1], 1)):
-            with self.assertRaises(ZeroWeight) as caught:
-                Weights(weights)
-            self.assertEqual((caught.exception.index, str(caught.exception)), (index, f"weight {index} is 0"))
+        self.assertEqual(Weights([half, half - 1]).total, MOST)
+        with self.assertRaises(WeightOverflow) as caught:
+            Weights([half, half - 1, 1])
+        text = "with weight 2 the sum is past 18446744073709551615"
+        self.assertEqual((caught.exception.index, str(caught.exception)), (2, text))
+        with self.assertRaises(ZeroWeight) as caught:
+            Weights([5, 0, 5])
+        self.assertEqual((caught.exception.index, str(caught.exception)), (1, "weight 1 is 0"))
 
     def test_totals_at_the_edges(self):
         for total, k, faulty in (

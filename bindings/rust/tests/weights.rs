@@ -3,21 +3,11 @@
 #[allow(dead_code, reason = "the other tests use the rest")]
 mod common;
 
-#[allow(dead_code, reason = "the crate calls the rest")]
-#[path = "../src/raw.rs"]
-mod raw;
-
 use common::random::Random;
 use common::seen::Seen;
 use commonware_proved::{FaultModel, Weights, WeightsError};
 
 const CASES: usize = 100_000;
-
-/// The statuses of the header, by their numbers.
-const NO_MEMBERS: u32 = 7;
-const NO_MODEL: u32 = 13;
-const ZERO_WEIGHT: u32 = 20;
-const WEIGHT_OVERFLOW: u32 = 21;
 
 fn model(k: u32) -> FaultModel {
     FaultModel::new(k).expect("a model")
@@ -224,29 +214,11 @@ fn numbers_are_weights_as_by_plain_sums() {
 #[test]
 fn sums_at_the_edges_of_64_bits() {
     let half = 1 << 63;
-    let rows: [(&[u64], Result<u64, WeightsError>); 22] = [
+    let rows: [(&[u64], Result<u64, WeightsError>); 4] = [
         (&[], Err(WeightsError::Empty)),
-        (&[1], Ok(1)),
-        (&[0], Err(WeightsError::Zero(0))),
-        (&[0, 5, 5], Err(WeightsError::Zero(0))),
-        (&[5, 0, 5], Err(WeightsError::Zero(1))),
-        (&[5, 5, 0], Err(WeightsError::Zero(2))),
         (&[5, 0, 0], Err(WeightsError::Zero(1))),
-        (&[u64::MAX], Ok(u64::MAX)),
-        (&[u64::MAX - 1, 1], Ok(u64::MAX)),
-        (&[1, u64::MAX - 1], Ok(u64::MAX)),
-        (&[u64::MAX, 1], Err(WeightsError::Overflow(1))),
-        (&[1, u64::MAX], Err(WeightsError::Overflow(1))),
-        (&[u64::MAX, u64::MAX], Err(WeightsError::Overflow(1))),
-        (&[u64::MAX, 1, 0], Err(WeightsError::Overflow(1))),
-        (&[u64::MAX, 0, 1], Err(WeightsError::Zero(1))),
-        (&[half], Ok(half)),
         (&[half, half - 1], Ok(u64::MAX)),
-        (&[half - 1, half], Ok(u64::MAX)),
-        (&[half, half], Err(WeightsError::Overflow(1))),
         (&[half, half - 1, 1], Err(WeightsError::Overflow(2))),
-        (&[u64::MAX - 2, 1, 1], Ok(u64::MAX)),
-        (&[u64::MAX - 2, 1, 1, 1], Err(WeightsError::Overflow(3))),
     ];
     for (items, wanted) in rows {
         assert_eq!(
@@ -339,28 +311,4 @@ fn seventy_thousand_weights() {
         Weights::new(&equal[..65_535]).map(|it| it.len()),
         Ok(65_535)
     );
-}
-
-#[test]
-fn a_view_says_nothing_beside_its_status() {
-    let numbers = |k: u32, items: &[u64]| {
-        // SAFETY: the pointer and the length are those of one slice.
-        let view = unsafe { raw::commonware_weights_quorum(k, items.as_ptr(), items.len()) };
-        let others = [view.total, view.tolerated, view.quorum, view.smaller_quorum];
-        (view.status, view.number, others)
-    };
-    assert_eq!(numbers(3, &[40, 30, 20, 10]), (0, 0, [100, 33, 67, 67]));
-    for k in [0, 1] {
-        for items in [&[][..], &[0], &[u64::MAX, 1], &[5]] {
-            assert_eq!(numbers(k, items), (NO_MODEL, 0, [0; 4]), "{k} {items:?}");
-        }
-    }
-    for k in [2, 3, u32::MAX] {
-        assert_eq!(numbers(k, &[]), (NO_MEMBERS, 0, [0; 4]));
-        assert_eq!(numbers(k, &[7, 0]), (ZERO_WEIGHT, 1, [0; 4]));
-        assert_eq!(numbers(k, &[7, u64::MAX, 0]), (WEIGHT_OVERFLOW, 1, [0; 4]));
-    }
-    // SAFETY: where the length is 0, the pointer may be NULL.
-    let none = unsafe { raw::commonware_weights_quorum(3, std::ptr::null(), 0) };
-    assert_eq!((none.status, none.number, none.total), (NO_MEMBERS, 0, 0));
 }
