@@ -27,7 +27,7 @@ pub enum OverlapError {
     /// The votes are of two domains: of two chains, or of two committees.
     #[error("two different domains")]
     OtherDomain,
-    /// The votes are for two slots of one domain, of which honest members may sign both.
+    /// The votes are for two slots of one domain: this rule allows both.
     #[error("two different slots")]
     OtherSlot,
     /// The votes are the same decision for the same slot.

@@ -3,11 +3,11 @@
 /// Which of three kinds a refusal is. None of them acquits anybody.
 #[derive(Clone, Copy, Debug, PartialEq, Eq)]
 pub enum Verdict {
-    /// Whoever signed both votes has committed no offence by this rule, which is to sign two
-    /// decisions for one slot of one domain. Other rules may have been broken.
+    /// To sign both votes is no offence by this rule, which forbids two decisions for one slot of
+    /// one domain. The signers may have broken another rule, or this one by other votes.
     NoOffenceByThisRule,
-    /// The votes contradict one another, and the question can't be judged for this committee or
-    /// with so few signers.
+    /// The votes contradict one another, and the question can't be judged for this committee, or
+    /// with signers that are so few or weigh so little.
     CannotJudge,
     /// The call failed for want of memory: ask again.
     Failed,

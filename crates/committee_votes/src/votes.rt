@@ -61,13 +61,13 @@ impl<A: Allocator> Vote<A> {
 
 /// Why two votes don't contradict one another. They are tried in this order.
 ///
-/// Of one domain, slot 7: A and slot 8: B give `OtherSlot`: honest members sign both.
+/// Of one domain, slot 7: A and slot 8: B give `OtherSlot`.
 #[derive(Clone, Copy, Debug, PartialEq, Eq, thiserror::Error)]
 pub enum VotesError {
     /// They are of two domains: of two chains, or of two committees.
     #[error("two different domains")]
     OtherDomain,
-    /// They are of one domain, and for two slots, of which honest members may sign both.
+    /// They are of one domain, and for two slots: this rule allows both.
     #[error("two different slots")]
     OtherSlot,
     /// They are one decision for one slot.
