@@ -367,7 +367,7 @@ class Page {
             : `Those who signed both ${least}.`;
         try {
             const found = call("equivocation");
-            show($("both"), "bad", made("strong", {}, `Equivocation: ${named(found)} signed two different decisions for one slot.`), `If the signatures are genuine, and both certificates are of this committee, none of them is honest. ${rest}`);
+            show($("both"), "bad", made("strong", {}, `Equivocation: ${named(found)} signed two different decisions for one slot.`), `If the signatures are genuine, both certificates are of this committee, and honest members sign one decision for a slot, none of them is honest. ${rest}`);
         } catch (error) {
             if (error.name === "OtherSlot") {
                 show($("both"), "", made("strong", {}, "Two different slots: this rule finds nothing."), OTHER_RULES);
