@@ -1,6 +1,10 @@
 //! Quorums on both sides of two votes, by numbers and by a fault model, and what is counted.
-use crate::made::{are, at, signers};
-use committee_votes::{OverlapError, equivocation, equivocation_among, equivocation_among_counted};
+use crate::made::{at, signers};
+use crate::traps::is_answer;
+use committee_votes::{
+    OverlapError, equivocation, equivocation_among, equivocation_among_counted,
+    equivocation_counted, overlap_counted,
+};
 use commonware_base::Participant;
 use commonware_faults::{Faults, N3f1, N5f1};
 use commonware_ordered::{Counter, Set};
@@ -80,18 +84,6 @@ static ROWS: [Row; 5] = [
     },
 ];
 
-/// Whether these are named, or this error is returned.
-fn is_answer(
-    named: &Result<Set<Participant, Global>, OverlapError>,
-    wanted: Result<&[u32], OverlapError>,
-) -> bool {
-    match (named, wanted) {
-        (Ok(named), Ok(wanted)) => are(named, wanted),
-        (Err(error), Err(wanted)) => *error == wanted,
-        _ => false,
-    }
-}
-
 /// Whether a model gives this answer.
 fn is_answered<M: Faults>(
     alloc: Global,
@@ -121,26 +113,33 @@ fn two_quorums_are_needed(rt: HostRuntime) {
     }
 }
 
-/// How many comparisons the row takes, where one of four or six, and none of one, may be faulty.
-fn comparisons(alloc: Global, row: &Row) -> Result<u64, AllocError> {
+/// How many comparisons each call that counts takes for the row, where one of four or six, and none
+/// of one, may be faulty.
+fn comparisons(alloc: Global, row: &Row) -> Result<(u64, u64, u64), AllocError> {
     let (one, two) = (signers(alloc, row.first)?, signers(alloc, row.second)?);
     let (a, b) = (at((b"c", b"7", b"A")), at((b"c", b"7", b"B")));
     let members = row.members as usize;
     let faults = (row.members > 1) as u32;
-    if faults as usize > members {
-        return Ok(u64::MAX);
+    let committee = Set::from_iter_dedup(alloc, 0..row.members)?;
+    let length = committee.len();
+    if faults as usize > members || length == 0 || length > u32::MAX as usize {
+        return Err(AllocError);
     }
+    let least = members - faults as usize;
     let mut count = Tally { made: 0 };
+    let _ = overlap_counted(alloc, members, least, a, &one, least, b, &two, &mut count);
+    let by_number = count.made;
     let _ = equivocation_among_counted(alloc, members, faults, a, &one, b, &two, &mut count);
-    Ok(count.made)
+    let among = count.made.wrapping_sub(by_number);
+    let mut count = Tally { made: 0 };
+    let _ = equivocation_counted::<N3f1, _, _, _>(alloc, &committee, a, &one, b, &two, &mut count);
+    Ok((by_number, among, count.made))
 }
 
 #[test]
 fn comparisons_are_counted(rt: HostRuntime) {
     for (place, row) in ROWS.iter().enumerate() {
-        assert!(rt;
-            comparisons(rt.alloc(), row) == Ok(row.comparisons),
-            "{place}"
-        );
+        let wanted = (row.comparisons, row.comparisons, row.comparisons);
+        assert!(rt; comparisons(rt.alloc(), row) == Ok(wanted), "{place}");
     }
 }

@@ -1,7 +1,10 @@
 //! Each allocation of the calls on votes made to fail in turn.
 use crate::made::{Fields, are, at, signers, vote};
-use crate::traps::{ROWS, Row};
-use committee_votes::{DoubleSignersError, VoteCertificate, VoteRanges, double_signers};
+use crate::traps::{ROWS, Row, by_number};
+use committee_votes::{
+    DoubleSignersError, OverlapError, VoteCertificate, VoteRanges, double_signers,
+    equivocation_among, overlap,
+};
 use commonware_base::codec::{Error, RangeCfg, Read, Source, Write};
 use std::alloc::{AllocError, Global};
 use std::process::Abort;
@@ -24,12 +27,76 @@ impl Refusable for Row {
     }
 }
 
-/// Names take one allocation, and a refusal takes none.
+/// A row of which the same is asked where each vote has a least number of signers: of `overlap`,
+/// or else of `equivocation_among`.
+#[derive(Drop)]
+struct Numbered {
+    row: &'static Row,
+    is_overlap: bool,
+    least: u32,
+}
+
+impl Refusable for Numbered {
+    fn outcome<H: Heap>(&self, heap: H, granted: u64) -> Outcome {
+        let row = self.row;
+        let (one, two) = (signers(heap, row.first.1), signers(heap, row.second.1));
+        let (Ok(one), Ok(two)) = (one, two) else {
+            return Outcome::Wrong;
+        };
+        let (a, b) = (at(row.first.0), at(row.second.0));
+        let wanted = self.wanted();
+        heap.restart(granted);
+        let named = if self.is_overlap {
+            let least = self.least as usize;
+            overlap(heap, 4, least, a, &one, least, b, &two)
+        } else if self.least <= 4 {
+            equivocation_among(heap, 4, 4 - self.least, a, &one, b, &two)
+        } else {
+            return Outcome::Wrong;
+        };
+        match (&named, wanted) {
+            (Ok(named), Ok(wanted)) => full(are(named, wanted)),
+            (Err(OverlapError::Memory), Ok(_)) => refused(are(&one, row.first.1)),
+            (Err(error), Err(wanted)) => full(*error == wanted),
+            _ => Outcome::Wrong,
+        }
+    }
+}
+
+impl Numbered {
+    /// Returns the answer of the row where each vote needs so many signers.
+    fn wanted(&self) -> Result<&'static [u32], OverlapError> {
+        let row = self.row;
+        let named = row.answer.map_err(by_number)?;
+        let least = self.least as usize;
+        if row.first.1.len() < least || row.second.1.len() < least {
+            return Err(OverlapError::TooFew);
+        }
+        Ok(named)
+    }
+}
+
+/// Names take one allocation, and a refusal takes none; nor does it where nobody signed a vote.
 #[test]
 fn names_take_one_allocation(rt: HostRuntime) {
     for (place, row) in ROWS.iter().enumerate() {
-        let asked = row.answer.is_ok() as u64;
+        let have_signers = !row.first.1.is_empty() && !row.second.1.is_empty();
+        let asked = (row.answer.is_ok() && have_signers) as u64;
         assert!(rt; requests(rt.alloc(), row) == Some(asked), "{place}");
+        for least in 0..4u32 {
+            for is_overlap in [true, false] {
+                let numbered = Numbered {
+                    row,
+                    is_overlap,
+                    least,
+                };
+                let asked = (numbered.wanted().is_ok() && have_signers) as u64;
+                assert!(rt;
+                    requests(rt.alloc(), &numbered) == Some(asked),
+                    "{place} {least}"
+                );
+            }
+        }
     }
 }
 

@@ -1,12 +1,18 @@
 //! Votes that a framing of bytes took for contradictions, or not for any.
 //!
 //! There is no call that takes the bytes that a node signed for a vote: the caller says which bytes
-//! are the domain, the slot and the decision. So signed bytes of one kind can't be read as another.
+//! are the domain, the slot and the decision. So signed bytes of one kind are read as another only
+//! where the caller does so.
 use crate::made::{Fields, are, at, signers, vote};
+use committee_vote_weights::{WeightedOverlapError, weighted_overlap};
 use committee_votes::{
-    DoubleSignersError, Verdict, VotesError, check_votes, double_signers, overlap,
+    DoubleSignersError, OverlapError, Verdict, VotesError, check_votes, double_signers,
+    equivocation_among, overlap,
 };
-use std::alloc::{AllocError, Global};
+use committee_weights::Weights;
+use commonware_base::Participant;
+use commonware_ordered::Set;
+use std::alloc::{AllocError, Allocator, Global};
 use std::process::Abort;
 
 /// Two votes of a committee of 4, their signers, and the double signers, or why there are none.
@@ -16,7 +22,7 @@ pub(super) struct Row {
     pub(super) answer: Result<&'static [u32], DoubleSignersError>,
 }
 
-pub(super) static ROWS: [Row; 14] = [
+pub(super) static ROWS: [Row; 16] = [
     // A quorum for A, and one validator that signs B beside it.
     Row {
         first: ((b"chain/7", b"\x07\x00\x02", b"A"), &[0, 1, 2]),
@@ -93,6 +99,17 @@ pub(super) static ROWS: [Row; 14] = [
         second: ((b"chain/7", b"\x07", b"B"), &[4]),
         answer: Err(DoubleSignersError::Outside),
     },
+    Row {
+        first: ((b"chain/7", b"\x07", b"A"), &[0, 4]),
+        second: ((b"chain/7", b"\x07", b"B"), &[0]),
+        answer: Err(DoubleSignersError::Outside),
+    },
+    // Nobody signed one of the votes.
+    Row {
+        first: ((b"chain/7", b"\x07", b"A"), &[]),
+        second: ((b"chain/7", b"\x07", b"B"), &[0, 3]),
+        answer: Ok(&[]),
+    },
     // The same bytes in all, cut in other places: no framing joins them.
     Row {
         first: ((b"\x01\x07", b"A", b""), &[0, 1, 2]),
@@ -101,27 +118,97 @@ pub(super) static ROWS: [Row; 14] = [
     },
 ];
 
-/// Whether the row's answer is given, and by `overlap` too where it asks for no signers.
+/// Returns the refusal of the same votes where each has a least number of signers.
+pub(super) fn by_number(error: DoubleSignersError) -> OverlapError {
+    match error {
+        DoubleSignersError::OtherDomain => OverlapError::OtherDomain,
+        DoubleSignersError::OtherSlot => OverlapError::OtherSlot,
+        DoubleSignersError::SameDecision => OverlapError::SameDecision,
+        DoubleSignersError::Outside => OverlapError::Outside,
+        DoubleSignersError::Memory => OverlapError::Memory,
+    }
+}
+
+/// Returns the refusal of the same votes where the signers of each have a least weight.
+fn by_weight(error: DoubleSignersError) -> WeightedOverlapError {
+    match error {
+        DoubleSignersError::OtherDomain => WeightedOverlapError::OtherDomain,
+        DoubleSignersError::OtherSlot => WeightedOverlapError::OtherSlot,
+        DoubleSignersError::SameDecision => WeightedOverlapError::SameDecision,
+        DoubleSignersError::Outside => WeightedOverlapError::Outside,
+        DoubleSignersError::Memory => WeightedOverlapError::Memory,
+    }
+}
+
+/// Whether these are named, or this error is returned.
+pub(super) fn is_answer<A: Allocator, E: PartialEq + Drop>(
+    named: &Result<Set<Participant, A>, E>,
+    wanted: Result<&[u32], E>,
+) -> bool {
+    match (named, wanted) {
+        (Ok(named), Ok(wanted)) => are(named, wanted),
+        (Err(error), Err(wanted)) => *error == wanted,
+        _ => false,
+    }
+}
+
+/// Whether the row's answer is given.
 fn is_answered(alloc: Global, row: &Row) -> Result<bool, AllocError> {
     let first = vote(alloc, row.first.0)?;
     let (one, two) = (signers(alloc, row.first.1)?, signers(alloc, row.second.1)?);
     let second = at(row.second.0);
-    let by_any = overlap(alloc, 4, 0, first.at(), &one, 0, second, &two);
     let named = double_signers(alloc, 4, first.at(), &one, second, &two);
-    let same = match (&named, row.answer) {
-        (Ok(named), Ok(wanted)) => {
-            are(named, wanted) && matches!(&by_any, Ok(others) if are(others, wanted))
-        }
-        (Err(error), Err(wanted)) => *error == wanted && by_any.is_err(),
-        _ => false,
+    Ok(is_answer(&named, row.answer))
+}
+
+/// Whether the row's answer is given, and the same refusals, where no signers and no weight are
+/// asked for, and where all members may be faulty: each call has an order of its own.
+fn is_answered_by_all(alloc: Global, row: &Row) -> Result<bool, AllocError> {
+    let Ok(weights) = Weights::new(Vec::from_slice(alloc, &[1u64, 2, 3, 4])?) else {
+        return Ok(false);
     };
-    Ok(same)
+    let (one, two) = (signers(alloc, row.first.1)?, signers(alloc, row.second.1)?);
+    let (a, b) = (at(row.first.0), at(row.second.0));
+    let by_any = overlap(alloc, 4, 0, a, &one, 0, b, &two);
+    let among = equivocation_among(alloc, 4, 4, a, &one, b, &two);
+    let weighed = weighted_overlap(alloc, &weights, 0, a, &one, 0, b, &two);
+    let wanted = row.answer.map_err(by_number);
+    Ok(
+        is_answer(&by_any, wanted)
+            && is_answer(&among, wanted)
+            && is_answer(&weighed, row.answer.map_err(by_weight)),
+    )
+}
+
+/// Whether the row's refusal comes before one of too few signers, or of too light ones.
+fn is_refused_first(alloc: Global, row: &Row) -> Result<bool, AllocError> {
+    let Ok(weights) = Weights::new(Vec::from_slice(alloc, &[1u64, 2, 3, 4])?) else {
+        return Ok(false);
+    };
+    let (one, two) = (signers(alloc, row.first.1)?, signers(alloc, row.second.1)?);
+    let (a, b) = (at(row.first.0), at(row.second.0));
+    let few = row.answer.map_err(by_number).err();
+    let light = row.answer.map_err(by_weight).err();
+    let by_many = overlap(alloc, 4, 5, a, &one, 5, b, &two).err();
+    let weighed = weighted_overlap(alloc, &weights, 11, a, &one, 11, b, &two).err();
+    Ok(
+        by_many == Some(few.unwrap_or(OverlapError::TooFew))
+            && weighed == Some(light.unwrap_or(WeightedOverlapError::TooLight)),
+    )
 }
 
 #[test]
 fn double_signers_are_named(rt: HostRuntime) {
     for (place, row) in ROWS.iter().enumerate() {
         assert!(rt; is_answered(rt.alloc(), row) == Ok(true), "{place}");
+    }
+}
+
+#[test]
+fn double_signers_are_named_by_all_calls(rt: HostRuntime) {
+    for (place, row) in ROWS.iter().enumerate() {
+        assert!(rt; is_answered_by_all(rt.alloc(), row) == Ok(true), "{place}");
+        assert!(rt; is_refused_first(rt.alloc(), row) == Ok(true), "{place}");
     }
 }
 

@@ -1,6 +1,7 @@
 //! Votes by weight: all pairs of lists of three members under all thresholds, and each allocation
 //! refused.
 use crate::made::{are, at, signers};
+use crate::traps::is_answer;
 use committee_vote_weights::{WeightedOverlapError, weighted_equivocation, weighted_overlap};
 use committee_votes::{Verdict, VoteAt};
 use committee_weights::Weights;
@@ -180,7 +181,64 @@ fn names_by_weight_take_one_allocation(rt: HostRuntime) {
     }
 }
 
-/// What two votes of these fields, each signed by 0, 1 and 2 of the weights 1, 1, 1 and 1, name.
+/// The resilience, the signers of A and those of B for one slot, of the weights 40, 30, 20 and 10,
+/// and what is named where each side needs a quorum: 51 at 2, 67 at 3 and 81 at 5.
+static QUORUMS: [(u32, &[u32], &[u32], Result<&[u32], WeightedOverlapError>); 9] = [
+    (3, &[0, 1], &[0, 2, 3], Ok(&[0])),
+    (3, &[0, 1], &[1, 2, 3], Err(WeightedOverlapError::TooLight)),
+    (3, &[1, 2, 3], &[0, 1], Err(WeightedOverlapError::TooLight)),
+    (2, &[0, 1], &[1, 2, 3], Ok(&[1])),
+    (
+        2,
+        &[0, 3],
+        &[0, 1, 2, 3],
+        Err(WeightedOverlapError::TooLight),
+    ),
+    (5, &[0, 1, 2], &[0, 1, 2, 3], Ok(&[0, 1, 2])),
+    (
+        5,
+        &[0, 1, 2],
+        &[0, 1, 3],
+        Err(WeightedOverlapError::TooLight),
+    ),
+    (3, &[4], &[0, 1], Err(WeightedOverlapError::Outside)),
+    (
+        3,
+        &[0, 1, 2, 3],
+        &[3, 4],
+        Err(WeightedOverlapError::Outside),
+    ),
+];
+
+/// Whether these signers are named, or this error is returned.
+fn is_named(
+    alloc: Global,
+    k: u32,
+    lists: (&[u32], &[u32]),
+    wanted: Result<&[u32], WeightedOverlapError>,
+) -> Result<bool, AllocError> {
+    if k < 2 {
+        return Ok(false);
+    }
+    let Ok(weights) = Weights::new(Vec::from_slice(alloc, &[40u64, 30, 20, 10])?) else {
+        return Ok(false);
+    };
+    let (one, two) = (signers(alloc, lists.0)?, signers(alloc, lists.1)?);
+    let (a, b) = (at((b"c", b"7", b"A")), at((b"c", b"7", b"B")));
+    let named = weighted_equivocation(alloc, k, &weights, a, &one, b, &two);
+    Ok(is_answer(&named, wanted))
+}
+
+#[test]
+fn two_quorums_by_weight_are_needed(rt: HostRuntime) {
+    for (place, row) in QUORUMS.iter().enumerate() {
+        let found = is_named(rt.alloc(), row.0, (row.1, row.2), row.3);
+        assert!(rt; found == Ok(true), "{place}");
+    }
+}
+
+/// What two votes name, of the weights 1, 1, 1 and 1, of which 0, 1 and 2 signed the first, and 1,
+/// 2 and 3 the second.
 fn judged(
     alloc: Global,
     first: VoteAt<'_>,
