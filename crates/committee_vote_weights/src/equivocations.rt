@@ -81,6 +81,7 @@ pub fn weighted_equivocation<A: Allocator, B: Allocator>(
         → IfOk result (NoneIsHonest (Passes honest)) }
 {
     let quorum = weights.quorum_weight(k);
+    // For its clause alone, by which the total is at least 1.
     let _members = weights.len();
     weighted_overlap(
         alloc,
