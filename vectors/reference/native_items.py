@@ -45,10 +45,6 @@ def committee_read(input, least, most):
 
 def place_of(keys, key):
     """Returns the index of a key among keys in order, or that of the first greater one."""
-    if not key:
-        raise Fault(NO_SIZE)
-    if len(keys) % len(key) > 0:
-        raise Fault(NOT_WHOLE)
     items = items_of(keys, len(key))
     index = bisect_left(items, key)
     if key not in items:
@@ -56,8 +52,17 @@ def place_of(keys, key):
     return {"index": index}
 
 
+def place_by_size(keys, key):
+    """Returns the same for a key that may be of no bytes, or not of the size of the keys."""
+    if not key:
+        raise Fault(NO_SIZE)
+    if len(keys) % len(key) > 0:
+        raise Fault(NOT_WHOLE)
+    return place_of(keys, key)
+
+
 def set_position(keys, key):
-    return viewed(place_of, keys, key)
+    return viewed(place_by_size, keys, key)
 
 
 def committee_position(members, key):
@@ -72,21 +77,26 @@ def check_items(key_size, size, data):
         raise Fault(NOT_WHOLE, number=len(data) % size)
 
 
-def put(data, count, room):
+def put(data, room, **fields):
     """Returns the view of what is written, or finds that it takes more room."""
+    view = {**fields, "size": len(data)}
     if len(data) > room:
-        raise Fault(ROOM, count=count, size=len(data))
-    return {"count": count, "size": len(data)}, data
+        raise Fault(ROOM, **view)
+    return view, data
 
 
 def write_keys(size, keys, room):
-    check_items(size, size, keys)
     kept = sorted(set(items_of(keys, size)))
-    return put(write_varint(len(kept)) + b"".join(kept), len(kept), room)
+    return put(write_varint(len(kept)) + b"".join(kept), room, count=len(kept))
+
+
+def write_by_size(size, keys, room):
+    check_items(size, size, keys)
+    return write_keys(size, keys, room)
 
 
 def set_encode_dedup(size, keys, room):
-    return written(write_keys, size, keys, room)
+    return written(write_by_size, size, keys, room)
 
 
 def committee_encode_dedup(members, room):
@@ -126,31 +136,41 @@ def bimap_read(key_size, value_size, input, least, most, room):
     return written(read_bimap, key_size, value_size, input, least, most, room)
 
 
-def first_of_each(pairs, key_size):
-    """Returns the first pair with each key, and the first index whose key an earlier pair has."""
-    kept, repeated = {}, None
-    for index, pair in enumerate(pairs):
-        key = pair[:key_size]
-        if key not in kept:
-            kept[key] = pair[key_size:]
-        elif repeated is None:
-            repeated = index
-    return kept, repeated
-
-
-def write_pairs(key_size, value_size, data, room, is_unique):
+def pairs_of(key_size, value_size, data):
     check_items(key_size, key_size + value_size, data)
-    kept, repeated = first_of_each(items_of(data, key_size + value_size), key_size)
-    if is_unique and repeated is not None:
-        raise Fault(REPEATED_KEY, number=repeated)
+    return items_of(data, key_size + value_size)
+
+
+def check_keys(pairs, key_size):
+    """Finds the first index whose key an earlier pair has."""
+    met = set()
+    for index, pair in enumerate(pairs):
+        if pair[:key_size] in met:
+            raise Fault(REPEATED_KEY, number=index)
+        met.add(pair[:key_size])
+
+
+def write_pairs(key_size, pairs, room):
+    """Returns the map of the first pair with each key."""
+    kept = {pair[:key_size]: pair[key_size:] for pair in reversed(pairs)}
     keys, length = sorted(kept), write_varint(len(kept))
     values = [kept[key] for key in keys]
-    return put(length + b"".join(keys) + length + b"".join(values), len(kept), room)
+    return put(length + b"".join(keys) + length + b"".join(values), room, count=len(kept))
+
+
+def write_first(key_size, value_size, data, room):
+    return write_pairs(key_size, pairs_of(key_size, value_size, data), room)
+
+
+def write_unique(key_size, value_size, data, room):
+    pairs = pairs_of(key_size, value_size, data)
+    check_keys(pairs, key_size)
+    return write_pairs(key_size, pairs, room)
 
 
 def map_encode_dedup(key_size, value_size, pairs, room):
-    return written(write_pairs, key_size, value_size, pairs, room, False)
+    return written(write_first, key_size, value_size, pairs, room)
 
 
 def map_encode(key_size, value_size, pairs, room):
-    return written(write_pairs, key_size, value_size, pairs, room, True)
+    return written(write_unique, key_size, value_size, pairs, room)

@@ -27,21 +27,26 @@ def smaller_quorum(k, n):
     return small_quorum_of(k, n) if k > 1 and n > 0 else NEVER
 
 
-def certificate_at(source, most_bytes, most_signers):
-    """Returns where the value is, how long it is, and the signers."""
-    length = length_at(source, range(most_bytes + 1))
+def value_at(source, length):
+    """Returns where the value is that comes next."""
     start = source.taken
     bytes_at(source, length)
-    count = length_at(source, range(most_signers + 1))
+    return start
+
+
+def signers_at(source, count):
+    """Returns the signers that come next."""
     signers = [number_at(source) for _ in range(count)]
     if not is_strict(signers):
         raise Fault(NOT_STRICT)
-    return start, length, signers
+    return signers
 
 
 def read_certificate(data, most_bytes, most_signers, room):
     source = Source(data)
-    start, length, signers = certificate_at(source, most_bytes, most_signers)
+    length = length_at(source, range(most_bytes + 1))
+    start = value_at(source, length)
+    signers = signers_at(source, length_at(source, range(most_signers + 1)))
     view = {"signers": len(signers), "value_start": start, "value_length": length}
     view["left"] = source.left()
     if room < len(signers):
@@ -59,7 +64,7 @@ def write_certificate(value, signers, room):
             raise Fault(NOT_STRICT, number=index + 1)
     body = b"".join(map(write_varint, signers))
     data = write_varint(len(value)) + value + write_varint(len(signers)) + body
-    return put(data, len(signers), room)
+    return put(data, room, count=len(signers))
 
 
 def certificate_encode(value, signers, room):
@@ -67,16 +72,18 @@ def certificate_encode(value, signers, room):
 
 
 def slot_value(slot, decision, room):
-    return written(put, write_varint(len(slot)) + slot + decision, 0, room)
+    return written(put, write_varint(len(slot)) + slot + decision, room)
 
 
 def whole_certificate(data):
     """Returns where the value is, how long it is, and the signers; nothing follows."""
     source = Source(data)
-    found = certificate_at(source, NEVER, NEVER)
+    length = number_at(source)
+    start = value_at(source, length)
+    signers = signers_at(source, number_at(source))
     if source.left():
         raise Fault(LEFT_OVER, number=source.left())
-    return found
+    return start, length, signers
 
 
 def slot_in(data, start, length):
@@ -97,9 +104,9 @@ def check_model(k):
         raise Fault(NO_MODEL)
 
 
-def check_outside(members, signers, **fields):
+def check_outside(members, signers):
     if signers and signers[-1] >= members:
-        raise Fault(OUTSIDE, **fields)
+        raise Fault(OUTSIDE)
 
 
 class Heads:
@@ -112,38 +119,43 @@ class Heads:
         self.members = members
         self.needed = quorum_of(k, members)
 
-    def check_quorum(self, signers, **fields):
+    def check_quorum(self, signers):
         if len(signers) < self.needed:
-            raise Fault(TOO_FEW, **fields)
+            raise Fault(TOO_FEW)
 
     def told(self, signers):
         """Returns what a view says of the weight of some signers."""
         return {}
 
 
+def total_of(k, weights):
+    """Returns what all members weigh together."""
+    check_model(k)
+    if not weights:
+        raise Fault(NO_MEMBERS)
+    total = 0
+    for index, weight in enumerate(weights):
+        if weight == 0:
+            raise Fault(ZERO_WEIGHT, number=index)
+        total += weight
+        if total >= TOO_MUCH:
+            raise Fault(WEIGHT_OVERFLOW, number=index)
+    return total
+
+
 class Stakes:
     """A committee whose members have weights."""
 
     def __init__(self, k, weights):
-        check_model(k)
-        if not weights:
-            raise Fault(NO_MEMBERS)
-        self.total = 0
-        for index, weight in enumerate(weights):
-            if weight == 0:
-                raise Fault(ZERO_WEIGHT, number=index)
-            self.total += weight
-            if self.total >= TOO_MUCH:
-                raise Fault(WEIGHT_OVERFLOW, number=index)
+        self.needed = quorum_of(k, total_of(k, weights))
         self.weights, self.members = weights, len(weights)
-        self.needed = quorum_of(k, self.total)
 
     def weight_of(self, signers):
         return sum(self.weights[it] for it in signers)
 
-    def check_quorum(self, signers, **fields):
+    def check_quorum(self, signers):
         if self.weight_of(signers) < self.needed:
-            raise Fault(TOO_LIGHT, **fields)
+            raise Fault(TOO_LIGHT)
 
     def told(self, signers):
         """Returns what a view says of the weight of some signers."""
@@ -151,7 +163,7 @@ class Stakes:
 
 
 def numbers_of(k, weights):
-    total = Stakes(k, weights).total
+    total = total_of(k, weights)
     said = {"total": total, "tolerated": faults_of(k, total), "quorum": quorum_of(k, total)}
     return {**said, "smaller_quorum": small_quorum_of(k, total)}
 
@@ -182,12 +194,16 @@ def weighted_check(k, weights, input):
     return viewed(check_certificate, Stakes, k, weights, input)
 
 
-def read_about(data, which):
-    """Returns the value and the signers of one of two inputs."""
+def about(which, call, *arguments):
+    """Returns what a call does, or finds its fault in one of two inputs."""
     try:
-        start, length, signers = whole_certificate(data)
+        return call(*arguments)
     except Fault as fault:
         raise Fault(**fault.fields, which=which) from None
+
+
+def value_and_signers(data):
+    start, length, signers = whole_certificate(data)
     return data[start : start + length], signers
 
 
@@ -196,16 +212,16 @@ def check_values(one, other):
         raise Fault(SAME_VALUE)
 
 
-def slot_about(value, which):
-    """Returns the slot of one of two values."""
+def slot_of(value):
+    """Returns the slot of a value, or finds that it has none."""
     slot = slot_in(value, 0, len(value))
     if not slot:
-        raise Fault(NO_SLOT, which=which)
+        raise Fault(NO_SLOT)
     return value[slot[0] : slot[1]]
 
 
 def check_decisions(one, other):
-    if slot_about(one, 1) != slot_about(other, 2):
+    if about(1, slot_of, one) != about(2, slot_of, other):
         raise Fault(OTHER_SLOT)
     check_values(one, other)
 
@@ -213,13 +229,13 @@ def check_decisions(one, other):
 def name(Committee, differ, k, members, first, second, room):
     """Returns who signed both of two certificates whose values have to differ in some way."""
     committee = Committee(k, members)
-    value, signers = read_about(first, 1)
-    other_value, other_signers = read_about(second, 2)
+    value, signers = about(1, value_and_signers, first)
+    other_value, other_signers = about(2, value_and_signers, second)
     differ(value, other_value)
-    check_outside(committee.members, signers, which=1)
-    check_outside(committee.members, other_signers, which=2)
-    committee.check_quorum(signers, which=1)
-    committee.check_quorum(other_signers, which=2)
+    about(1, check_outside, committee.members, signers)
+    about(2, check_outside, committee.members, other_signers)
+    about(1, committee.check_quorum, signers)
+    about(2, committee.check_quorum, other_signers)
     both = sorted(set(signers) & set(other_signers))
     if room < len(both):
         raise Fault(ROOM, count=len(both))
