@@ -280,6 +280,7 @@ const browser = await Browser.start(path);
 try {
     const page = `${server.address}/bindings/web/`;
     await tryModule(await browser.open(page));
+    await tryNativeVectors(await browser.open(page));
     await tryPage(browser, page, "served page");
     await tryPage(browser, String(pathToFileURL(resolve(single))), "single file");
     const without = await browser.open(page, "WebAssembly.validate = () => false");
