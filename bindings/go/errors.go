@@ -35,7 +35,7 @@ var (
 	ErrSameValue = errors.New("commonware: both certificates are for the same value")
 	// ErrNoSlot means that a value is no decision for a slot.
 	ErrNoSlot = errors.New("commonware: a value without a slot")
-	// ErrOtherSlot means that the values are for two different slots, of which honest members may sign both.
+	// ErrOtherSlot means that the values are for two different slots: this rule allows both.
 	ErrOtherSlot = errors.New("commonware: two different slots")
 )
 

@@ -172,7 +172,7 @@ export class NoSlot extends CommonwareError {
     }
 }
 
-/** The values are for two different slots, of which honest members may sign both. */
+/** The values are for two different slots: this rule allows both. */
 export class OtherSlot extends CommonwareError {
     constructor() {
         super("two different slots");

@@ -229,7 +229,7 @@ class NoSlot(CommonwareError, ValueError):
 
 
 class OtherSlot(CommonwareError, ValueError):
-    """The values are for two different slots, of which honest members may sign both."""
+    """The values are for two different slots: this rule allows both."""
 
     def _words(self) -> str:
         return "two different slots"

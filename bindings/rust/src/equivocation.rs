@@ -30,7 +30,7 @@ pub enum EquivocationError {
     Input(Which, Refusal),
     /// The value of this one has no slot.
     NoSlot(Which),
-    /// The values are for two different slots, of which honest members may sign both.
+    /// The values are for two different slots: this rule allows both.
     OtherSlot,
     /// The values are the same decision for the same slot.
     SameDecision,
