@@ -9,6 +9,6 @@ pub enum Verdict {
     /// The votes contradict one another, and the question can't be judged for this committee, or
     /// with signers that are so few or weigh so little.
     CannotJudge,
-    /// The call failed for want of memory: ask again.
+    /// An allocation failed, which says nothing of the votes: ask again.
     Failed,
 }
