@@ -5,7 +5,7 @@
 #include "tests.h"
 
 /* How many arguments and fields a call has at most, how long a name is, and how many bytes an array
- * has: 70,000 items of 32 bytes and some more. */
+ * may have, which is more than any vector does. */
 enum { MOST = 16, NAME = 64, BYTES = 1 << 23 };
 
 /* An argument: a number, or items with how many they are. */
